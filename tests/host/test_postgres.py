@@ -19,7 +19,7 @@ from tests.host.hosts import ENV, Found, Host, HostTest, acknowledged, lislab, s
 from tests.host.test_kills import TROUBLE
 from tests.host.test_lines import keeps_each_text
 from tests.host.test_out import OutOf
-from tests.host.test_repeats import EachWrite
+from tests.host.test_repeats import EachWrite, Left, begun
 
 #: Where Debian's packages for Python are.
 DEBIAN = "/usr/lib/python3/dist-packages"
@@ -132,7 +132,7 @@ class OutOfPostgres(OutOf, HostTest):
         return the_server().address("out")
 
 
-class RepeatsOfPostgres(EachWrite, HostTest):
+class RepeatsOfPostgres(EachWrite, Left, HostTest):
     """In a database, whose tables are emptied for each fault."""
 
     ways = (("full", True), ("after", False), ("killed", False))
@@ -232,6 +232,17 @@ class Postgres(HostTest):
             state = {"at": time.time() - age, "host": "h", "stopped": stopped}
             self.same(f"it wrote its state {age} s ago, stopped: {stopped}", status.runs(other, state), wanted)
         other.close()
+
+    def test_open_messages_of_another_host(self):
+        """A host that starts leaves alone what another one that runs has open."""
+        address = self.server.address("others")
+        one, other = open_store(address), open_store(address)
+        one.start("one")
+        one.commit([begun("1")])
+        self.same("how many it ends", other.start("other"), 0)
+        self.same("open", [each.open for each in other.counts()], [1])
+        for store in (one, other):
+            store.close()
 
     def test_name_of_a_killed_host(self):
         """A host that was killed has its name for another moment: the next one waits for it."""

@@ -9,7 +9,7 @@ import tempfile
 import unittest.mock
 
 from lislink.host.store import UNFINISHED, WHOLE, Add, Begin, End, StoreError, open_store
-from tests.host.hosts import HostTest
+from tests.host.hosts import HostTest, wait_for
 
 BODY = b"H|\\^&|||A\rP|1\rL|1|N\r"
 DIGEST = hashlib.sha256(BODY).hexdigest()
@@ -123,7 +123,35 @@ class EachWrite:
             del store.run
 
 
-class RepeatsOfSqlite(EachWrite, HostTest):
+class Left:
+    """What a host leaves open that dies."""
+
+    def test_left_open(self):
+        """It is open as long as the host runs, then unfinished; so it is for a host of another name that starts."""
+        where = self.where()
+        one = open_store(where)
+        one.start("one")
+        one.commit([begun("1"), [*begun("2"), *ended("2")]])
+        self.same("the host runs", self.of_all(where), ([], (1, 0, 1)))
+        one.close()
+        other = open_store(where)
+        self.true("its lock is free", wait_for(lambda: not other.is_held()))
+        left = [("1", UNFINISHED, "the host was stopped", BODY[:10])]
+        self.same("it is dead", self.of_all(where), (left, (1, 1, 0)))
+        self.same("a host of another name starts: how many were open", other.start("other"), 1)
+        self.same("it runs", self.of_all(where), (left, (1, 1, 0)))
+        other.close()
+
+    def of_all(self, where):
+        """What a reader finds: messages that aren't whole; how many are whole, unfinished and open."""
+        store = open_store(where)
+        others = [(one.key, one.state, one.reason, one.body) for one in store.others()]
+        counts = [(one.whole, one.unfinished, one.open) for one in store.counts()]
+        store.close()
+        return others, counts[0]
+
+
+class RepeatsOfSqlite(EachWrite, Left, HostTest):
     """In an SQLite file."""
 
     places = itertools.count()
@@ -133,7 +161,7 @@ class RepeatsOfSqlite(EachWrite, HostTest):
         return self.path(f"{next(self.places)}.db")
 
 
-class RepeatsOfSpool(EachWrite, HostTest):
+class RepeatsOfSpool(EachWrite, Left, HostTest):
     """In a spool."""
 
     places = itertools.count()

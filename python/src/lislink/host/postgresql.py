@@ -79,6 +79,12 @@ class PostgresStore(SqlStore):
                 raise StoreError(f"another host has the name {self.host}")
             time.sleep(0.1)
 
+    def is_gone(self, host: str) -> bool:
+        """Another host's name is taken for the length of this transaction, if it can be."""
+        if host == self.host:
+            return True
+        return bool(self.run("SELECT pg_try_advisory_xact_lock(?, hashtext(?))", (_HOSTS, host)).fetchone()[0])
+
     def is_held(self, host: str = "") -> bool:
         names, values = (" AND objid = (hashtext(?)::bigint & 4294967295)::oid", [host]) if host else ("", [])
         database = "(SELECT oid FROM pg_database WHERE datname = current_database())"

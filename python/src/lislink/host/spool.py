@@ -17,6 +17,7 @@ from typing import Any, Dict, Iterator, List, Optional, Sequence, Set, Tuple
 
 from .files import Appended, is_locked, sync_folder, take_lock, write_whole
 from .store import (
+    LEFT,
     OPEN,
     UNFINISHED,
     UNREADABLE,
@@ -37,6 +38,8 @@ _FOLDERS = (OPEN, WHOLE, UNFINISHED, UNREADABLE, "digests")
 
 class SpoolStore(Store):
     """A store in a directory, for one host, on a local disk."""
+
+    part = 3
 
     def __init__(self, folder: str) -> None:
         self.folder = folder
@@ -100,8 +103,7 @@ class SpoolStore(Store):
             mark = self._mark(line, digest)
             if _read_about(mark).get("key") == key:  # an earlier program marked a message before it kept it
                 os.unlink(mark)
-            reason = "the host was stopped"
-            self._move(End(key, line, UNFINISHED, reason, digest, len(body), float(about.get("began", 0))), about, None)
+            self._move(End(key, line, UNFINISHED, LEFT, digest, len(body), float(about.get("began", 0))), about, None)
         for name in os.listdir(self._path(OPEN)):
             os.unlink(self._path(OPEN, name))
         self._sync_folders({OPEN, UNFINISHED, "digests"})
@@ -214,8 +216,9 @@ class SpoolStore(Store):
 
     def others(self) -> Iterator[Stored]:
         names = [(name, state) for state in (UNFINISHED, UNREADABLE) for name in self._listed(state)]
-        for name, state in sorted(names):
-            yield self._stored(state, name, None, name)
+        left = [] if self.is_held() else [(name, OPEN) for name in self._listed(OPEN)]
+        for name, state in sorted([*names, *left]):
+            yield self._left(name) if state == OPEN else self._stored(state, name, None, name)
 
     def _listed(self, state: str) -> List[str]:
         try:
@@ -237,13 +240,28 @@ class SpoolStore(Store):
             why = str(error) if isinstance(error, OSError) else f"{path}.about is damaged"
             raise StoreError(why) from None
 
+    def _left(self, key: str) -> Stored:
+        """A message that a host left open that doesn't run."""
+        path = self._path(OPEN, key)
+        try:
+            about = _read_about(path + ".about")
+            with open(path, "rb") as records:
+                body = records.read()
+        except OSError as error:
+            raise StoreError(str(error)) from None
+        line, peer, encoding = (str(about.get(one, "")) for one in ("line", "peer", "encoding"))
+        began = float(about.get("began", 0))
+        return Stored(None, key, line, peer, encoding, began, began, UNFINISHED, LEFT, None, body)
+
     def counts(self) -> List[LineCount]:
         found: Dict[str, List[Tuple[str, Dict[str, Any]]]] = {}
         try:
+            is_held = self.is_held()
             for state in (OPEN, WHOLE, UNFINISHED, UNREADABLE):
+                kept = UNFINISHED if state == OPEN and not is_held else state
                 for name in self._names(state):
                     about = _read_about(self._path(state, name + ".about"))
-                    found.setdefault(str(about.get("line", "")), []).append((state, about))
+                    found.setdefault(str(about.get("line", "")), []).append((kept, about))
         except OSError as error:
             raise StoreError(f"{self.folder}: {error}") from None
         return [_count(line, found[line]) for line in sorted(found)]

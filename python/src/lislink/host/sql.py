@@ -1,9 +1,23 @@
-"""What the stores in databases share: the tables and the statements. A text is one row; a message's bytes are those of
-its texts in order. So nothing is copied when a message becomes whole."""
+"""What the stores in databases share: the tables and the statements. A text, or a part of a long one, is one row; a
+message's bytes are those of its texts in order. So nothing is copied when a message becomes whole."""
 import abc
 from typing import Any, Iterator, List, Optional, Sequence, Tuple
 
-from .store import OPEN, UNFINISHED, UNREADABLE, WHOLE, Add, Begin, End, LineCount, Store, StoreError, Stored, Unit
+from .store import (
+    LEFT,
+    OPEN,
+    UNFINISHED,
+    UNREADABLE,
+    WHOLE,
+    Add,
+    Begin,
+    End,
+    LineCount,
+    Store,
+    StoreError,
+    Stored,
+    Unit,
+)
 
 #: The version of the tables.
 SCHEMA = 1
@@ -22,6 +36,8 @@ TABLES = (
         message TEXT NOT NULL REFERENCES message(key), place INTEGER NOT NULL, at DOUBLE PRECISION NOT NULL,
         body {blob} NOT NULL, PRIMARY KEY (message, place))""",
 )
+# In the words of the index of messages that aren't whole.
+_OPEN_HOSTS = f"SELECT DISTINCT host FROM message WHERE state <> '{WHOLE}' AND state = '{OPEN}'"
 _COLUMNS = "number, key, line, peer, encoding, began, ended, state, reason, again_of"
 
 
@@ -57,13 +73,24 @@ class SqlStore(Store):
         elif found[0] != str(SCHEMA):
             raise StoreError(f"the store has version {found[0]} of the tables, and this program version {SCHEMA}")
 
+    @abc.abstractmethod
+    def is_gone(self, host: str) -> bool:
+        """Whether no other host runs that has this name; inside the transaction of a start."""
+
     def end_open(self) -> int:
-        """Makes what this host left open unfinished: how many messages."""
-        done = self.run(
-            "UPDATE message SET state = ?, reason = ?, ended = began WHERE state = ? AND host = ?",
-            (UNFINISHED, "the host was stopped", OPEN, self.host),
-        )
-        return int(done.rowcount)
+        """Makes unfinished what this host, or one that is gone, left open: how many messages."""
+        left = 0
+        for (host,) in self.run(_OPEN_HOSTS).fetchall():
+            if self.is_gone(host):
+                statement = "UPDATE message SET state = ?, reason = ?, ended = began WHERE state = ? AND host = ?"
+                left += int(self.run(statement, (UNFINISHED, LEFT, OPEN, host)).rowcount)
+        return left
+
+    def _left(self) -> Tuple[str, List[str]]:
+        """The condition of messages that hosts left open that don't run, and its values."""
+        hosts = [row[0] for row in self.read(_OPEN_HOSTS)]
+        gone = [host for host in hosts if not self.is_held(host)]
+        return f"(state = '{OPEN}' AND host IN ({', '.join('?' * len(gone))}))" if gone else "(1 = 0)", gone
 
     def apply(self, units: Sequence[Unit]) -> None:
         """The changes, inside a transaction. Numbers come last, so that their lock is short."""
@@ -126,22 +153,27 @@ class SqlStore(Store):
             left = None if left is None else left - len(rows)
 
     def others(self) -> Iterator[Stored]:
+        left, gone = self._left()
         rows = self.read(
-            f"SELECT {_COLUMNS} FROM message WHERE state IN (?, ?) ORDER BY began, key", (UNFINISHED, UNREADABLE)
+            f"SELECT {_COLUMNS} FROM message WHERE state IN (?, ?) OR {left} ORDER BY began, key",
+            (UNFINISHED, UNREADABLE, *gone),
         )
         for row in rows:
-            yield self._stored(row)
+            one = self._stored(row)
+            yield one._replace(state=UNFINISHED, reason=LEFT) if one.state == OPEN else one
 
     def _stored(self, row: Tuple[Any, ...]) -> Stored:
         bodies = self.read("SELECT body FROM text WHERE message = ? ORDER BY place", (row[1],))
         return Stored._make([*row, b"".join(bytes(one[0]) for one in bodies)])
 
     def counts(self) -> List[LineCount]:
-        wanted = ["number IS NOT NULL", "again_of IS NOT NULL"]
-        wanted += [f"state = '{state}'" for state in (UNFINISHED, UNREADABLE, OPEN)]
+        left, gone = self._left()
+        wanted = ["number IS NOT NULL", "again_of IS NOT NULL", f"state = '{UNFINISHED}' OR {left}"]
+        wanted += [f"state = '{UNREADABLE}'", f"state = '{OPEN}' AND NOT {left}"]
         sums = ", ".join(f"sum(CASE WHEN {one} THEN 1 ELSE 0 END)" for one in wanted)
         rows = self.read(
             f"SELECT line, {sums}, max(CASE WHEN number IS NOT NULL THEN ended END)"
-            " FROM message GROUP BY line ORDER BY line"
+            " FROM message GROUP BY line ORDER BY line",
+            (*gone, *gone),
         )
         return [LineCount._make([row[0], *(int(one) for one in row[1:6]), row[6]]) for row in rows]

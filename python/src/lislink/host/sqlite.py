@@ -89,6 +89,10 @@ class SqliteStore(SqlStore):
             self._db.execute("PRAGMA synchronous=FULL")
             self._db.execute("PRAGMA foreign_keys=ON")
 
+    def is_gone(self, host: str) -> bool:
+        """A store in a file has one host, which is this one."""
+        return True
+
     def is_held(self, host: str = "") -> bool:
         try:
             return is_locked(self.path + "-host")

@@ -4,8 +4,9 @@ import os
 import time
 from typing import Iterator, List, NamedTuple, Optional, Sequence, Union
 
-#: The states of a message.
+#: The states of a message; why one is unfinished that a host left open.
 OPEN, WHOLE, UNFINISHED, UNREADABLE = "open", "whole", "unfinished", "unreadable"
+LEFT = "the host was stopped"
 
 
 class StoreError(Exception):
@@ -81,6 +82,8 @@ class Store(abc.ABC):
     A repeated message (of the same line, with the same bytes) is kept, with the key of the first one.
     """
 
+    #: How many changes of one line are put to a commit together, so that those of other lines don't wait for long.
+    part = 60
     #: Whether a host has the store as long as it runs, and not only as long as it is connected.
     held_to_the_end = True
 
@@ -100,7 +103,8 @@ class Store(abc.ABC):
 
     @abc.abstractmethod
     def others(self) -> Iterator[Stored]:
-        """Messages that are unfinished or can't be read, in the order in which they began."""
+        """Messages that are unfinished or can't be read, in the order in which they began. What a host left open that
+        doesn't run is unfinished."""
 
     @abc.abstractmethod
     def counts(self) -> List[LineCount]:
