@@ -101,10 +101,12 @@ def process(words, **how):
 class Host:
     """`lislab serve` as a process; with a fault, a wrong one."""
 
-    def __init__(self, store, *words, fault=None, scale=SCALE, listen=True, errors=None, **how):
+    def __init__(self, store, *words, fault=None, scale=SCALE, listen=True, errors=None, each=250, **how):
         self.store, self.words, self.fault, self.scale = store, words, fault, scale
         self.port, self.listen, self.how, self.errors_to = 0, listen, how, errors
         self.errors = []
+        if each is not None:  # all analyzers of a test have one address
+            self.words = ("--address-lines", str(each), *words)
         self.start()
 
     def start(self):

@@ -63,7 +63,7 @@ def wrong(rng, streams):
 def is_kept(stream, texts, by_record):
     """Whether every byte is kept in order, each message ends once, and whole ones are those that can be read."""
     intake = Intake("line", "peer", "latin-1", 1 << 20, lambda: 0.0)
-    changes = [change for text in texts for change in intake.take(text)] + intake.drop("the end")
+    changes = [change for text in texts for some in intake.take(text) for change in some] + intake.drop("the end")
     bodies, ends = {}, {}
     for change in changes:
         if isinstance(change, Begin):

@@ -1,5 +1,6 @@
 """One line at a time: cuts, silence, late replies, limits, what can't be read, a stop in order."""
 import asyncio
+import contextlib
 import os
 import signal
 import socket
@@ -30,8 +31,8 @@ def session(texts):
 class Client:
     """A connection to a host, by hand."""
 
-    def __init__(self, port):
-        self.socket = socket.create_connection(("127.0.0.1", port))
+    def __init__(self, port, address="127.0.0.1"):
+        self.socket = socket.create_connection(("127.0.0.1", port), source_address=(address, 0))
         self.socket.setsockopt(socket.IPPROTO_TCP, socket.TCP_NODELAY, 1)
 
     def __enter__(self):
@@ -106,15 +107,15 @@ def flood(client, seconds):
 GOOD = b"".join(TEXTS)
 #: Sessions with what can't be read: their texts, how many whole messages they have, and the reasons.
 ODD = (
-    ([b"H|\\^&\r", b"R|1\r", b"L|1\r"], 0, ["record 2: no record above it that it belongs to"]),
-    ([b"P|1\r", *TEXTS], 1, ["record 1: no header before it"]),
-    ([b"H|\\^&\r", b"P|1\r", *TEXTS], 1, ["a header comes before its L record"]),
-    ([b"H|\\^&\r", b"P|1\r"], 0, ["the session ended before its L record"]),
+    ([b"H|\\^&\r", b"R|1\r", b"L|1\r"], 0, ["record 2, from byte 6: no record above it that it belongs to: R"]),
+    ([b"P|1\r", *TEXTS], 1, ["record 1, from byte 0: no header before it"]),
+    ([b"H|\\^&\r", b"P|1\r", *TEXTS], 1, ["a header comes before its L record, after record 2, at byte 10"]),
+    ([b"H|\\^&\r", b"P|1\r"], 0, ["the session ended before its L record, after record 2, at byte 10"]),
     ([GOOD[:20], GOOD[20:]], 1, []),
     ([GOOD + GOOD], 2, []),
     ([GOOD + GOOD[:30], GOOD[30:]], 2, []),
-    ([GOOD + b"R|1\r" + GOOD], 2, ["record 1: no header before it"]),
-    ([b"H|^^^\rP|1\r" + GOOD], 1, ["record 1: malformed"]),
+    ([GOOD + b"R|1\r" + GOOD], 2, ["record 1, from byte 0: no header before it"]),
+    ([b"H|^^^\rP|1\r" + GOOD], 1, ["record 1, from byte 0: malformed: BAD_DELIMITERS"]),
     ([b"", *TEXTS], 1, []),
 )
 
@@ -220,13 +221,37 @@ class Lines(HostTest):
             self.same("the stalled line goes on", stalled.asks(frames(TEXTS)[0][5:]), ACK)
         self.same("the host's status", host.stop(), 0)
 
+    def test_one_address(self):
+        """An address has eight lines at most, and a connection without a session makes room for another."""
+        host = Host(self.path("address.db"), each=None, scale=1.0)
+        with contextlib.ExitStack() as stack:
+            ones = [stack.enter_context(Client(host.port)) for _ in range(8)]
+            self.same("eight sessions", [one.asks(ENQ) for one in ones], [ACK] * 8)
+            self.true("a ninth connection", stack.enter_context(Client(host.port)).is_closed())
+            self.same("another address", stack.enter_context(Client(host.port, "127.0.0.2")).asks(ENQ), ACK)
+        self.same("the host's status", host.stop(), 0)
+        host = Host(self.path("idle.db"), "--lines", "3", each=None, scale=1.0)
+        with contextlib.ExitStack() as stack:
+            first, second, third = (stack.enter_context(Client(host.port)) for _ in range(3))
+            self.same("a session", first.asks(ENQ + EOT), ACK)
+            third.send(b"x")
+            time.sleep(0.1)
+            self.same("another address", stack.enter_context(Client(host.port, "127.0.0.2")).asks(ENQ), ACK)
+            self.true("the one that is silent for the longest is closed", second.is_closed())
+            self.same("who had a session stays", first.asks(ENQ), ACK)
+            self.same("who was not silent for so long stays", third.asks(ENQ), ACK)
+            self.true("no other has room", stack.enter_context(Client(host.port, "127.0.0.2")).is_closed())
+        self.same("the host's status", host.stop(), 0)
+        self.has("it is said", host.errors[-1], "127.0.0.1: a connection without a session gives way to one of 127.0.0.2")
+
     def test_limits(self):
         """Limits on lines, on the size of a message, on silence and on the receiver's timer."""
         words = ["--lines", "2", "--message-bytes", "1000", "--idle", "4"]
         host = Host(self.path("limits.db"), *words, scale=LATE)
-        with Client(host.port) as one, Client(host.port) as two, Client(host.port) as three:
-            self.true("a line too many is closed", three.is_closed())
-            self.same("the others are heard", (one.asks(ENQ), two.asks(ENQ)), (ACK, ACK))
+        with Client(host.port) as one, Client(host.port) as two:
+            self.same("two are heard", (one.asks(ENQ), two.asks(ENQ)), (ACK, ACK))
+            with Client(host.port) as three:
+                self.true("a line too many is closed", three.is_closed())
             long = [TEXTS[0], *[b"C|1|I|" + b"x" * 190 + b"\r"] * 6]
             replies = [one.asks(frame, 1, 0.5) for frame in frames(long)]
             self.same("a message too long gets no reply", replies, [ACK] * 6 + [b""])

@@ -208,7 +208,7 @@ class Owner:
         status = self._call("text", copy, size)
         if status:
             raise LinkError(status)
-        return bytes(copy[:size])
+        return bytes(memoryview(copy)[:size])
 
     def _add(self, data: bytes) -> int:
         """Puts a piece behind what is left; answers the place of its first byte, less than nothing is never it."""

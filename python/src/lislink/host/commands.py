@@ -97,6 +97,7 @@ def _add_serve(one: argparse.ArgumentParser) -> None:
 def _add_limits(one: argparse.ArgumentParser, usual: Limits) -> None:
     number = functools.partial(one.add_argument, metavar="N")
     number("--lines", type=_COUNT, default=usual.lines, help="the most TCP lines at once (%(default)s)")
+    number("--address-lines", type=_COUNT, default=usual.address, help="the most of one address (%(default)s)")
     number("--message-bytes", type=_COUNT, default=usual.message, help="of one message (%(default)s)")
     seconds = functools.partial(one.add_argument, metavar="SECONDS")
     seconds("--idle", type=_FACTOR, default=usual.idle, help="the silence that closes a line (%(default)s)")
@@ -121,7 +122,7 @@ def run_serve(ask: argparse.Namespace) -> int:
     if ask.reply_within >= 15:
         raise OptionError("--reply-within is below the analyzer's timer of 15 seconds")
     calls()  # without the library no line could be answered
-    limits = Limits(ask.lines, ask.message_bytes, ask.idle, ask.reply_within, ask.grace, ask.scale)
+    limits = Limits(ask.lines, ask.message_bytes, ask.idle, ask.reply_within, ask.grace, ask.scale, ask.address_lines)
     os.umask(0o077)
     store = open_store(ask.store)
     try:

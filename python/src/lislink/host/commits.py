@@ -7,7 +7,8 @@ from typing import Callable, Deque, List, NamedTuple, Optional
 
 from .store import Store, StoreError, Unit
 
-#: The most units of one commit, and the most that are tried again because nobody waits for them.
+#: The most changes of one commit, if it has more than one unit; the most units that are tried again because nobody waits
+#: for them.
 TOGETHER, OWED = 500, 10000
 #: How often these are tried at the end. What is still open then becomes unfinished at the next start.
 LAST_TRIES = 5
@@ -25,7 +26,9 @@ class Committer:
         self._store, self._say = store, say
         self._loop = asyncio.get_running_loop()
         self._waiting: Deque[_Waiting] = deque()
-        self._owed: Deque[Unit] = deque(maxlen=OWED)
+        self._owed: Deque[_Waiting] = deque(maxlen=OWED)
+        #: How many changes of one line are kept at once.
+        self.part = store.part
         self._next_try = 0.0
         self._wake, self._stopping = threading.Event(), False
         #: How many commits were made, and how many failed.
@@ -57,32 +60,40 @@ class Committer:
             self._wake.wait()
             self._wake.clear()
             while self._waiting:
-                count = min(len(self._waiting), TOGETHER)
-                self._keep([self._waiting.popleft() for _ in range(count)])
+                self._keep(_some_of(self._waiting))
             if self._stopping and not self._waiting:
-                for _ in range(LAST_TRIES):
-                    self._next_try = 0.0
-                    self._keep_owed()
+                self._keep_the_rest()
                 return
+
+    def _keep_the_rest(self) -> None:
+        tries = LAST_TRIES
+        while self._owed and tries:
+            self._next_try = 0.0
+            tries -= 0 if self._keep_owed() else 1
 
     def _keep(self, batch: List[_Waiting]) -> None:
         fault = self._commit([one.unit for one in batch])
         if fault is not None:
             self.failed += 1
-            self._owed.extend(one.unit for one in batch if one.done is None)
-        else:
-            self._keep_owed()
+            self._owed.extend(one for one in batch if one.done is None)
         done = [one.done for one in batch if one.done is not None]
         try:
             self._loop.call_soon_threadsafe(_settle, done, fault, self._say)
         except RuntimeError:
             pass  # the loop is closed: nobody waits any more
+        if fault is None:
+            self._keep_owed()
 
-    def _keep_owed(self) -> None:
-        if self._owed and time.monotonic() > self._next_try:
-            if self._commit(list(self._owed)) is None:
-                self._owed.clear()
-            self._next_try = time.monotonic() + 1
+    def _keep_owed(self) -> bool:
+        """Tries some of what nobody waits for: whether it is kept."""
+        if not self._owed or time.monotonic() <= self._next_try:
+            return True
+        batch = _some_of(self._owed)
+        if self._commit([one.unit for one in batch]) is None:
+            return True
+        self._owed.extendleft(reversed(batch))
+        self._next_try = time.monotonic() + 1
+        return False
 
     def _commit(self, units: List[Unit]) -> Optional[Exception]:
         try:
@@ -93,6 +104,16 @@ class Committer:
             return error
         except Exception as error:  # a fault of the store's own is no reason to lose the thread
             return StoreError(f"{type(error).__name__}: {error}")
+
+
+def _some_of(queue: Deque[_Waiting]) -> List[_Waiting]:
+    """Takes what goes into one commit from a queue, to which others may add meanwhile."""
+    batch = [queue.popleft()]
+    size = len(batch[0].unit)
+    while queue and size + len(queue[0].unit) <= TOGETHER:
+        batch.append(queue.popleft())
+        size += len(batch[-1].unit)
+    return batch
 
 
 def _settle(done: "List[asyncio.Future[None]]", fault: Optional[Exception], say: Callable[[str], None]) -> None:

@@ -1,8 +1,10 @@
 """The messages in the texts of a line. Where a record ends, which may come next and which is the last of its message
 is decided by the proved reader."""
 import hashlib
-from typing import Callable, List, Optional
+import re
+from typing import Callable, Iterator, List, Optional
 
+from ..link import Status
 from ..records import MessageError, Reader, Reason
 from .store import UNFINISHED, UNREADABLE, WHOLE, Add, Begin, Change, End, new_key
 
@@ -16,6 +18,11 @@ _WORDS = {
 }
 
 
+#: A step of the work takes so many bytes of a text, if a record ends there.
+PIECE = 4096
+_NEXT_HEADER = re.compile(rb"\r[Hh][^0-9A-Za-z]")
+
+
 class TooLong(Exception):
     """A message has more bytes than the line takes."""
 
@@ -27,8 +34,8 @@ class _Message:
         self.key, self.reader, self.digest = key, Reader(), hashlib.sha256()
         self.places = self.size = self.records = 0
         self.fault = ""
-        #: Whether the last byte ended a record.
-        self.at_record = True
+        #: Where its last record ended, in bytes of the message.
+        self.ended = 0
 
 
 class Intake:
@@ -37,22 +44,29 @@ class Intake:
     def __init__(self, line: str, peer: str, encoding: str, most: int, clock: Callable[[], float]) -> None:
         self.line, self.peer, self.encoding, self.most, self.clock = line, peer, encoding, most, clock
         self._message: Optional[_Message] = None
-        self._changes: List[Change] = []
+        #: The ends of messages that aren't known to be kept.
+        self._ends: List[End] = []
 
-    def take(self, text: bytes) -> List[Change]:
-        """The changes that keep a text. TooLong if its message passes the limit. If they aren't kept, call `undo`."""
-        changes: List[Change] = []
-        self._changes = changes
-        while text:
-            if self._message is None:
-                self._begin(changes)
-            text = text[self._take_some(text, changes) :]
-        return changes
+    def take(self, text: bytes) -> Iterator[List[Change]]:
+        """The changes that keep a text, step by step, each of which is short work; TooLong if a message passes the
+        limit. Call `kept` when those so far are kept; if they can't be, or not all were taken, call `undo`."""
+        for piece in _pieces(text):
+            at = 0
+            while at < len(piece):
+                changes: List[Change] = []
+                if self._message is None:
+                    self._begin(changes)
+                at += self._take_some(piece[at:], changes)
+                self._ends += [change for change in changes if isinstance(change, End)]
+                yield changes
+
+    def kept(self) -> None:
+        """All changes so far are kept."""
+        self._ends = []
 
     def undo(self, reason: str) -> List[Change]:
-        """The changes if those of the last text weren't kept: its messages are not whole."""
-        ends = [change for change in self._changes if isinstance(change, End)]
-        self._changes = []
+        """The changes if those that were given last aren't kept: their messages are not whole."""
+        ends, self._ends = self._ends, []
         undone = [one._replace(state=UNFINISHED, reason=reason) if one.state == WHOLE else one for one in ends]
         return [*undone, *self.drop(reason)]
 
@@ -62,7 +76,7 @@ class Intake:
         if one is None:
             return []
         changes: List[Change] = []
-        self._end(UNREADABLE if one.fault else UNFINISHED, one.fault or reason, changes)
+        self._end(UNREADABLE if one.fault else UNFINISHED, one.fault or _after(one, reason), changes)
         return changes
 
     def _begin(self, changes: List[Change]) -> None:
@@ -75,34 +89,35 @@ class Intake:
         assert one is not None
         if one.fault:
             return self._pass_over(one, text, 0, changes)
-        before, start = one.reader.read, 0 if one.at_record else -1
         try:
             for letter in one.reader.letters(text):
                 one.records += 1
-                start = one.reader.read - before
+                one.ended = one.reader.read
                 if letter == "L":
-                    self._add(one, text[:start], changes)
+                    end = one.ended - one.size
+                    self._add(one, text[:end], changes)
                     self._end(WHOLE, "", changes)
-                    return start
+                    return end
         except MessageError as error:
-            return self._reject(one, text, start, error, changes)
-        one.at_record = text.endswith(b"\r")
+            return self._reject(one, text, error, changes)
         self._add(one, text, changes)
         return len(text)
 
-    def _reject(self, one: _Message, text: bytes, start: int, error: MessageError, changes: List[Change]) -> int:
-        """A record can't be read where it is; it begins at `start` of the text, or below 0 in an earlier one."""
-        if start >= 0 and one.records and is_header(text[start:]):
+    def _reject(self, one: _Message, text: bytes, error: MessageError, changes: List[Change]) -> int:
+        """A record can't be read where it is."""
+        start = one.ended - one.size  # where it begins in the text; below 0 in an earlier one
+        if start >= 0 and one.records and is_header(text, start):
             self._add(one, text[:start], changes)
-            self._end(UNFINISHED, "a header comes before its L record", changes)
+            self._end(UNFINISHED, _after(one, "a header comes before its L record"), changes)
             return start
-        one.fault = f"record {error.number}: {_WORDS.get(error.reason, error.reason.name)}"
+        one.fault = _fault(one, text, error)
         return self._pass_over(one, text, text.find(b"\r", max(start, 0)) + 1 or len(text), changes)
 
     def _pass_over(self, one: _Message, text: bytes, start: int, changes: List[Change]) -> int:
         """Puts a text to a message that can't be read, up to the next header."""
-        while start < len(text) and not is_header(text[start:]):
-            start = text.find(b"\r", start) + 1 or len(text)
+        if not is_header(text, start):
+            found = _NEXT_HEADER.search(text, start)
+            start = found.start() + 1 if found else len(text)
         self._add(one, text[:start], changes)
         if start < len(text):
             self._end(UNREADABLE, one.fault, changes)
@@ -125,6 +140,37 @@ class Intake:
         changes.append(End(one.key, self.line, state, reason, one.digest.hexdigest(), one.size, self.clock()))
 
 
-def is_header(text: bytes) -> bool:
-    """Whether a record may be a header: H, and a byte that may be a delimiter."""
-    return text[:1] in (b"H", b"h") and not text[1:2].isalnum() and len(text) > 1
+def is_header(text: bytes, start: int = 0) -> bool:
+    """Whether the record at this place may be a header: H, and a byte that may be a delimiter."""
+    first, second = text[start : start + 1], text[start + 1 : start + 2]
+    return first in (b"H", b"h") and bool(second) and not second.isalnum()
+
+
+def _pieces(text: bytes) -> Iterator[bytes]:
+    """A text in pieces, each of which but the last ends with a record."""
+    start = 0
+    while start < len(text):
+        last = text.rfind(b"\r", start, start + PIECE) + 1
+        end = last or text.find(b"\r", start + PIECE) + 1 or len(text)
+        yield text[start:end]
+        start = end
+
+
+def _after(one: _Message, reason: str) -> str:
+    """Why no more comes of a message, and where it stops."""
+    return f"{reason}, after record {one.records}, at byte {one.size}"
+
+
+def _fault(one: _Message, text: bytes, error: MessageError) -> str:
+    """Why a record can't be read: its number in the message, where it begins there, and the code with its byte."""
+    words = f"record {error.number}, from byte {one.ended}: {_WORDS.get(error.reason, error.reason.name)}"
+    if error.reason is Reason.NO_PARENT:
+        return f"{words}: {chr(error.detail)}"
+    if error.reason is not Reason.BAD_RECORD:
+        return words
+    words = f"{words}: {Status(error.detail).name}"
+    if error.detail != Status.FORBIDDEN:
+        return words
+    place = one.ended + error.place
+    byte = text[place - one.size : place - one.size + 1] if place >= one.size else b""
+    return f"{words}, byte {place}" + (f" is 0x{byte[0]:02X}" if byte else "")

@@ -2,13 +2,14 @@
 and what is answered; here is when an answer goes out: after its text is kept, and never late."""
 import asyncio
 from collections import Counter, deque
-from typing import Callable, Deque, Dict, Optional, Tuple
+from typing import Callable, Deque, Dict, List, Optional, Sequence, Tuple
 
 from ..link import RECEIVER, Note, Receiver, Step
 from .commits import Committer
 from .intake import Intake, TooLong
+from .notices import Watch
 from .options import Limits
-from .store import WHOLE, End, StoreError
+from .store import WHOLE, Change, End, StoreError
 from .tape import Tape
 
 #: How many bytes may wait to be heard before the line is read no further; for how many seconds one line is heard before
@@ -38,6 +39,8 @@ _COUNTED = {
 class Wire:
     """What a line needs of its transport."""
 
+    is_tcp = False
+
     def write(self, data: bytes) -> None:
         """Sends bytes at once, or never."""
         raise NotImplementedError
@@ -64,15 +67,20 @@ class Line:
         counts: "Counter[str]",
         tape: Optional[Tape],
         frame: int,
+        say: Callable[[str], None] = lambda text: None,
     ) -> None:
         self._wire, self._intake, self._committer, self._limits = wire, intake, committer, limits
-        self._counts, self._tape = counts, tape
+        self._counts, self._tape, self._say = counts, tape, say
+        self._watch = Watch(say)
         self._loop = asyncio.get_running_loop()
         self._receiver = Receiver(frame_limit=frame)
         self._pieces: Deque[Tuple[float, bytes]] = deque()
         self._size, self._paused_at = 0, None  # type: int, Optional[float]
         self._due: Optional[float] = None
-        self._last_byte = self._loop.time()
+        #: When bytes came last, by the loop's clock; whether there was a session, and whether it makes room for another.
+        self.last_byte = self._loop.time()
+        self.had_session = self.gives_way = False
+        self._over = 0.0
         self._lost = self._stopping = False
         self._waiter: "Optional[asyncio.Future[None]]" = None
         #: When its last message was kept, by the clock on the wall.
@@ -99,6 +107,21 @@ class Line:
         self._stopping = True
         self._wake()
 
+    def give_way(self) -> None:
+        """Closes the line for another, unless a session begins before."""
+        self.gives_way = True
+        self.stop()
+
+    @property
+    def peer(self) -> str:
+        """Who is at the other end."""
+        return self._intake.peer
+
+    @property
+    def is_tcp(self) -> bool:
+        """Whether it is a connection, of which there may be any number."""
+        return self._wire.is_tcp
+
     def _wake(self) -> None:
         if self._waiter is not None and not self._waiter.done():
             self._waiter.set_result(None)
@@ -112,13 +135,13 @@ class Line:
                 if self._pieces:
                     arrived, data = self._pieces.popleft()
                     self._size -= len(data)
-                    self._last_byte = now
+                    self.last_byte = now
                     if self._due is not None and arrived >= self._due:
                         await self._timer(now)
                     await self._hear(data, arrived)
                 elif self._due is not None and now >= self._due:
                     await self._timer(now)
-                elif now - self._last_byte >= self._limits.idle:
+                elif now - self.last_byte >= self._limits.idle:
                     self._counts["idle"] += 1
                     break
         except asyncio.CancelledError:
@@ -126,6 +149,7 @@ class Line:
             raise
         finally:
             self._drop(why)
+            self._watch.over()
             self._receiver.close()
             self._wire.close()
             if self._tape is not None:
@@ -140,7 +164,7 @@ class Line:
             self._wire.resume()
         if self._lost or (self._stopping and not self._receiver.is_open):
             return True
-        due = self._last_byte + self._limits.idle
+        due = self.last_byte + self._limits.idle
         due = due if self._due is None else min(due, self._due)
         self._waiter = self._loop.create_future()
         alarm = self._loop.call_at(due, self._wake)
@@ -154,19 +178,28 @@ class Line:
     async def _timer(self, now: float) -> None:
         if self._tape is not None:
             self._tape.event("T")
-        await self._step(self._receiver.timer(), now)
+        step = self._receiver.timer()
+        self._watch.step(0, step)
+        await self._step(step, now)
 
     async def _hear(self, data: bytes, arrived: float) -> None:
         if self._tape is not None:
             self._tape.bytes(">", data)
-        over = self._loop.time() + TURN
-        for step in self._receiver.hear(data):
+        self._over = self._loop.time() + TURN
+        for place, step in self._receiver.hear_placed(data):
+            self._watch.step(place, step)
             await self._step(step, arrived)
-            if self._loop.time() > over:
-                await asyncio.sleep(0)
-                over = self._loop.time() + TURN
+            await self._take_turns()
+        self._watch.bytes(data)
+
+    async def _take_turns(self) -> None:
+        """Lets the others have their turn, if this line has had its own."""
+        if self._loop.time() > self._over:
+            await asyncio.sleep(0)
+            self._over = self._loop.time() + TURN
 
     async def _step(self, step: Step, arrived: float) -> None:
+        self.had_session = self.had_session or step.note is Note.OPENED
         if step.note in _COUNTED:
             self._counts[_COUNTED[step.note]] += 1
         if step.note in _ENDS:
@@ -192,21 +225,44 @@ class Line:
         """Keeps a text; if it can't be kept there is no reply, and the receiver begins anew."""
         self._counts["texts"] += 1
         try:
-            changes = self._intake.take(text)
-            if changes:
-                await self._committer.put(changes)
+            await self._keep_in_parts(text)
         except (StoreError, TooLong) as error:
             self._counts["not_kept"] += 1
             undone = self._intake.undo(f"a text could not be kept: {error}")
             if undone:
                 self._committer.put_later(undone)
+                self._note_ends(undone)
             self._restart("a text could not be kept")
             return False
-        for change in changes:
-            if isinstance(change, End):
-                self._counts["messages" if change.state == WHOLE else "quarantined"] += 1
-                self.last = change.at if change.state == WHOLE else self.last
         return True
+
+    async def _keep_in_parts(self, text: bytes) -> None:
+        """Keeps a text, one part of its changes after another: however many they are, no other line waits for all."""
+        part: List[Change] = []
+        for changes in self._intake.take(text):
+            part += changes
+            if len(part) >= self._committer.part:
+                await self._put(part)
+                part = []
+            await self._take_turns()
+        if part:
+            await self._put(part)
+
+    async def _put(self, part: Sequence[Change]) -> None:
+        await self._committer.put(part)
+        self._intake.kept()
+        self._note_ends(part)
+
+    def _note_ends(self, changes: Sequence[Change]) -> None:
+        """Counts the messages that ended, and says which are not whole."""
+        for change in changes:
+            if not isinstance(change, End):
+                continue
+            self._counts["messages" if change.state == WHOLE else "quarantined"] += 1
+            if change.state == WHOLE:
+                self.last = change.at
+            elif change.size:
+                self._say(f"message {change.key} is {change.state}: {change.reason}")
 
     def _restart(self, reason: str) -> None:
         self._receiver.restart()
@@ -214,13 +270,14 @@ class Line:
         self._counts["restarts"] += 1
         if self._tape is not None:
             self._tape.event("R")
+        self._watch.session_over()
         self._drop(reason)
 
     def _drop(self, reason: str) -> None:
         changes = self._intake.drop(reason)
         if changes:
-            self._counts["quarantined"] += 1
             self._committer.put_later(changes)
+            self._note_ends(changes)
 
 
 class Ticks:

@@ -45,6 +45,7 @@ class Limits(NamedTuple):
     reply: float = 10.0
     grace: float = 10.0
     scale: float = 1.0
+    address: int = 8
 
 
 def _split(word: str, known: Sequence[str]) -> Tuple[str, Dict[str, str]]:

@@ -15,6 +15,7 @@ from .commits import Committer
 from .files import write_whole
 from .intake import Intake
 from .line import Line, Ticks, Wire
+from .notices import Notices
 from .options import Limits, Listen, Network, OptionError, Serial, is_allowed
 from .said import announce, say
 from .store import Store
@@ -42,7 +43,7 @@ class Host:
 
     def __init__(self, asked: Asked, store: Store) -> None:
         self.asked, self.limits = asked, asked.limits
-        self.committer = Committer(store, say)
+        self.committer, self.notices = Committer(store, say), Notices(say)
         self.ticks = Ticks(max(0.02, self.limits.reply * self.limits.scale / 40))
         self.counts: Dict[str, "Counter[str]"] = {}
         self.last: Dict[str, float] = {}
@@ -64,11 +65,33 @@ class Host:
         counts = self.counts.setdefault(place.name, Counter())
         counts["connections"] += 1
         intake = Intake(place.name, peer, place.encoding, self.limits.message, time.time)
-        line = Line(wire, intake, self.committer, self.limits, counts, self._tape(place.name), place.frame)
+        notice = functools.partial(self._notice, place.name, peer)
+        line = Line(wire, intake, self.committer, self.limits, counts, self._tape(place.name), place.frame, notice)
         task = asyncio.ensure_future(line.run())
         self.lines[line], self._names[line] = task, place.name
         task.add_done_callback(lambda done: self._over(line, done))
         return line
+
+    def has_room(self, place: Listen, peer: str) -> bool:
+        """Whether an address may have another line. If there are too many, of it or of all, the one that is silent for
+        the longest and never had a session gives way."""
+        lines = [line for line in self.lines if line.is_tcp and not line.gives_way]
+        same = [line for line in lines if line.peer == peer]
+        if len(same) < self.limits.address:
+            if len(lines) < self.limits.lines:
+                return True
+            same = lines
+        idle = [line for line in same if not line.had_session]
+        if not idle:
+            self.notices.say(place.name, f"{peer}: a connection is refused, there are {len(same)} with a session")
+            return False
+        one = min(idle, key=lambda line: line.last_byte)
+        self.notices.say(self._names[one], f"{one.peer}: a connection without a session gives way to one of {peer}")
+        one.give_way()
+        return True
+
+    def _notice(self, name: str, peer: str, text: str) -> None:
+        self.notices.say(name, text if peer == name else f"{peer}: {text}")
 
     def _over(self, line: Line, done: "asyncio.Task[None]") -> None:
         name = self._names.pop(line)
@@ -218,7 +241,7 @@ def write_state(path: str, state: Dict[str, Any]) -> str:
 class TcpWire(asyncio.BufferedProtocol, Wire):
     """A TCP connection. All read into one buffer, which is emptied at once, so that reading fragments no memory."""
 
-    _buffer = bytearray(1 << 16)
+    is_tcp, _buffer = True, bytearray(1 << 16)
 
     def __init__(self, host: Host, place: Listen) -> None:
         self._host, self._place = host, place
@@ -232,7 +255,7 @@ class TcpWire(asyncio.BufferedProtocol, Wire):
         if peer is None:  # it is gone already
             transport.abort()
             return
-        if host.stopping or len(host.lines) >= host.limits.lines or not is_allowed(peer[0], host.asked.networks):
+        if host.stopping or not is_allowed(peer[0], host.asked.networks) or not host.has_room(self._place, peer[0]):
             host.refused += 1
             transport.abort()
             return
