@@ -68,7 +68,7 @@ class Turns(HostTest):
         with sent(port, text) as client:
             thread = threading.Thread(target=lambda: (client.heard(1, 8), over.set()), daemon=True)
             thread.start()
-            longest = longest_wait(host.port, 4, over)
+            longest = longest_wait(host.port, 2, over)
             self.true(f"{name}: other lines are answered", longest < LONGEST, f"{longest:.2f} s")
         host.kill()
         thread.join()

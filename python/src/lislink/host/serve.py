@@ -43,7 +43,8 @@ class Host:
 
     def __init__(self, asked: Asked, store: Store) -> None:
         self.asked, self.limits = asked, asked.limits
-        self.committer, self.notices = Committer(store, say), Notices(say)
+        self.notices = Notices(say)
+        self.committer = Committer(store, functools.partial(self.notices.say, "store"))
         self.ticks = Ticks(max(0.02, self.limits.reply * self.limits.scale / 40))
         self.counts: Dict[str, "Counter[str]"] = {}
         self.last: Dict[str, float] = {}

@@ -68,11 +68,13 @@ class SpoolStore(Store):
         return os.path.join(self.folder, *names)
 
     def _names(self, state: str) -> List[str]:
-        """The messages in a state, without the ends of their files' names."""
+        """The messages in a state, without the ends of their files' names; open ones of which something is kept."""
         end = "" if state == OPEN else ".records"
         names = [
             name for name in os.listdir(self._path(state)) if name.endswith(end) and not name.endswith(".about")
         ]
+        if state == OPEN:
+            names = [name for name in names if _size_of(self._path(OPEN, name))]
         return sorted(name[: len(name) - len(end)] for name in names if not name.startswith("."))
 
     def _take_last(self) -> None:
@@ -298,6 +300,13 @@ class _Open(Appended):
         super().__init__(path)
         #: Its line; and how long it was at the last commit.
         self.about, self.good = about, 0
+
+
+def _size_of(path: str) -> int:
+    try:
+        return os.path.getsize(path)
+    except FileNotFoundError:  # moved to its place meanwhile
+        return 0
 
 
 def _read_about(path: str) -> Dict[str, Any]:
