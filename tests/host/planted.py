@@ -83,7 +83,7 @@ FAULTS = {
     "test_lines.Lines.test_late": Edit(
         "host/line.py", "arrived > self._limits.reply * self._limits.scale", "arrived > self._limits.idle"
     ),
-    "test_lines.Lines.test_slow_lines": Edit("host/line.py", "WAITING, TURN = 1 << 16,", "WAITING, TURN = 1 << 40,"),
+    "test_lines.Lines.test_slow_lines": Edit("host/line.py", "TOGETHER = 1 << 16,", "TOGETHER = 1 << 40,"),
     "test_lines.Lines.test_limits": Edit(
         "host/serve.py", "if len(lines) < self.limits.lines:", "if len(lines) <= self.limits.lines:"
     ),

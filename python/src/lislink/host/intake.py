@@ -19,7 +19,7 @@ _WORDS = {
 
 
 #: A step of the work takes so many bytes of a text, if a record ends there.
-PIECE = 4096
+PIECE = 1024
 _NEXT_HEADER = re.compile(rb"\r[Hh][^0-9A-Za-z]")
 
 

@@ -9,12 +9,12 @@ from .commits import Committer
 from .intake import Intake, TooLong
 from .notices import Watch
 from .options import Limits
-from .store import WHOLE, Change, End, StoreError
+from .store import WHOLE, Add, Change, End, StoreError
 from .tape import Tape
 
 #: How many bytes may wait to be heard before the line is read no further; for how many seconds one line is heard before
-#: the others have their turn.
-WAITING, TURN = 1 << 16, 0.005
+#: the others have their turn; how many bytes of a long text are kept in one row.
+WAITING, TURN, TOGETHER = 1 << 16, 0.005, 1 << 14
 #: What ends a session, and what that makes of a message without its L record.
 _ENDS = {
     Note.OPENED: "a new session began before its L record",
@@ -34,6 +34,16 @@ _COUNTED = {
     Note.REFUSED_MEMORY: "rejected",
     Note.TIMED_OUT: "timeouts",
 }
+
+
+def _join(part: List[Change], changes: List[Change]) -> None:
+    """Puts changes after others. Bytes of one message that follow each other are kept together."""
+    if part and changes:
+        last, first = part[-1], changes[0]
+        if isinstance(last, Add) and isinstance(first, Add) and last.key == first.key and len(last.body) < TOGETHER:
+            part[-1] = last._replace(body=last.body + first.body)
+            changes = changes[1:]
+    part += changes
 
 
 class Wire:
@@ -193,9 +203,9 @@ class Line:
         self._watch.bytes(data)
 
     async def _take_turns(self) -> None:
-        """Lets the others have their turn, if this line has had its own."""
+        """Lets the others, and the thread that commits, have as long a turn, if this line has had its own."""
         if self._loop.time() > self._over:
-            await asyncio.sleep(0)
+            await asyncio.sleep(TURN)
             self._over = self._loop.time() + TURN
 
     async def _step(self, step: Step, arrived: float) -> None:
@@ -240,7 +250,7 @@ class Line:
         """Keeps a text, one part of its changes after another: however many they are, no other line waits for all."""
         part: List[Change] = []
         for changes in self._intake.take(text):
-            part += changes
+            _join(part, changes)
             if len(part) >= self._committer.part:
                 await self._put(part)
                 part = []

@@ -6,6 +6,7 @@ import os
 import re
 import signal
 import socket
+import sys
 import time
 from collections import Counter
 from concurrent.futures import ThreadPoolExecutor
@@ -24,6 +25,8 @@ from .tty import SerialWire, Unusable, open_serial
 
 #: How often the state is written for `lislab status`, and a serial device that is gone is looked for, in seconds.
 STATUS, REOPEN = 2.0, 1.0
+#: How long the thread that commits waits for its turn while a line is busy: it needs one after each statement.
+SWITCH = 0.0005
 
 
 class Asked(NamedTuple):
@@ -312,6 +315,7 @@ class TcpWire(asyncio.BufferedProtocol, Wire):
 
 async def serve(asked: Asked, store: Store) -> None:
     """Serves until SIGTERM or SIGINT comes."""
+    sys.setswitchinterval(SWITCH)
     stop = asyncio.Event()
     loop = asyncio.get_running_loop()
     for name in (signal.SIGTERM, signal.SIGINT):
