@@ -44,6 +44,7 @@ FAULTS = {
         "host/files.py", "        os.replace(made, whole)\n    except BaseException:", "    finally:\n        os.replace(made, whole)\n    if not path:"
     ),
     "test_files.Whole.test_short_writes": Edit("host/files.py", "left = left[count:]", 'left = left[:0]'),
+    "test_intake.Streams.test_places": Edit("host/intake.py", "place = one.ended + error.place", "place = error.place"),
     "test_intake.Streams.test_random_streams": Edit(
         "host/intake.py",
         'self._add(one, text[:start], changes)\n            self._end(UNFINISHED, _after(one, "a header',

@@ -1,8 +1,10 @@
 """What a host keeps of random texts: every byte, in order, and the messages that a reader of the whole finds."""
 import hashlib
 import random
+import unittest.mock
 
 from lislink import Found, read_all
+from lislink.host import intake
 from lislink.host.intake import Intake
 from lislink.host.store import WHOLE, Add, Begin
 from tests.host import hosts
@@ -19,6 +21,21 @@ class Streams(HostTest):
         """Every byte is kept, in order, and each message ends once."""
         streams = hosts.size("streams")
         self.same(f"{streams} random streams", wrong(random.Random(9), streams), [])
+        with unittest.mock.patch.object(intake, "PIECE", 9):
+            self.same("in small pieces", wrong(random.Random(9), streams // 4), [])
+
+    def test_places(self):
+        """Why a message can't be read: its record, where that begins, and the byte, if the text has it."""
+        for texts, wanted in (
+            ([b"H|\\^&\rP|1|\x02\r"], "record 2, from byte 6: malformed: FORBIDDEN, byte 10 is 0x02"),
+            ([b"H|\\^&\r", b"P|1|", b"\x02\r"], "record 2, from byte 6: malformed: FORBIDDEN, byte 10 is 0x02"),
+            ([b"H|\\^&\r", b"P|1|\x02", b"x\r"], "record 2, from byte 6: malformed: FORBIDDEN, byte 10"),
+            ([b"H|\\^&\rP|1\rX|1\r"], "record 3, from byte 10: malformed: BAD_LETTER"),
+        ):
+            one = Intake("line", "peer", "latin-1", 1 << 20, lambda: 0.0)
+            for text in texts:
+                list(one.take(text))
+            self.same(repr(texts), [end.reason for end in one.drop("the end")], [wanted])
 
     def test_a_forgetful_intake(self):
         """An intake that forgets what can't be read is noticed."""
@@ -62,8 +79,8 @@ def wrong(rng, streams):
 
 def is_kept(stream, texts, by_record):
     """Whether every byte is kept in order, each message ends once, and whole ones are those that can be read."""
-    intake = Intake("line", "peer", "latin-1", 1 << 20, lambda: 0.0)
-    changes = [change for text in texts for some in intake.take(text) for change in some] + intake.drop("the end")
+    one = Intake("line", "peer", "latin-1", 1 << 20, lambda: 0.0)
+    changes = [change for text in texts for some in one.take(text) for change in some] + one.drop("the end")
     bodies, ends = {}, {}
     for change in changes:
         if isinstance(change, Begin):
