@@ -41,7 +41,9 @@ FAULTS = {
         "host/commands.py", "return writing(path)", 'return contextlib.nullcontext(open(path, "wb"))'
     ),
     "test_files.Whole.test_half_writes": Edit(
-        "host/files.py", "        os.replace(made, whole)\n    except BaseException:", "    finally:\n        os.replace(made, whole)\n    if not path:"
+        "host/files.py",
+        "        os.replace(made, whole)\n    except BaseException:",
+        "    finally:\n        os.replace(made, whole)\n    if not path:",
     ),
     "test_files.Whole.test_short_writes": Edit("host/files.py", "left = left[count:]", 'left = left[:0]'),
     "test_intake.Streams.test_places": Edit("host/intake.py", "place = one.ended + error.place", "place = error.place"),
@@ -75,7 +77,9 @@ FAULTS = {
         'self._open[key].cut(self._open[key].good)\n            raise StoreError(f"{self.folder}: {error}") from None',
         "self._open[key].cut(self._open[key].good)",
     ),
-    "test_lines.Lines.test_cuts": Edit("host/line.py", "self._receiver.hear_placed(data)", "self._receiver.hear_placed(data[:64])"),
+    "test_lines.Lines.test_cuts": Edit(
+        "host/line.py", "self._receiver.hear_placed(data)", "self._receiver.hear_placed(data[:64])"
+    ),
     "test_lines.Lines.test_keeping": Edit(
         "host/line.py",
         "        if part:\n            await self._put(part)",
@@ -93,7 +97,9 @@ FAULTS = {
     ),
     "test_lines.Lines.test_long_frames": Edit("host/line.py", "Receiver(frame_limit=frame)", "Receiver()"),
     "test_lines.Lines.test_peers": Edit("host/serve.py", "if peer is None:", "if peer == 0:"),
-    "test_lines.Lines.test_quarantine": Edit("host/intake.py", "one.fault or _after(one, reason), changes", "_after(one, reason), changes"),
+    "test_lines.Lines.test_quarantine": Edit(
+        "host/intake.py", "one.fault or _after(one, reason), changes", "_after(one, reason), changes"
+    ),
     "test_lines.Lines.test_stop": Edit(
         "host/line.py", "(self._stopping and not self._receiver.is_open)", "self._stopping"
     ),
@@ -105,7 +111,9 @@ FAULTS = {
         "if not is_loopback(one.host) and not networks:",
         "if not is_loopback(one.host) and networks:",
     ),
-    "test_load.Load.test_200_analyzers": Edit("host/serve.py", "if len(lines) < self.limits.lines:", "if len(lines) < 100:"),
+    "test_load.Load.test_200_analyzers": Edit(
+        "host/serve.py", "if len(lines) < self.limits.lines:", "if len(lines) < 100:"
+    ),
     "test_load.Load.test_memory": Edit(
         "host/sqlite.py",
         "            self.apply(units)\n",
@@ -113,12 +121,16 @@ FAULTS = {
         '            self.__dict__.setdefault("units", []).append((units, bytes(1 << 17)))\n',
     ),
     "test_notices.Said.test_a_bad_line": Edit(
-        "host/notices.py", "            self._dropped[name] += 1\n            return\n", "            self._dropped[name] += 1\n"
+        "host/notices.py",
+        "            self._dropped[name] += 1\n            return\n",
+        "            self._dropped[name] += 1\n",
     ),
     "test_notices.Said.test_a_host": Edit(
         "host/intake.py", "f\"{reason}, after record {one.records}, at byte {one.size}\"", "reason"
     ),
-    "test_notices.Said.test_bad_sessions": Edit("host/notices.py", "AT_ONCE, SECONDS = 10, 30.0", "AT_ONCE, SECONDS = 1000, 30.0"),
+    "test_notices.Said.test_bad_sessions": Edit(
+        "host/notices.py", "AT_ONCE, SECONDS = 10, 30.0", "AT_ONCE, SECONDS = 1000, 30.0"
+    ),
     "test_out.Files.test_modes": Edit(
         "host/sqlite.py", "os.fchmod(descriptor, 0o600)", "os.fchmod(descriptor, 0o644)"
     ),
@@ -226,7 +238,9 @@ FAULTS = {
         "host/spool.py", "left = [] if self.is_held() else", "left = [] if not self.is_held() else"
     ),
     "test_repeats.RepeatsOfSqlite.test_left_open": Edit(
-        "host/sqlite.py", 'which is this one."""\n        return True', 'which is this one."""\n        return host == self.host'
+        "host/sqlite.py",
+        'which is this one."""\n        return True',
+        'which is this one."""\n        return host == self.host',
     ),
     "test_repeats.RepeatsOfSpool.test_no_mark": Edit(
         "host/spool.py",
@@ -266,9 +280,13 @@ FAULTS = {
     "test_status.Status.test_a_state_that_cannot_be_written": Edit(
         "host/serve.py", "if why and self._said.get(path) != why:", "if why:"
     ),
-    "test_turns.Turns.test_spool": Edit("host/line.py", "if len(part) >= self._committer.part:", "if len(part) >= 6000:"),
+    "test_turns.Turns.test_spool": Edit(
+        "host/line.py", "if len(part) >= self._committer.part:", "if len(part) >= 6000:"
+    ),
     "test_turns.Turns.test_sqlite": Edit(
-        "host/line.py", "        if self._loop.time() > self._over:\n            await", "        if not self._over:\n            await"
+        "host/line.py",
+        "        if self._loop.time() > self._over:\n            await",
+        "        if not self._over:\n            await",
     ),
     "test_status.Status.test_running": Edit(
         "host/status.py", "return not store.held_to_the_end and ", "return "
@@ -292,7 +310,7 @@ HARMLESS = (
         "        one.digest.update(body)\n        one.size += len(body)\n        one.places += 1\n",
     ),
     Edit("host/serve.py", "            host.refused += 1\n", "            host.refused = 1 + host.refused\n"),
-    Edit("host/said.py", "    except (OSError, ValueError, AttributeError):", "    except (AttributeError, OSError, ValueError):"),
+    Edit("host/said.py", "(OSError, ValueError, AttributeError):", "(AttributeError, OSError, ValueError):"),
     Edit("host/send.py", "            tried += 1\n", "            tried = 1 + tried\n"),
     Edit("host/tty.py", "VMIN], letters[termios.VTIME] = 1, 0", "VTIME], letters[termios.VMIN] = 0, 1"),
     Edit(

@@ -49,6 +49,11 @@ def spool_of(path):
     return store
 
 
+def exported(folder, path):
+    """The status of an export out of a spool to a file."""
+    return cli.main(["export", "--store", "spool:" + folder, "-o", path, "--format", "records"])
+
+
 class Whole(HostTest):
     """Files that are written whole."""
 
@@ -70,7 +75,7 @@ class Whole(HostTest):
             one.event("T")
             one.close()
             store.close()
-            out = cli.main(["export", "--store", "spool:" + folder, "-o", self.path("short.out"), "--format", "records"])
+            out = exported(folder, self.path("short.out"))
         name = f"{found[0].number:016}-1.records"
         for path, wanted in ((os.path.join("short.d", name), BODY), ("short.out", BODY * 2),
                              ("short.capture", b"capture 2\nT\n")):
@@ -119,14 +124,14 @@ class Whole(HostTest):
         store = spool_of(folder)
         store.commit([unit("1"), unit("2")])
         store.close()
-        self.same("an export", cli.main(["export", "--store", "spool:" + folder, "-o", out, "--format", "records"]), 0)
+        self.same("an export", exported(folder, out), 0)
         name = sorted(name for name in os.listdir(os.path.join(folder, "whole")) if name.endswith("-2.about"))[0]
         os.truncate(os.path.join(folder, "whole", name), 9)
         with open(out, "rb") as file:
             before = file.read()
         self.raises("it is said", StoreError, lambda: list(open_store("spool:" + folder).messages()))
         with unittest.mock.patch.object(cli, "say") as said:
-            self.same("an export that fails", cli.main(["export", "--store", "spool:" + folder, "-o", out, "--format", "records"]), 3)
+            self.same("an export that fails", exported(folder, out), 3)
         self.has("it names the file", str(said.call_args), name)
         with open(out, "rb") as file:
             self.same("what was there stays", file.read(), before)

@@ -242,7 +242,8 @@ class Lines(HostTest):
             self.same("who was not silent for so long stays", third.asks(ENQ), ACK)
             self.true("no other has room", stack.enter_context(Client(host.port, "127.0.0.2")).is_closed())
         self.same("the host's status", host.stop(), 0)
-        self.has("it is said", host.errors[-1], "127.0.0.1: a connection without a session gives way to one of 127.0.0.2")
+        said = "127.0.0.1: a connection without a session gives way to one of 127.0.0.2"
+        self.has("it is said", host.errors[-1], said)
 
     def test_limits(self):
         """Limits on lines, on the size of a message, on silence and on the receiver's timer."""

@@ -1,4 +1,5 @@
-"""What a host says of lines with trouble: where, and which byte or code; never what a record says, and not too often."""
+"""What a host says of lines with trouble: where, and which byte or code; never what a record says, and not too
+often."""
 import time
 
 from lislink.host.notices import Notices
@@ -47,7 +48,8 @@ class Said(HostTest):
         self.true("each names its line", all(row.startswith("lislab: fire: 127.0.0.1: ") for row in rows), str(rows))
         self.true("no patient's data", NAME.decode() not in host.errors[-1])
         found = Found(host.store)
-        self.same("the reasons are kept", [f"{one.state}: {one.reason}" for one in found.others], [why for _, why in ODD])
+        reasons = [f"{one.state}: {one.reason}" for one in found.others]
+        self.same("the reasons are kept", reasons, [why for _, why in ODD])
         self.same("what can be read is whole", [one.body for one in found.whole], [b"H|\\^&\rL|1\r"])
 
     def test_a_bad_line(self):

@@ -7,8 +7,8 @@ from typing import Callable, Deque, List, NamedTuple, Optional
 
 from .store import Store, StoreError, Unit
 
-#: The most changes of one commit, if it has more than one unit; the most units that are tried again because nobody waits
-#: for them.
+#: The most changes of one commit, if it has more than one unit; the most units that are tried again because nobody
+#: waits for them.
 TOGETHER, OWED = 500, 10000
 #: How often these are tried at the end. What is still open then becomes unfinished at the next start.
 LAST_TRIES = 5

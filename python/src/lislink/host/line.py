@@ -87,7 +87,7 @@ class Line:
         self._pieces: Deque[Tuple[float, bytes]] = deque()
         self._size, self._paused_at = 0, None  # type: int, Optional[float]
         self._due: Optional[float] = None
-        #: When bytes came last, by the loop's clock; whether there was a session, and whether it makes room for another.
+        #: When bytes came last, by the loop's clock; whether there was a session; whether it makes room for another.
         self.last_byte = self._loop.time()
         self.had_session = self.gives_way = False
         self._over = 0.0

@@ -1,5 +1,5 @@
-"""What a host says of its lines' trouble: where it is and which byte or code, never what a record says; and not more of a
-line than a reader takes in."""
+"""What a host says of its lines' trouble: where it is and which byte or code, never what a record says; and not more
+of a line than a reader takes in."""
 import time
 from collections import Counter
 from typing import Callable, Dict
@@ -70,7 +70,8 @@ class Watch:
             self._accepted += 1
         elif step.note in REJECTED:
             self._rejected += 1
-            self._why = self._why or f"the first one ends at byte {self._heard + place} of the connection: {code_of(step)}"
+            ends = f"the first one ends at byte {self._heard + place} of the connection"
+            self._why = self._why or f"{ends}: {code_of(step)}"
 
     def session_over(self) -> None:
         """A session is over, or given up."""
@@ -87,7 +88,8 @@ class Watch:
     def _no_session(self) -> None:
         if self._heard and not self._sessions and not self._said:
             self._said = True
-            self._say(f"{self._heard} bytes came without an ENQ that begins a session; byte 0 is 0x{self._first[0]:02X}")
+            what = f"{self._heard} bytes came without an ENQ that begins a session"
+            self._say(f"{what}; byte 0 is 0x{self._first[0]:02X}")
 
 
 def code_of(step: Step) -> str:

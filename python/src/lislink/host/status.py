@@ -112,7 +112,8 @@ def _old(age: Optional[float]) -> str:
     """What is said of a state that isn't that of now."""
     if age is None:
         return "; there is no state that it wrote"
-    return f"; its state is {age:.0f} seconds old" if age > 0 else f"; its state is {-age:.0f} seconds ahead of the clock"
+    where = "old" if age > 0 else "ahead of the clock"
+    return f"; its state is {abs(age):.0f} seconds {where}"
 
 
 def text_of(data: Dict[str, Any]) -> str:

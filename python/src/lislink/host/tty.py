@@ -11,8 +11,8 @@ from typing import Callable, Optional, Tuple
 from .line import Line, Wire
 from .options import OptionError, Serial
 
-#: What asks Linux for the speeds of a terminal as numbers, and where they are in its answer; how far a speed may be from
-#: the one that is asked for, since a clock is divided by whole numbers.
+#: What asks Linux for the speeds of a terminal as numbers, and where they are in its answer; how far a speed may be
+#: from the one that is asked for, since a clock is divided by whole numbers.
 _TCGETS2, _SPEEDS, _NEAR = 0x802C542A, struct.Struct("=36x2I"), 0.03
 _SIZES = {"5": termios.CS5, "6": termios.CS6, "7": termios.CS7, "8": termios.CS8}
 
