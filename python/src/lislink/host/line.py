@@ -260,6 +260,7 @@ class Line:
 
     async def _put(self, part: Sequence[Change]) -> None:
         await self._committer.put(part)
+        self._over = self._loop.time() + TURN  # the others had theirs
         self._intake.kept()
         self._note_ends(part)
 
