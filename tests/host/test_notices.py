@@ -4,7 +4,7 @@ import time
 
 from lislink.host.notices import Notices
 from tests.host.hosts import Found, Host, HostTest
-from tests.host.test_lines import ACK, ENQ, EOT, NAK, Client, frames
+from tests.host.test_lines import ACK, ENQ, EOT, NAK, Client, frames, session
 
 #: A patient's name, which no line may have.
 NAME = b"SECRET"
@@ -36,10 +36,20 @@ class Said(HostTest):
         wanted.append(f"no frame was accepted in a session, 3 rejected; the first one ends at byte {len(bad)} of the "
                       "connection: SUM\n")
         with Client(host.port) as client:
+            client.asks(ENQ)
+            client.send(b"H|\\^&|" + NAME + b"\r")
+            client.send(EOT)
+        wanted.append("no frame was accepted in a session, 13 bytes came; byte 1 of the connection is 0x48\n")
+        with Client(host.port) as client:
+            self.same("empty sessions", [client.asks(ENQ + EOT) for _ in range(9)], [ACK] * 9)
+        wanted.append("5 sessions in a row had no byte after their ENQ: are the replies heard?\n")
+        with Client(host.port) as client:
             client.send(b"H|\\^&|" + NAME + b"\r")
         wanted.append("13 bytes came without an ENQ that begins a session; byte 0 is 0x48\n")
         with Client(host.port) as client:
             client.whole([b"H|\\^&\rL|1\r"])
+        with Client(host.port) as client:
+            client.asks(session([b"H|\\^&\r", *[b"C|1|I|" + b"x" * 190 + b"\r"] * 6, b"L|1\r"]), 9)
         self.same("the host's status", host.stop(), 0)
         rows = host.errors[-1].splitlines(True)
         for row in wanted:
@@ -50,7 +60,7 @@ class Said(HostTest):
         found = Found(host.store)
         reasons = [f"{one.state}: {one.reason}" for one in found.others]
         self.same("the reasons are kept", reasons, [why for _, why in ODD])
-        self.same("what can be read is whole", [one.body for one in found.whole], [b"H|\\^&\rL|1\r"])
+        self.same("what can be read is whole", [len(one.body) for one in found.whole], [10, 1192])
 
     def test_a_bad_line(self):
         """A line that is bad all the time has some lines at once, and then one now and then; the others have theirs."""

@@ -195,12 +195,12 @@ class Line:
     async def _hear(self, data: bytes, arrived: float) -> None:
         if self._tape is not None:
             self._tape.bytes(">", data)
+        self._watch.hears(data)
         self._over = self._loop.time() + TURN
         for place, step in self._receiver.hear_placed(data):
             self._watch.step(place, step)
             await self._step(step, arrived)
             await self._take_turns()
-        self._watch.bytes(data)
 
     async def _take_turns(self) -> None:
         """Lets the others, and the thread that commits, have as long a turn, if this line has had its own."""
