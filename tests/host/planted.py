@@ -152,7 +152,7 @@ FAULTS = {
     "test_out.OutOfSpool.test_delivery_to_a_directory": Edit("host/spool.py", "names[:limit]", "names[-1:]"),
     "test_out.OutOfSpool.test_export": Edit("host/spool.py", 'about["again_of"], body)', "None, body)"),
     "test_out.OutOfSpool.test_one_host": Edit(
-        "host/spool.py", "take_lock(self._path(\"host\"))", "take_lock(os.devnull)"
+        "host/spool.py", "take_lock(self._path(\"host\"))", "take_lock(self._path(f'host{os.getpid()}'))"
     ),
     "test_out.OutOfSpool.test_sending": Edit(
         "host/send.py", 'how = "done" if sent.done else f"failed: {sent.why}"', 'how = "done"'

@@ -123,7 +123,7 @@ class SpoolStore(Store):
             folders = set()
             ends = [change for unit in units for change in unit if isinstance(change, End)]
             for end in ends:
-                folders |= {OPEN, end.state, "digests"}
+                folders |= {OPEN, end.state}
                 self._end(end)
             self._sync_folders(folders)
         except OSError as error:
