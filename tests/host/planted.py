@@ -228,6 +228,9 @@ FAULTS = {
     "test_postgres.Postgres.test_start_while_another_commits": Edit(
         "host/postgresql.py", "fetchone()[0] is not None", "fetchone()[0] == 0"
     ),
+    "test_repeats.RepeatsOfSpool.test_early_mark": Edit(
+        "host/spool.py", "return None if any(map(os.path.exists, places)) else key", "return key"
+    ),
     "test_repeats.RepeatsOfSpool.test_each_write": Edit(
         "host/spool.py",
         "            self._move(end, one.about, first)\n            if first is None:\n",
@@ -244,8 +247,8 @@ FAULTS = {
     ),
     "test_repeats.RepeatsOfSpool.test_no_mark": Edit(
         "host/spool.py",
-        "if one.again_of is None and not _read_about(mark):",
-        "if one.again_of is None and _read_about(mark):",
+        "if one.again_of is None and self._first(mark) is None:",
+        "if one.again_of is None and self._first(mark):",
     ),
     "test_repeats.RepeatsOfSqlite.test_each_write": Edit(
         "host/sql.py",

@@ -187,6 +187,23 @@ class RepeatsOfSpool(EachWrite, Left, HostTest):
 
         return call
 
+    def test_early_mark(self):
+        """A mark that an earlier host wrote for a message that it then didn't keep: a repeat doesn't name it."""
+        for is_open in (True, False):
+            where = self.where()
+            store = open_store(where)
+            store.start("h")
+            store.commit([[*begun("0"), *ended("0")]])
+            folder = os.path.join(where[len("spool:") :], "digests")
+            with open(os.path.join(folder, *os.listdir(folder)), "w", encoding="ascii") as file:
+                file.write('{"key": "1"}\n')
+            store.commit([begun("1"), [] if is_open else ended("1", UNFINISHED)])
+            store.commit([[*begun("2"), *ended("2")]])
+            store.commit([[*begun("3"), *ended("3")]])
+            found = {one.key: one.again_of for one in store.messages()}
+            self.same(f"still open: {is_open}", (found["2"], found["3"]), (None, "2"))
+            store.close()
+
     def test_no_mark(self):
         """A host that died before it marked its last message, and one that marked a message before it kept it."""
         for marks, killed in ((1, False), (0, True)):

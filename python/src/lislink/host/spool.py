@@ -87,13 +87,19 @@ class SpoolStore(Store):
         with contextlib.suppress(StoreError):
             one = self._stored(WHOLE, last, self._number, key)
             mark = self._mark(one.line, hashlib.sha256(one.body).hexdigest())
-            if one.again_of is None and not _read_about(mark):
+            if one.again_of is None and self._first(mark) is None:
                 self._unmarked = mark, key
                 self._write_mark()
 
     def _mark(self, line: str, digest: str) -> str:
         """The file that names the first whole message of a line with these bytes."""
         return self._path("digests", hashlib.sha256(line.encode() + b"\0" + digest.encode()).hexdigest())
+
+    def _first(self, mark: str) -> Optional[str]:
+        """The message that a mark names; None if it isn't whole, since an earlier program marked before it kept."""
+        key = _read_about(mark).get("key")
+        places = (self._path(OPEN, str(key)), self._path(UNFINISHED, f"{key}.records"))
+        return None if any(map(os.path.exists, places)) else key
 
     def _end_open(self) -> int:
         left = self._names(OPEN)
@@ -102,13 +108,10 @@ class SpoolStore(Store):
                 body = file.read()
             about = _read_about(self._path(OPEN, key + ".about"))
             digest, line = hashlib.sha256(body).hexdigest(), str(about.get("line", ""))
-            mark = self._mark(line, digest)
-            if _read_about(mark).get("key") == key:  # an earlier program marked a message before it kept it
-                os.unlink(mark)
             self._move(End(key, line, UNFINISHED, LEFT, digest, len(body), float(about.get("began", 0))), about, None)
         for name in os.listdir(self._path(OPEN)):
             os.unlink(self._path(OPEN, name))
-        self._sync_folders({OPEN, UNFINISHED, "digests"})
+        self._sync_folders({OPEN, UNFINISHED})
         return len(left)
 
     def commit(self, units: Sequence[Unit]) -> None:
@@ -157,7 +160,7 @@ class SpoolStore(Store):
         elif end.state == WHOLE:
             self._write_mark()
             mark = self._mark(end.line, end.digest)
-            first = _read_about(mark).get("key")
+            first = self._first(mark)
             self._move(end, one.about, first)
             if first is None:
                 self._unmarked = mark, end.key
