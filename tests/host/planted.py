@@ -283,8 +283,13 @@ FAULTS = {
     "test_status.Status.test_a_state_that_cannot_be_written": Edit(
         "host/serve.py", "if why and self._said.get(path) != why:", "if why:"
     ),
+    "test_turns.Turns.test_parts": Edit(
+        "host/commits.py",
+        "one = [self._long.popleft()] if self._long else []",
+        "one = [self._long.popleft() for _ in range(len(self._long))]",
+    ),
     "test_turns.Turns.test_spool": Edit(
-        "host/line.py", "if len(part) >= self._committer.part:", "if len(part) >= 6000:"
+        "host/line.py", "if len(part) + len(changes) > self._committer.part:", "if len(part) > 6000:"
     ),
     "test_turns.Turns.test_sqlite": Edit(
         "host/line.py",

@@ -1,10 +1,13 @@
 """One line's work delays no other: texts that are long to read or to keep are taken in turns."""
+import asyncio
 import threading
 import time
+import unittest.mock
 
 from lislink import frame_bytes
+from lislink.host.commits import Committer
 from lislink.link import LONG_FRAME_TEXT
-from tests.host.hosts import Host, HostTest, wait_for
+from tests.host.hosts import Host, HostTest
 from tests.host.test_lines import ACK, ENQ, TEXTS, Client
 
 #: The longest text.
@@ -59,6 +62,27 @@ class Turns(HostTest):
     def test_spool(self):
         """The same with a spool."""
         self.is_shared("tiny messages", "spool:" + self.path("tiny"), HEAVY["tiny messages"])
+
+    def test_parts(self):
+        """A commit has one part of a long text at most, and all else that waits."""
+        commits, going = [], threading.Event()
+        store = unittest.mock.Mock(part=1)
+        store.commit.side_effect = lambda units: (commits.append(units), going.wait(5))
+
+        async def keep():
+            committer = Committer(store, unittest.mock.Mock())
+            first = committer.put(["first"])
+            while not commits:
+                await asyncio.sleep(0.01)
+            done = [committer.put([f"part {number}"], True) for number in range(3)]
+            done += [committer.put([f"text {number}"]) for number in range(3)]
+            going.set()
+            await asyncio.gather(first, *done)
+            await committer.stop()
+
+        asyncio.run(keep())
+        rest = [["text 0"], ["text 1"], ["text 2"], ["part 0"]], [["part 1"]], [["part 2"]]
+        self.same("commits", commits, [[["first"]], *rest])
 
     def is_shared(self, name, store, text):
         """Sends a text, and other sessions while it is kept."""

@@ -26,6 +26,7 @@ class Committer:
         self._store, self._say = store, say
         self._loop = asyncio.get_running_loop()
         self._waiting: Deque[_Waiting] = deque()
+        self._long: Deque[_Waiting] = deque()
         self._owed: Deque[_Waiting] = deque(maxlen=OWED)
         #: How many changes of one line are kept at once.
         self.part = store.part
@@ -36,17 +37,21 @@ class Committer:
         self._thread = threading.Thread(target=self._run, name="commits", daemon=True)
         self._thread.start()
 
-    def put(self, unit: Unit) -> "asyncio.Future[None]":
-        """Done when the unit is kept; StoreError if it can't be."""
+    def put(self, unit: Unit, is_long: bool = False) -> "asyncio.Future[None]":
+        """Done when the unit is kept; StoreError if it can't be. Of units that are parts of long texts a commit has one,
+        so that the others don't wait for all."""
         done: "asyncio.Future[None]" = self._loop.create_future()
-        self._waiting.append(_Waiting(unit, done))
+        self._queue(is_long).append(_Waiting(unit, done))
         self._wake.set()
         return done
 
-    def put_later(self, unit: Unit) -> None:
+    def put_later(self, unit: Unit, is_long: bool = False) -> None:
         """Keeps a unit that nobody waits for; if it can't be kept now, with a later commit."""
-        self._waiting.append(_Waiting(unit, None))
+        self._queue(is_long).append(_Waiting(unit, None))
         self._wake.set()
+
+    def _queue(self, is_long: bool) -> Deque[_Waiting]:
+        return self._long if is_long else self._waiting
 
     async def stop(self) -> None:
         """Keeps what is still waiting, and ends the thread."""
@@ -59,9 +64,10 @@ class Committer:
         while True:
             self._wake.wait()
             self._wake.clear()
-            while self._waiting:
-                self._keep(_some_of(self._waiting))
-            if self._stopping and not self._waiting:
+            while self._waiting or self._long:
+                one = [self._long.popleft()] if self._long else []
+                self._keep([*_some_of(self._waiting), *one])
+            if self._stopping and not self._waiting and not self._long:
                 self._keep_the_rest()
                 return
 
@@ -108,9 +114,9 @@ class Committer:
 
 def _some_of(queue: Deque[_Waiting]) -> List[_Waiting]:
     """Takes what goes into one commit from a queue, to which others may add meanwhile."""
-    batch = [queue.popleft()]
-    size = len(batch[0].unit)
-    while queue and size + len(queue[0].unit) <= TOGETHER:
+    batch: List[_Waiting] = []
+    size = 0
+    while queue and (not batch or size + len(queue[0].unit) <= TOGETHER):
         batch.append(queue.popleft())
         size += len(batch[-1].unit)
     return batch

@@ -65,6 +65,19 @@ class Wire:
         """Reads on."""
 
 
+class Turns:
+    """Lines with much work go on one after another, with a pause in which the others, and the thread that commits, have
+    as long a turn."""
+
+    def __init__(self) -> None:
+        self._next = asyncio.Lock()
+
+    async def wait(self) -> None:
+        """Done when it is a line's turn again."""
+        async with self._next:
+            await asyncio.sleep(TURN)
+
+
 class Line:
     """A line that is connected."""
 
@@ -77,10 +90,11 @@ class Line:
         counts: "Counter[str]",
         tape: Optional[Tape],
         frame: int,
-        say: Callable[[str], None] = lambda text: None,
+        say: Callable[[str], None],
+        turns: Turns,
     ) -> None:
         self._wire, self._intake, self._committer, self._limits = wire, intake, committer, limits
-        self._counts, self._tape, self._say = counts, tape, say
+        self._counts, self._tape, self._say, self._turns = counts, tape, say, turns
         self._watch = Watch(say)
         self._loop = asyncio.get_running_loop()
         self._receiver = Receiver(frame_limit=frame)
@@ -90,7 +104,8 @@ class Line:
         #: When bytes came last, by the loop's clock; whether there was a session; whether it makes room for another.
         self.last_byte = self._loop.time()
         self.had_session = self.gives_way = False
-        self._over = 0.0
+        #: When its turn is over, and whether a text is kept in parts.
+        self._over, self._is_long = 0.0, False
         self._lost = self._stopping = False
         self._waiter: "Optional[asyncio.Future[None]]" = None
         #: When its last message was kept, by the clock on the wall.
@@ -203,9 +218,9 @@ class Line:
             await self._take_turns()
 
     async def _take_turns(self) -> None:
-        """Lets the others, and the thread that commits, have as long a turn, if this line has had its own."""
+        """Lets the others have their turn, if this line has had its own."""
         if self._loop.time() > self._over:
-            await asyncio.sleep(TURN)
+            await self._turns.wait()
             self._over = self._loop.time() + TURN
 
     async def _step(self, step: Step, arrived: float) -> None:
@@ -238,6 +253,7 @@ class Line:
             await self._keep_in_parts(text)
         except (StoreError, TooLong) as error:
             self._counts["not_kept"] += 1
+            self._is_long = False
             undone = self._intake.undo(f"a text could not be kept: {error}")
             if undone:
                 self._committer.put_later(undone)
@@ -250,16 +266,18 @@ class Line:
         """Keeps a text, one part of its changes after another: however many they are, no other line waits for all."""
         part: List[Change] = []
         for changes in self._intake.take(text):
-            _join(part, changes)
-            if len(part) >= self._committer.part:
+            if len(part) + len(changes) > self._committer.part:
+                self._is_long = True
                 await self._put(part)
                 part = []
+            _join(part, changes)
             await self._take_turns()
         if part:
             await self._put(part)
+        self._is_long = False
 
     async def _put(self, part: Sequence[Change]) -> None:
-        await self._committer.put(part)
+        await self._committer.put(part, self._is_long)
         self._over = self._loop.time() + TURN  # the others had theirs
         self._intake.kept()
         self._note_ends(part)
@@ -287,7 +305,7 @@ class Line:
     def _drop(self, reason: str) -> None:
         changes = self._intake.drop(reason)
         if changes:
-            self._committer.put_later(changes)
+            self._committer.put_later(changes, self._is_long)
             self._note_ends(changes)
 
 

@@ -15,7 +15,7 @@ from typing import Any, Dict, List, NamedTuple, Optional, Sequence, Set
 from .commits import Committer
 from .files import write_whole
 from .intake import Intake
-from .line import Line, Ticks, Wire
+from .line import Line, Ticks, Turns, Wire
 from .notices import Notices
 from .options import Limits, Listen, Network, OptionError, Serial, is_allowed
 from .said import announce, say
@@ -48,6 +48,7 @@ class Host:
         self.asked, self.limits = asked, asked.limits
         self.notices = Notices(say)
         self.committer = Committer(store, functools.partial(self.notices.say, "store"))
+        self.turns = Turns()
         self.ticks = Ticks(max(0.02, self.limits.reply * self.limits.scale / 40))
         self.counts: Dict[str, "Counter[str]"] = {}
         self.last: Dict[str, float] = {}
@@ -70,7 +71,8 @@ class Host:
         counts["connections"] += 1
         intake = Intake(place.name, peer, place.encoding, self.limits.message, time.time)
         notice = functools.partial(self._notice, place.name, peer)
-        line = Line(wire, intake, self.committer, self.limits, counts, self._tape(place.name), place.frame, notice)
+        tape = self._tape(place.name)
+        line = Line(wire, intake, self.committer, self.limits, counts, tape, place.frame, notice, self.turns)
         task = asyncio.ensure_future(line.run())
         self.lines[line], self._names[line] = task, place.name
         task.add_done_callback(lambda done: self._over(line, done))
