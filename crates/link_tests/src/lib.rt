@@ -24,6 +24,8 @@ mod scanning;
 #[cfg(test)]
 mod splitting;
 #[cfg(test)]
+mod station;
+#[cfg(test)]
 mod text;
 #[cfg(test)]
 mod without_memory;
