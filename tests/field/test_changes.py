@@ -167,6 +167,12 @@ class Changes(FieldTest):
             ran = lislab("normalize", option, data=data)
             self.same(f"{name}: status of {option} {ran.error}", ran.status, 0)
 
+    def test_bad_headers(self):
+        """Delimiters that no header may have are rejected, and the results are still compared."""
+        for head in (b"H|\\^ ", b"H|a^&", b"H||^&", b"H|\\^\x7f", b"H|", b"H"):
+            ran = lislab("normalize", "--all", data=GOOD.replace(b"H|\\^&", head).replace(b"5.4", b"a b\x7fc&S&"))
+            self.same(f"a header {head!r}: {ran.error[-80:]}", ran.status, 1)
+
     def test_samples(self):
         """No change that `--all` makes in a sample changes a result, and a sample that is read stays as it is."""
         paths = glob.glob(os.path.join(ROOT, "samples", "**", "*.records"), recursive=True)

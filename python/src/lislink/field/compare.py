@@ -1,5 +1,7 @@
 """What a change of a file of records does to its results: they are compared by their fields, before and after."""
+import bisect
 import re
+import string
 from collections import Counter
 from typing import Iterator, List, NamedTuple, Optional, Tuple
 
@@ -52,7 +54,7 @@ def _delimiters(header: bytes) -> Optional[bytes]:
         return b"|~^\\"
     mark = header[1:2]
     four = header[1:4] if header[4:5] in (mark, b"") else header[1:5]
-    return four if len(set(four)) == len(four) >= 3 and not any(48 <= one < 58 for one in four) else None
+    return four if len(set(four)) == len(four) >= 3 and all(chr(one) in string.punctuation for one in four) else None
 
 
 def _pieces(data: bytes) -> Iterator[Tuple[int, bytes]]:
@@ -111,7 +113,7 @@ def results_after(data: bytes) -> List[Placed]:
 
 
 def changes_of_results(before: bytes, after: bytes) -> Iterator[Tuple[int, str]]:
-    """Each result that is gone, changed or new: the place in the plain bytes before, and what became of it."""
+    """Each result that is gone, changed or new: its line, or 0, and what became of it."""
     seen, left = results_before(before), results_after(after)
     gone = Counter(one.result for one in seen) - Counter(one.result for one in left)
     new = Counter(one.result for one in left) - Counter(one.result for one in seen)
@@ -120,12 +122,12 @@ def changes_of_results(before: bytes, after: bytes) -> Iterator[Tuple[int, str]]
             yield 0, "the results are in another order"
         return
     others = [one for one in left if new[one.result] > 0 and not new.subtract([one.result])]
-    plain, number = _plain(before), 0
+    ends, number = [one.end() for one in re.finditer(rb"\r\n|\r|\n", _plain(before))], 0
     for one in seen:
         if gone[one.result] <= 0:
             continue
         gone[one.result] -= 1
-        line = len(re.findall(rb"\r\n|\r|\n", plain[: one.place])) + 1
+        line = bisect.bisect_right(ends, one.place) + 1
         if number < len(others):
             yield line, _difference(one, others[number])
             number += 1
