@@ -225,7 +225,8 @@ def _escaped(work: Work, records: List[Record]) -> Iterator[Record]:
         found = _NO_TEXT.findall(record[1:])
         if found and record[:1].isalpha() and work.wants("escape", number):
             shown = ", ".join(words(one) for one in sorted(set(found)))
-            work.tell(number, f"bytes that no record holds were escaped: {shown}, {len(found)} times")
+            times = f", {len(found)} times" if len(found) > 1 else ""
+            work.tell(number, f"bytes that no record holds were escaped: {shown}{times}")
             record = _NO_TEXT.sub(lambda one: escape + b"X%02X" % one[0][0] + escape, record)
         yield number, record, end
 
