@@ -38,8 +38,8 @@ class Committer:
         self._thread.start()
 
     def put(self, unit: Unit, is_long: bool = False) -> "asyncio.Future[None]":
-        """Done when the unit is kept; StoreError if it can't be. Of units that are parts of long texts a commit has one,
-        so that the others don't wait for all."""
+        """Done when the unit is kept; StoreError if it can't be. Of units that are parts of long texts a commit has
+        one, so that the others don't wait for all."""
         done: "asyncio.Future[None]" = self._loop.create_future()
         self._queue(is_long).append(_Waiting(unit, done))
         self._wake.set()

@@ -230,7 +230,7 @@ class Host:
         """Writes the state, and says once if that can't be done. A slow disk delays no line."""
         work = functools.partial(write_state, path, self.state())
         why = await asyncio.get_running_loop().run_in_executor(self._writer, work)
-        if why and self._said.get(path) != why:
+        if why and not self._said.get(path):
             say(f"the state can't be written: {why}")
         self._said[path] = why
 
