@@ -233,9 +233,8 @@ FAULTS = {
     ),
     "test_repeats.RepeatsOfSpool.test_each_write": Edit(
         "host/spool.py",
-        "            self._move(end, one.about, first)\n            if first is None:\n",
-        '            if first is None:\n                _write_about(mark, {"key": end.key})\n'
-        "            self._move(end, one.about, first)\n            if first is None:\n",
+        "        elif end.state == WHOLE:\n            self._write_mark()\n",
+        "        elif end.state == WHOLE:\n",
     ),
     "test_repeats.RepeatsOfSpool.test_left_open": Edit(
         "host/spool.py", "left = [] if self.is_held() else", "left = [] if not self.is_held() else"
@@ -318,6 +317,13 @@ HARMLESS = (
         "        one.digest.update(body)\n        one.size += len(body)\n        one.places += 1\n",
     ),
     Edit("host/serve.py", "            host.refused += 1\n", "            host.refused = 1 + host.refused\n"),
+    Edit(
+        "host/notices.py",
+        '        self._accepted = self._rejected = 0\n        self._why = ""\n\n    def _without',
+        '        self._why = ""\n        self._rejected = self._accepted = 0\n\n    def _without',
+    ),
+    Edit("host/line.py", "if len(part) + len(changes) > self", "if len(changes) + len(part) > self"),
+    Edit("host/spool.py", "any(map(os.path.exists, places))", "list(filter(os.path.exists, places))"),
     Edit("host/said.py", "(OSError, ValueError, AttributeError):", "(AttributeError, OSError, ValueError):"),
     Edit("host/send.py", "            tried += 1\n", "            tried = 1 + tried\n"),
     Edit("host/tty.py", "VMIN], letters[termios.VTIME] = 1, 0", "VTIME], letters[termios.VMIN] = 0, 1"),
