@@ -3,7 +3,7 @@
 
 use lis_frame::frame_bytes;
 use lis_link::{EmitOf, Outcome};
-use lis_station::{AnswerOf, Role, Station, StationFault};
+use lis_station::{AnswerOf, HearingOf, Role, Station, StationFault};
 use lis_text::{ACK, ENQ, EOT, NAK, Texts};
 use std::alloc::Global;
 use std::process::Abort;
@@ -28,13 +28,13 @@ fn assert_replies(rt: &impl Abort, station: &mut Station, byte: u8, want: Option
     assert!(rt; step.reply == want);
 }
 
-/// Fails where the receiver hears no frame, or replies otherwise to the frame of the text A.
-fn assert_replies_to_frame(rt: &impl Abort, station: &mut Station, want: u8) {
-    let heard = station.bytes(FRAME);
-    let AnswerOf::Hears(step) = heard.answer else {
+/// Fails where the receiver doesn't hear all of these bytes, or replies otherwise.
+fn assert_hears(rt: &impl Abort, station: &mut Station, bytes: &[u8], want: Option<u8>) {
+    let HearingOf { count, answer } = station.bytes(bytes);
+    let AnswerOf::Hears(step) = answer else {
         panic!(rt; "a reply is awaited");
     };
-    assert!(rt; heard.count == FRAME.len() && step.reply == Some(want));
+    assert!(rt; count == bytes.len() && step.reply == want);
 }
 
 /// Fails where the sender doesn't send the frame of the text A at this reply.
@@ -63,7 +63,7 @@ fn each_side_sends_in_its_turn(rt: HostRuntime) {
     let refused = computer.start(texts).err().expect(&rt, "the line is open");
     assert!(rt; refused.fault == StationFault::LineOpen && refused.texts.len() == 1);
     assert_sends_frame(&rt, &mut analyzer, ACK);
-    assert_replies_to_frame(&rt, &mut computer, ACK);
+    assert_hears(&rt, &mut computer, FRAME, Some(ACK));
     assert_emits(&rt, &mut analyzer, ACK, EmitOf::Eot);
     assert!(rt; matches!(analyzer.sender().outcome(), Some(Outcome::Done)));
     assert!(rt; analyzer.timer_seconds().is_none() && analyzer.turn_seconds().is_none());
@@ -86,7 +86,7 @@ fn the_analyzer_goes_first_in_contention(rt: HostRuntime) {
     assert!(rt; analyzer.timer() == AnswerOf::Emits(EmitOf::Enq));
     assert_replies(&rt, &mut computer, ENQ, Some(ACK));
     assert_sends_frame(&rt, &mut analyzer, ACK);
-    assert_replies_to_frame(&rt, &mut computer, ACK);
+    assert_hears(&rt, &mut computer, FRAME, Some(ACK));
     assert_emits(&rt, &mut analyzer, ACK, EmitOf::Eot);
     assert_replies(&rt, &mut computer, EOT, None);
     assert!(rt; computer.timer_seconds() == Some(0) && analyzer.turn_seconds() == Some(15));
@@ -105,11 +105,11 @@ fn a_turn_is_asked_for_by_the_end_of_transmission(rt: HostRuntime) {
     assert_replies(&rt, &mut computer, ENQ, Some(ACK));
     computer.ask_turn();
     assert_sends_frame(&rt, &mut analyzer, ACK);
-    assert_replies_to_frame(&rt, &mut computer, EOT);
+    assert_hears(&rt, &mut computer, FRAME, Some(EOT));
     assert!(rt; !analyzer.turn_asked());
     assert_sends_frame(&rt, &mut analyzer, EOT);
     assert!(rt; analyzer.turn_asked() && analyzer.turn_seconds() == Some(15));
-    assert_replies_to_frame(&rt, &mut computer, ACK);
+    assert_hears(&rt, &mut computer, FRAME, Some(ACK));
     assert_emits(&rt, &mut analyzer, ACK, EmitOf::Eot);
     assert!(rt; matches!(analyzer.sender().outcome(), Some(Outcome::Done)));
 }
@@ -121,20 +121,8 @@ fn a_frame_that_is_refused_leaves_the_request(rt: HostRuntime) {
     computer.ask_turn();
     assert_replies(&rt, &mut computer, ENQ, Some(ACK));
     computer.ask_turn();
-    let bad = computer.bytes(b"\x021A\x0376\r\n");
-    let AnswerOf::Hears(step) = bad.answer else {
-        panic!(&rt; "a reply is awaited");
-    };
-    assert!(rt; step.reply == Some(NAK));
-    assert_replies_to_frame(&rt, &mut computer, EOT);
+    assert_hears(&rt, &mut computer, b"\x021A\x0376\r\n", Some(NAK));
+    assert_hears(&rt, &mut computer, FRAME, Some(EOT));
     computer.restart();
-    assert_replies_to_frame_unheard(&rt, &mut computer);
-}
-
-/// Fails where the receiver replies to the frame of the text A.
-fn assert_replies_to_frame_unheard(rt: &impl Abort, station: &mut Station) {
-    let AnswerOf::Hears(step) = station.bytes(FRAME).answer else {
-        panic!(rt; "a reply is awaited");
-    };
-    assert!(rt; step.reply.is_none());
+    assert_hears(&rt, &mut computer, FRAME, None);
 }

@@ -1,3 +1,22 @@
--- Why a station answers as its table says, and keeps its law.
+-- Why a station answers as its table says, and why it keeps its laws.
 pub mod Exclusive
 pub mod Answering
+pub mod Shadow
+pub mod Directions
+pub mod NearEvents
+pub mod Hearing
+pub mod FarUnits
+pub mod PutOff
+pub mod InTurn
+pub mod Unheard
+pub mod Swallowed
+pub mod Reached
+pub mod Arrived
+pub mod UnitBytes
+pub mod Noise
+pub mod Awaited
+pub mod Damaged
+pub mod Both
+pub mod Events
+pub mod TwoWayLaw
+pub mod LineRows
