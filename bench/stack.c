@@ -15,6 +15,8 @@ static const uint8_t message[] = "H|\\^&\rP|1\rO|1|S7\rR|1|^^^GLU|5.4|mmol/L\rL|
 static lis_scanner scanner;
 static lis_sender sender;
 static lis_receiver receiver;
+static lis_station station;
+static lis_answer answer;
 static lis_reader reader;
 static lis_writer writer;
 static lis_bytes bytes;
@@ -41,6 +43,15 @@ static void sender_timer(void) { lis_sender_timer(&sender, &bytes); }
 static void receiver_hear(void) {
     for (size_t at = 0; at < sizeof session - 1;)
         at += lis_receiver_hear(&receiver, session + at, sizeof session - 1 - at, &step);
+}
+static void station_hear(void) {
+    for (size_t at = 0; at < sizeof session - 1;)
+        at += lis_station_hear(&station, session + at, sizeof session - 1 - at, &answer);
+}
+static void station_reply(void) {
+    lis_station_add_text(&station, (const uint8_t *)"P|1\r", 4);
+    lis_station_start(&station, &bytes, &place);
+    lis_station_byte(&station, 0x06, &answer);
 }
 static void reader_read(void) {
     for (size_t at = 0; at < sizeof message - 1;) {
@@ -87,11 +98,13 @@ int main(void) {
     static const struct { const char *name; void (*call)(void); } calls[] = {
         {"scanner", scanner_feed},         {"sender: a text", sender_add_text}, {"sender: start", sender_start},
         {"sender: a reply", sender_reply}, {"sender: the timer", sender_timer}, {"receiver", receiver_hear},
-        {"reader", reader_read},           {"a header", record_read},           {"writer", writer_put},
+        {"station", station_hear},         {"station: a reply", station_reply}, {"reader", reader_read},
+        {"a header", record_read},         {"writer", writer_put},
     };
     lis_scanner_init((scanner.at = block(lis_scanner_size())));
     lis_sender_init((sender.at = block(lis_sender_size())));
     lis_receiver_init((receiver.at = block(lis_receiver_size())));
+    lis_station_init((station.at = block(lis_station_size())));
     lis_reader_init((reader.at = block(lis_reader_size())));
     lis_writer_init((writer.at = block(lis_writer_size())));
     size_t least = depth(nothing);

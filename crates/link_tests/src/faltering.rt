@@ -61,6 +61,16 @@ fn a_write_that_fails_is_reported_once(rt: HostRuntime) {
 }
 
 #[test]
+fn a_write_that_takes_nothing_is_reported_as_an_error(rt: HostRuntime) {
+    let mut room = [0; 1];
+    let mut writer = Once::new(room.as_mut_slice());
+    assert!(rt; matches!(writer.write(b"ab"), Ok(1)));
+    assert!(rt; matches!(writer.write(b""), Ok(0)));
+    let refused = writer.write(b"b");
+    assert!(rt; refused.is_err_and(|error| error.kind() == ErrorKind::WriteZero));
+}
+
+#[test]
 fn a_flush_that_fails_is_reported_once(rt: HostRuntime) {
     for (kind, reported) in &REPORTED {
         let mut room = [0; 4];

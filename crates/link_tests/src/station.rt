@@ -126,3 +126,12 @@ fn a_frame_that_is_refused_leaves_the_request(rt: HostRuntime) {
     computer.restart();
     assert_hears(&rt, &mut computer, FRAME, None);
 }
+
+#[test]
+fn a_line_that_is_closed_may_be_asked_for_again(rt: HostRuntime) {
+    let mut station = Station::new(rt.alloc(), Role::Computer);
+    assert_replies(&rt, &mut station, ENQ, Some(ACK));
+    station.close_line();
+    assert_hears(&rt, &mut station, FRAME, None);
+    assert_replies(&rt, &mut station, ENQ, Some(ACK));
+}

@@ -1,7 +1,7 @@
 -- What is in a block of the caller's, whatever it is, is begun there, borrowed, and released: a walk for `_init`, one
 -- for `borrow` and one for `_end`.
--- Each begins with the function's code and contract over a handle, which those of the five handles are by
--- computation. So a change of one of these functions is a change of all five.
+-- Each begins with the function's code and contract over a handle, which those of the six handles are by
+-- computation. So a change of one of these functions is a change of all six.
 use Rattle.lis_c.specs.New.{IsNew}
 use Rattle.std.proofs.Common.{◌≡◌, ℕ, List, [], ◌∷◌, refl, sym, ap, ◌∙◌}
 use Rattle.std.proofs.VecSteps.Shapes.{after}

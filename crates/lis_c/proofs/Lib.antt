@@ -5,4 +5,5 @@ pub mod Handles
 pub mod NextLaws
 pub mod RecordLaws
 pub mod SignalLaws
+pub mod StationLaws
 pub mod StepLaws

@@ -11,6 +11,7 @@ pub mod Parts
 pub mod Reading
 pub mod Records
 pub mod Signals
+pub mod Stations
 pub mod Status
 pub mod Steps
 pub mod Writing

@@ -2,4 +2,5 @@
 pub mod Feeding
 pub mod Reports
 pub mod Signals
+pub mod Stations
 pub mod Steps

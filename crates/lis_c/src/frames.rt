@@ -1,14 +1,16 @@
 //! Frames for programs in C.
 
-ghost use Rattle.std.specs.Prelude.{◌≡◌, ◌≢◌, ◌++◌, drop, length};
+ghost use Rattle.std.specs.Prelude.{◌≡◌, ◌≢◌, ◌+◌, ◌/◌, ◌%◌, ◌≤◌, ◌<◌, ◌++◌, [], ◌∷◌, drop, length};
 ghost use Rattle.lis_c.specs.Emitted.{HoldsBytes};
 ghost use Rattle.lis_c.specs.Status.{OK, frame_status, long_frame_status, text_place};
-ghost use Rattle.lis_frame.specs.Frame.{frame_bytes};
+ghost use Rattle.lis_frame.specs.Frame.{checksum, end_byte, frame_bytes, upper_digit};
+ghost use Rattle.lis_text.specs.Control.{CR, LF};
 ghost use Rattle.lis_text.specs.Text.{text_fault};
 
-use crate::out::{LisBytes, copy_text, put};
+use crate::out::{LisBytes, put};
 use crate::status::{self, text_place, text_status};
-use lis_frame::{Frame, FrameOf, Text, TextOf, frame_bytes, frame_bytes_of};
+use lis_frame::{Frame, Text, frame_bytes};
+use lis_text::{CR, ETB, ETX, LF, STX, check_bytes, sum_of};
 
 /// Writes a frame (LIS01-A2, 6.3). `OK`; `TOO_LONG` or `FORBIDDEN`, with the byte's place, where the text is invalid;
 /// `BAD_NUMBER` where the number is over 7. Where it isn't `OK` nothing is written. It takes no memory.
@@ -43,6 +45,7 @@ pub extern "C" fn lis_frame_write(
     }
 }
 
+#[tactic(auto, unfolding(lis_frame::specs::Frame::frame_bytes))]
 /// Writes a frame whose text has up to 63,993 bytes to the front of a buffer. `OK`; `TOO_LONG` or `FORBIDDEN`, with the
 /// byte's place, if the text can't be sent; `BAD_NUMBER` if the number is over 7; `TOO_SHORT` if the frame is longer
 /// than the buffer. If it isn't `OK` nothing is written. It takes no memory.
@@ -66,19 +69,59 @@ pub extern "C" fn lis_long_frame_write(
 {
     *size = 0;
     *place = 0;
-    let text = match TextOf::<63_993>::from_slice(text) {
-        Ok(text) => text,
-        Err(fault) => {
-            *place = text_place(fault);
-            return text_status(fault);
-        }
-    };
-    let Some(frame) = FrameOf::new(number, last, text) else {
+    if let Err(fault) = check_bytes(text, 63_993) {
+        *place = text_place(fault);
+        return text_status(fault);
+    }
+    if number > 7 {
         return status::BAD_NUMBER;
-    };
-    copy_text(
-        frame_bytes_of::<63_993, 64_000>(&frame).as_slice(),
-        out,
-        size,
-    )
+    }
+    if text.len() + 7 > out.len() {
+        return status::TOO_SHORT;
+    }
+    put_frame(number, last, text, out);
+    *size = text.len() + 7;
+    status::OK
+}
+
+#[tactic(auto, unfolding(lis_frame::specs::Frame::frame_bytes))]
+/// Puts the bytes of a frame to the front of a buffer that has room for them. None of them is on the stack, which could
+/// be too small for a long frame.
+fn put_frame(number: u8, last: bool, text: &[u8], out: &mut [u8])
+    requires number { number ≤ 7 }
+    requires limit { length text.now ≤ 63993 }
+    requires room { length text.now + 7 ≤ length out.old }
+    ensures { out.new ≡ frame_bytes (record { number = number; last = last; text = text.now })
+        ++ drop (length text.now + 7) out.old }
+{
+    let (frame, _) = out.split_at_mut(text.len() + 7);
+    let (head, rest) = frame.split_at_mut(2);
+    let (body, tail) = rest.split_at_mut(text.len());
+    head.copy_from_slice(&[STX, b'0' + number]);
+    body.copy_from_slice(text);
+    tail.copy_from_slice(&tail_bytes(number, last, text));
+}
+
+/// What is after a frame's text: the end byte, the checksum in two upper-case digits, CR and LF.
+fn tail_bytes(number: u8, last: bool, text: &[u8]) -> [u8; 5]
+    requires { number ≤ 7 }
+    ensures { result ≡ end_byte last
+        ∷ upper_digit (checksum (record { number = number; last = last; text = text.now }) / 16)
+        ∷ upper_digit (checksum (record { number = number; last = last; text = text.now }) % 16) ∷ CR ∷ LF ∷ [] }
+{
+    let end = if last { ETX } else { ETB };
+    let sum = (b'0' + number).wrapping_add(sum_of(text)).wrapping_add(end);
+    [end, upper_digit(sum / 16), upper_digit(sum % 16), CR, LF]
+}
+
+/// A hexadecimal digit in upper case.
+fn upper_digit(value: u8) -> u8
+    requires { value < 16 }
+    ensures { result ≡ upper_digit value }
+{
+    if value < 10 {
+        b'0' + value
+    } else {
+        b'A' + (value - 10)
+    }
 }

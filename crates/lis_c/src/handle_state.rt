@@ -102,17 +102,7 @@ impl SenderHandleState {
         ensures refused { result ≢ OK → self.new ≡ self.old }
         ensures status { AddStatus result (length self.old.texts) }
     {
-        if self.texts.len() >= MOST_TEXTS {
-            return status::FULL;
-        }
-        let mut text = List::new(self.alloc);
-        if let Err(_) = text.extend(bytes) {
-            return status::OUT_OF_MEMORY;
-        }
-        match self.texts.push(text) {
-            Ok(()) => status::OK,
-            Err(_) => status::OUT_OF_MEMORY,
-        }
+        add_text(&mut self.texts, self.alloc, bytes)
     }
 
     /// Releases the texts of the next session.
@@ -249,8 +239,27 @@ impl ReceiverHandleState {
     }
 }
 
+/// Puts a copy of a text after others; where it is rejected they are as before.
+pub(crate) fn add_text(texts: &mut Texts, alloc: Global, bytes: &[u8]) -> u8
+    ensures added { result ≡ OK → texts.new ≡ texts.old ++ bytes.now ∷ [] }
+    ensures refused { result ≢ OK → texts.new ≡ texts.old }
+    ensures status { AddStatus result (length texts.old) }
+{
+    if texts.len() >= MOST_TEXTS {
+        return status::FULL;
+    }
+    let mut text = List::new(alloc);
+    if let Err(_) = text.extend(bytes) {
+        return status::OUT_OF_MEMORY;
+    }
+    match texts.push(text) {
+        Ok(()) => status::OK,
+        Err(_) => status::OUT_OF_MEMORY,
+    }
+}
+
 /// The code of what a step meant.
-fn note_code(note: Note) -> u8
+pub(crate) fn note_code(note: Note) -> u8
     ensures { result ≡ note_code note }
 {
     match note {
@@ -271,7 +280,7 @@ fn note_code(note: Note) -> u8
 }
 
 /// The number or the code of the fault that goes with it; 0 where none does.
-fn note_detail(note: Note) -> u8
+pub(crate) fn note_detail(note: Note) -> u8
     ensures { result ≡ note_detail note }
 {
     match note {
@@ -282,7 +291,7 @@ fn note_detail(note: Note) -> u8
 }
 
 /// The place of the byte that no text may hold; 0 where none is at fault.
-fn note_place(note: Note) -> usize
+pub(crate) fn note_place(note: Note) -> usize
     ensures { result ≡ note_place note }
 {
     match note {

@@ -19,5 +19,8 @@ mod scanner;
 mod scanning;
 mod sender;
 mod sending;
+mod station;
+mod station_state;
+mod stationing;
 mod status;
 mod writer;

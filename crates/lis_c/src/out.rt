@@ -88,6 +88,16 @@ pub struct LisStep {
     pub place: usize,
 }
 
+/// What a station answers: whether it is a step of its receiver; what goes on the link, which is the step's reply, or
+/// what the sender emits; and the step, which else is nothing: 0.
+#[repr(C)]
+#[derive(Drop)]
+pub struct LisAnswer {
+    pub is_step: bool,
+    pub send: LisBytes,
+    pub step: LisStep,
+}
+
 /// The code of a frame's fault.
 pub(crate) fn fault_code(fault: FrameFault) -> u8
     ensures { result ≡ fault_code fault }

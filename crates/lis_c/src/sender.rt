@@ -266,7 +266,14 @@ pub extern "C" fn lis_sender_phase(s: &mut LisSender) -> u8
     ensures value { result ≡ phase_code (sender_state s.old.state.sender).phase }
     ensures same { s.new.state ≡ s.old.state }
 {
-    match s.borrow().sender.phase() {
+    phase_code(s.borrow().sender.phase())
+}
+
+/// The number of a phase.
+pub(crate) fn phase_code(phase: Phase) -> u8
+    ensures { result ≡ phase_code phase }
+{
+    match phase {
         Phase::Neutral => 0,
         Phase::AwaitLine => 1,
         Phase::Busy => 2,
@@ -281,7 +288,14 @@ pub extern "C" fn lis_sender_outcome(s: &mut LisSender) -> u8
     ensures value { result ≡ outcome_code (sender_state s.old.state.sender).outcome }
     ensures same { s.new.state ≡ s.old.state }
 {
-    match s.borrow().sender.outcome() {
+    outcome_code(s.borrow().sender.outcome())
+}
+
+/// The number of how a session ended; 0 if it has not.
+pub(crate) fn outcome_code(outcome: Option<Outcome>) -> u8
+    ensures { result ≡ outcome_code outcome }
+{
+    match outcome {
         None => 0,
         Some(Outcome::Done) => 1,
         Some(Outcome::TimedOut) => 2,

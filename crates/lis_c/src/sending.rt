@@ -12,7 +12,7 @@ use crate::borrowed::OwnOrCallerTexts;
 use crate::out::{LisBytes, copy_text, put_emit};
 use crate::status;
 use lis_frame::frame_bytes_of;
-use lis_link::{Outcome, Phase, SenderOver, StartRefusedOf};
+use lis_link::{Outcome, Phase, SenderOver, SessionTexts, StartRefusedOf};
 
 /// A sender of either limit.
 #[derive(Drop)]
@@ -101,8 +101,12 @@ impl AnySender {
         ensures { FrameCopied (awaited (sender_state self.now)) result out.old out.new size.new }
     {
         match self {
-            AnySender::Usual(sender) => copy_awaited::<240, 247>(sender, out, size),
-            AnySender::Long(sender) => copy_awaited::<63_993, 64_000>(sender, out, size),
+            AnySender::Usual(sender) => copy_awaited::<240, 247, OwnOrCallerTexts>(
+                sender, out, size,
+            ),
+            AnySender::Long(sender) => {
+                copy_awaited::<63_993, 64_000, OwnOrCallerTexts>(sender, out, size)
+            }
         }
     }
 
@@ -157,8 +161,8 @@ fn timer_long(sender: &mut SenderOver<63_993, OwnOrCallerTexts>, out: &mut LisBy
 
 /// Copies the frame that awaits its reply to the front of a buffer.
 #[inline(never)]
-fn copy_awaited<const N: usize, const B: usize>(
-    sender: &SenderOver<N, OwnOrCallerTexts>,
+pub(crate) fn copy_awaited<const N: usize, const B: usize, T: SessionTexts>(
+    sender: &SenderOver<N, T>,
     out: &mut [u8],
     size: &mut usize,
 ) -> u8

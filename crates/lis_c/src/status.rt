@@ -41,6 +41,9 @@ pub(crate) const PUT_NO_PARENT: u8 = 15;
 /// The message has its header.
 pub(crate) const PUT_SECOND_HEADER: u8 = 16;
 
+/// The other side has the line. (17 is that of a connection on which no session starts, which plain C answers.)
+pub(crate) const LINE_OPEN: u8 = 18;
+
 /// The status of bytes that are no text.
 pub(crate) fn text_status(fault: TextFault) -> u8
     ensures { result ≡ text_status (Some fault) }

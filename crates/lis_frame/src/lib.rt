@@ -21,4 +21,4 @@ pub use read::{read_frame, read_frame_of};
 pub use scanner::{Heard, Scanner, ScannerOf, Signal, SignalOf};
 pub use split::{Frames, FramesOf, next_number, split_all, split_all_of, split_at, split_at_of};
 pub use text::{Text, TextOf};
-pub use write::{frame_bytes, frame_bytes_of, put_frame};
+pub use write::{frame_bytes, frame_bytes_of, frame_tail, put_frame};

@@ -1,6 +1,6 @@
 //! The scanner: bytes of the link in, signals out (LIS01-A2, 6.2 to 6.5).
 
-ghost use Rattle.std.specs.Prelude.{◌≡◌, ◌+◌, ◌≤◌, ℕ, List, [], ◌∷◌, Some, IfNone, IfSome, length, take};
+ghost use Rattle.std.specs.Prelude.{◌≡◌, ◌+◌, ◌≤◌, ℕ, List, [], ◌∷◌, Some, IfNone, IfSome, length, nat_le, take};
 ghost use Rattle.lis_frame.specs.Frame.{BeginsWith, FrameContent, IsFrame};
 ghost use Rattle.lis_frame.specs.Limit.{IsLimit};
 ghost use Rattle.lis_frame.specs.Stream.{is_mark, signal_after, signals_after, stream_with};
@@ -67,6 +67,8 @@ struct Marks;
 
 impl ByteSet for Marks {
     ghost member = { is_mark };
+
+    ghost near = { λ b. nat_le b 10 };
 
     fn has(byte: u8) -> bool {
         matches!(byte, STX | EOT | ENQ | LF)

@@ -61,20 +61,20 @@ fn tail<const N: usize>(frame: &FrameOf<N>) -> [u8; 5]
     ensures { result ≡ end_byte frame.now.last ∷ upper_digit (checksum frame.now / 16)
         ∷ upper_digit (checksum frame.now % 16) ∷ CR ∷ LF ∷ [] }
 {
-    let sum = checksum(frame);
-    let end = end_byte(frame.is_last());
-    [end, upper_digit(sum / 16), upper_digit(sum % 16), CR, LF]
+    frame_tail(frame.number(), frame.is_last(), frame.text().as_slice())
 }
 
-/// The sum of a frame's number, text and end byte, modulo 256.
-fn checksum<const N: usize>(frame: &FrameOf<N>) -> u8
-    ensures { result ≡ checksum frame.now }
+/// What is after the text in a frame of these parts, whose number is at most 7: the end byte, the checksum in two
+/// upper-case digits, CR and LF (LIS01-A2, 6.3).
+pub fn frame_tail(number: u8, last: bool, text: &[u8]) -> [u8; 5]
+    requires { number ≤ 7 }
+    ensures { result ≡ end_byte last
+        ∷ upper_digit (checksum (record { number = number; last = last; text = text.now }) / 16)
+        ∷ upper_digit (checksum (record { number = number; last = last; text = text.now }) % 16) ∷ CR ∷ LF ∷ [] }
 {
-    let end = end_byte(frame.is_last());
-    let text_sum = sum_of(frame.text().as_slice());
-    (b'0' + frame.number())
-        .wrapping_add(text_sum)
-        .wrapping_add(end)
+    let end = end_byte(last);
+    let sum = (b'0' + number).wrapping_add(sum_of(text)).wrapping_add(end);
+    [end, upper_digit(sum / 16), upper_digit(sum % 16), CR, LF]
 }
 
 /// The byte after a frame's text.

@@ -1,7 +1,7 @@
 //! Places of bytes in a text, looked for sixteen bytes at a time (LIS02-A2, Character Codes).
 
 ghost use Rattle.std.specs.Prelude.{◌≡◌, ◌≤◌, ◌<◌, ◌==◌, ◌∷◌, IfNone, IfSome, None, Some, drop, length, map, not};
-ghost use Rattle.std.specs.Prelude.{◌-◌, ◌||◌, count_by, position, take};
+ghost use Rattle.std.specs.Prelude.{◌-◌, ◌||◌, count_by, position, take, true};
 ghost use Rattle.std.specs.List.{position_from};
 ghost use Rattle.std.specs.Simd.Lanes.{mask_l};
 ghost use Rattle.lis_record_read.specs.FrontReading.{parts_following, parts_of};
@@ -17,6 +17,8 @@ struct BadBytes;
 
 impl ByteSet for BadBytes {
     ghost member = { λ b. not (is_text_byte b) };
+
+    ghost near = { λ _. true };
 
     #[inline(always)]
     fn has(byte: u8) -> bool {
@@ -38,6 +40,12 @@ impl ByteSet for BadBytes {
         let high = sixteen.simd_ge(u8x16::splat(128)) & sixteen.simd_le(u8x16::splat(254));
         let allowed = bells | feeds | ascii | high;
         65_535 - allowed.to_bitmask()
+    }
+
+    #[inline(always)]
+    fn lacks(_bytes: &[u8]) -> bool {
+        // Most texts are short, and sixteen bytes at a time do for them.
+        false
     }
 }
 

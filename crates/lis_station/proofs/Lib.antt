@@ -20,3 +20,4 @@ pub mod Both
 pub mod Events
 pub mod TwoWayLaw
 pub mod LineRows
+pub mod LeftOutRows

@@ -11,7 +11,7 @@ use Rattle.lis_station.specs.Line.{StationEvent, start, arrive, lose, timer, clo
 use Rattle.lis_station.specs.Line.{at_analyzer}
 use Rattle.lis_station.specs.Line.{at_computer, two_way}
 
-abbrev begins : ℕ → StationEvent
+abbrev pub begins : ℕ → StationEvent
 begins letter = start ((letter ∷ []) ∷ [])
 
 -- the sessions of the analyzer, and those of the computer

@@ -3,5 +3,6 @@
 pub mod Station
 pub mod Representation
 pub mod Line
+pub mod LeftOut
 pub mod Laws
 pub mod inside

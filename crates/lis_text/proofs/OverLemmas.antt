@@ -55,6 +55,32 @@ none_low limit (suc n) (x ∷ xs) (y ∷ ys) one two none =
       rw heads.1 (omega (arith, tails.1)),
     )
 
+-- and where none of both is, none of the lesser is
+lesser_over :
+    (limit x y rest : ℕ) (m : Bool) → ltb x y ≡ m → leb x limit ≡ false → leb y limit ≡ false → rest ≡ 0
+    → cond (leb (cond (top 7 (cond m 255 0)) x y) limit) 1 0 + 2 * rest ≡ 0
+lesser_over limit x y rest true less first second none = rw first (omega (arith, none))
+lesser_over limit x y rest false less first second none = rw second (omega (arith, none))
+
+head_over : (limit x rest : ℕ) → cond (leb x limit) 1 0 + 2 * rest ≡ 0 → (leb x limit ≡ false) × (rest ≡ 0)
+head_over limit x rest none = by (leb x limit) none
+  where
+    by : (t : Bool) → cond t 1 0 + 2 * rest ≡ 0 → (t ≡ false) × (rest ≡ 0)
+    by true none = absurd (omega arith)
+    by false none = (refl, omega arith)
+
+lesser_low : (limit n : ℕ) (xs ys : List ℕ) → length xs ≡ n → length ys ≡ n → low limit xs ≡ 0 → low limit ys ≡ 0
+    → low limit (lesser xs ys) ≡ 0
+lesser_low limit n [] [] one two first second = refl
+lesser_low limit n [] (y ∷ ys) one two first second = absurd (omega arith)
+lesser_low limit n (x ∷ xs) [] one two first second = absurd (omega arith)
+lesser_low limit zero (x ∷ xs) (y ∷ ys) one two first second = absurd (omega arith)
+lesser_low limit (suc n) (x ∷ xs) (y ∷ ys) one two first second =
+    let one_over = head_over limit x (low limit xs) first in
+    let two_over = head_over limit y (low limit ys) second in
+    lesser_over limit x y (low limit (lesser xs ys)) (ltb x y) refl one_over.0 two_over.0
+    (lesser_low limit n xs ys (omega arith) (omega arith) one_over.1 two_over.1)
+
 none_joined : (limit : ℕ) (xs ys : List ℕ) → low limit xs ≡ 0 → low limit ys ≡ 0 → low limit (xs ++ ys) ≡ 0
 none_joined limit [] ys first second = second
 none_joined limit (x ∷ xs) ys first second = by (leb x limit) first (λ none. none_joined limit xs ys none second)
@@ -63,6 +89,13 @@ none_joined limit (x ∷ xs) ys first second = by (leb x limit) first (λ none. 
         → cond t 1 0 + 2 * low limit (xs ++ ys) ≡ 0
     by true first later = absurd (omega arith)
     by false first later = omega (arith, later (omega arith))
+
+none_parted : (limit : ℕ) (xs ys : List ℕ) → low limit (xs ++ ys) ≡ 0 → (low limit xs ≡ 0) × (low limit ys ≡ 0)
+none_parted limit [] ys none = (refl, none)
+none_parted limit (x ∷ xs) ys none =
+    let head = head_over limit x (low limit (xs ++ ys)) none in
+    let tail = none_parted limit xs ys head.1 in
+    (rw head.0 (omega (arith, tail.0)), tail.1)
 
 -- four times sixteen bytes, each sixteen after those before them
 pub parts_are :
@@ -85,14 +118,19 @@ four_parts bytes =
     (ap (take 32) (drop-drop 16 16 bytes) ∙ take-add 16 16 (drop 32 bytes)
     ∙ ap (λ (l : List ℕ). take 16 (drop 32 bytes) ++ take 16 l) (drop-drop 16 32 bytes)))
 
+-- the places up to the limit among the least of each four, as the vectors give them
+abbrev four_low : ℕ → List ℕ → List ℕ → List ℕ → List ℕ → ℕ
+four_low limit bytes second third fourth =
+    mask_l (map (top 7) (zip2 {C = ℕ} (λ a b. cond (leb a b) 255 0)
+    (lesser (lesser (take 16 bytes) (take 16 second)) (lesser (take 16 third) (take 16 fourth))) (replicate 16 limit)))
+    % 2 ^ 64
+
 pub four_over :
     (limit : ℕ) (bytes second third fourth : List ℕ) → limit < 256 → 64 ≤ length bytes → second ≡ drop 16 bytes
     → third ≡ drop 16 second → fourth ≡ drop 16 third
-    → mask_l (map (top 7) (zip2 {C = ℕ} (λ a b. cond (leb a b) 255 0)
-    (lesser (lesser (take 16 bytes) (take 16 second)) (lesser (take 16 third) (take 16 fourth))) (replicate 16 limit)))
-    % 2 ^ 64 ≡ 0
-    → low limit (take 64 bytes) ≡ 0
-four_over limit bytes second third fourth fits many is_second is_third is_fourth none =
+    → (four_low limit bytes second third fourth ≡ 0 → low limit (take 64 bytes) ≡ 0)
+    × (low limit (take 64 bytes) ≡ 0 → four_low limit bytes second third fourth ≡ 0)
+four_over limit bytes second third fourth fits many is_second is_third is_fourth =
     let at = parts_are bytes second third fourth is_second is_third is_fourth in
     let a = part_long 0 bytes bytes refl (omega arith) in
     let b = part_long 16 bytes second is_second (omega arith) in
@@ -103,10 +141,21 @@ four_over limit bytes second third fourth fits many is_second is_third is_fourth
     let front_long = length-lesser 16 (take 16 bytes) (take 16 second) a b in
     let back_long = length-lesser 16 (take 16 third) (take 16 fourth) c d in
     let all_long = length-lesser 16 front back front_long back_long in
-    let least : low limit (lesser front back) ≡ 0 =
-    sym (bitmask_splat w8 leb (lesser front back) 16 limit all_long (omega arith)) ∙ none in
-    let halves = none_low limit 16 front back front_long back_long least in
-    let first = none_low limit 16 (take 16 bytes) (take 16 second) a b halves.0 in
-    let last = none_low limit 16 (take 16 third) (take 16 fourth) c d halves.1 in
-    rw (four_parts bytes, ← is_second, ← at.0, ← at.1)
-    (none_joined limit _ _ first.0 (none_joined limit _ _ first.1 (none_joined limit _ _ last.0 last.1)))
+    let as_bits = bitmask_splat w8 leb (lesser front back) 16 limit all_long (omega arith) in (
+      λ none.
+          let halves = none_low limit 16 front back front_long back_long (sym as_bits ∙ none) in
+          let first = none_low limit 16 (take 16 bytes) (take 16 second) a b halves.0 in
+          let last = none_low limit 16 (take 16 third) (take 16 fourth) c d halves.1 in
+          rw (four_parts bytes, ← is_second, ← at.0, ← at.1)
+          (none_joined limit _ _ first.0 (none_joined limit _ _ first.1 (none_joined limit _ _ last.0 last.1))),
+      λ none.
+          let parts : low limit (take 16 bytes ++ (take 16 second ++ (take 16 third ++ take 16 fourth))) ≡ 0 =
+          rw (is_second, at.0, at.1, ← four_parts bytes) none in
+          let ones = none_parted limit (take 16 bytes) _ parts in
+          let twos = none_parted limit (take 16 second) _ ones.1 in
+          let last = none_parted limit (take 16 third) _ twos.1 in
+          as_bits
+          ∙ lesser_low limit 16 front back front_long back_long
+          (lesser_low limit 16 (take 16 bytes) (take 16 second) a b ones.0 twos.0)
+          (lesser_low limit 16 (take 16 third) (take 16 fourth) c d last.0 last.1),
+    )

@@ -194,3 +194,8 @@ position-following f i xs o e = rw e (sym (rw (add-zero i) at (position-shift f 
 pub same_map : (f g : ℕ → Bool) → ((b : ℕ) → f b ≡ g b) → (xs : List ℕ) → map f xs ≡ map g xs
 same_map f g same [] = refl
 same_map f g same (x ∷ xs) = rw (same x, same_map f g same xs) refl
+
+-- sixty-four bytes that are all in a set have a place that is
+pub all_found : (bytes : List ℕ) → 64 ≤ length bytes → mask_l (map (λ b. true) (take 64 bytes)) ≡ 0 → ⊥
+all_found [] many none = absurd (omega arith)
+all_found (b ∷ bytes) many none = absurd (omega arith)

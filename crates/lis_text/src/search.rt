@@ -1,6 +1,7 @@
 //! The first byte of a set, found sixteen bytes at a time, and the sum of the bytes before it.
 
-ghost use Rattle.std.specs.Prelude.{◌≡◌, ◌≤◌, ◌<◌, ◌+◌, ◌%◌, ℕ, Bool, IfSome, drop, length, map, nat_le, take, true};
+ghost use Rattle.std.specs.Prelude.{◌≡◌, ◌≤◌, ◌<◌, ◌+◌, ◌%◌, ◌↔◌, ℕ, Bool, IfSome, drop, length, map, nat_le, take};
+ghost use Rattle.std.specs.Prelude.{true};
 ghost use Rattle.std.specs.List.{position_from, sum};
 ghost use Rattle.std.specs.Option.{unwrap_or};
 ghost use Rattle.std.specs.Simd.Lanes.{mask_l, sum_l};
@@ -13,6 +14,9 @@ pub trait ByteSet {
     // Whether a byte is in the set.
     ghost member: { ℕ → Bool };
 
+    // Whether `lacks` stops at a byte: at each of the set, and maybe at others.
+    ghost near: { ℕ → Bool };
+
     /// Whether a byte is in the set.
     fn has(byte: u8) -> bool
         ensures { result ≡ member byte };
@@ -22,21 +26,19 @@ pub trait ByteSet {
         requires { 16 ≤ length bytes.now }
         ensures { result ≡ mask_l (map member (take 16 bytes.now)) };
 
-    /// Whether sixty-four bytes are seen at once to hold no byte of the set. Where they aren't, they may hold none too.
-    #[inline(always)]
-    fn lacks(_bytes: &[u8]) -> bool
-        requires { 64 ≤ length _bytes.now }
-        ensures { result ≡ true → mask_l (map member (take 64 _bytes.now)) ≡ 0 }
-    {
-        false
-    }
+    /// Whether sixty-four bytes are seen at once to hold no byte of the set: they are if none is near it. Otherwise
+    /// they may hold none too.
+    fn lacks(bytes: &[u8]) -> bool
+        requires { 64 ≤ length bytes.now }
+        ensures none { result ≡ true → mask_l (map member (take 64 bytes.now)) ≡ 0 }
+        ensures seen { mask_l (map near (take 64 bytes.now)) ≡ 0 → result ≡ true };
 }
 
 /// Whether each of sixty-four bytes is over this one.
 #[inline(always)]
 pub fn are_over(bytes: &[u8], limit: u8) -> bool
     requires { 64 ≤ length bytes.now }
-    ensures { result ≡ true → mask_l (map (λ b. nat_le b limit) (take 64 bytes.now)) ≡ 0 }
+    ensures { result ≡ true ↔ mask_l (map (λ b. nat_le b limit) (take 64 bytes.now)) ≡ 0 }
 {
     let (_, second) = bytes.split_at(16);
     let (_, third) = second.split_at(16);

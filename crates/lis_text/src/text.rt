@@ -1,6 +1,6 @@
 //! The bytes of a text: which none may hold, and why bytes are no text (LIS01-A2, 6.3 and 6.5).
 
-ghost use Rattle.std.specs.Prelude.{◌≡◌, ◌%◌, None, Some, MatchResult, length, take};
+ghost use Rattle.std.specs.Prelude.{◌≡◌, ◌%◌, None, Some, MatchResult, length, nat_le, take};
 ghost use Rattle.std.specs.List.{sum};
 ghost use Rattle.std.specs.Option.{unwrap_or};
 ghost use Rattle.lis_text.specs.Text.{first_forbidden, is_forbidden, text_fault};
@@ -25,6 +25,8 @@ struct ForbiddenBytes;
 
 impl ByteSet for ForbiddenBytes {
     ghost member = { is_forbidden };
+
+    ghost near = { λ b. nat_le b 23 };
 
     fn has(byte: u8) -> bool {
         matches!(byte, 1..=6 | 10 | 16..=23)

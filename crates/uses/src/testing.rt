@@ -1,7 +1,8 @@
 //! Devices for tests: a line in memory on which the events of a script happen, with a store, and a log of all that was
 //! done on it.
 
-ghost use Rattle.std.specs.Prelude.{◌≡◌, ◌∷◌, [], None, Some, MatchOption, drop, if◌then◌else◌, map};
+ghost use Rattle.std.specs.Prelude.{◌≡◌, ◌<◌, ◌∷◌, [], None, Some, MatchOption, drop, if◌then◌else◌, map, true};
+ghost use Rattle.std.specs.Prelude.{vec_capacity, vec_len};
 ghost use Rattle.uses.specs.Connection.{GoesOn, keeping, reconnected, sent, timed, waited};
 ghost use Rattle.uses.specs.Scripted.{log_event_of, log_of, next_answer, next_event};
 
@@ -27,8 +28,8 @@ pub enum Entry {
 }
 
 /// A line on which the events of a script happen, one after another, until it is closed. Its store keeps each text but
-/// those that a second script rejects. Its log is what was done, oldest first; if memory for that ran out, the log
-/// is lost from then on.
+/// those that a second script rejects. Its log is what was done, oldest first. If memory runs out at an entry the log
+/// is lost from then on: for bytes that were sent or a text to be kept, or for more room in the list of entries.
 #[derive(Drop)]
 pub struct ScriptedConnection<'a> {
     alloc: Global,
@@ -76,10 +77,12 @@ impl<'a> ScriptedConnection<'a> {
         }
     }
 
-    /// Adds an entry to the log.
+    /// Adds an entry to the log. The log is lost only if its list has no room left, and memory for more runs out.
     fn add(&mut self, entry: Entry)
         ensures log { GoesOn (log_of self.old.is_whole self.old.entries.items)
             (log_of self.new.is_whole self.new.entries.items) (log_event_of entry ∷ []) }
+        ensures room { self.old.is_whole ≡ true → vec_len self.old.entries < vec_capacity self.old.entries
+            → self.new.is_whole ≡ true }
         ensures script { (self.new.events ≡ self.old.events) × (self.new.answers ≡ self.old.answers) }
     {
         if self.is_whole {
@@ -105,6 +108,8 @@ impl Connection for ScriptedConnection<'_> {
     fn start_timer(&mut self, seconds: u32)
         ensures log { GoesOn (log_of self.old.is_whole self.old.entries.items)
             (log_of self.new.is_whole self.new.entries.items) (timed seconds ∷ []) }
+        ensures room { self.old.is_whole ≡ true → vec_len self.old.entries < vec_capacity self.old.entries
+            → self.new.is_whole ≡ true }
         ensures script { (self.new.events ≡ self.old.events) × (self.new.answers ≡ self.old.answers) }
     {
         self.add(Entry::Timed(seconds));
@@ -113,6 +118,8 @@ impl Connection for ScriptedConnection<'_> {
     fn reconnect(&mut self)
         ensures log { GoesOn (log_of self.old.is_whole self.old.entries.items)
             (log_of self.new.is_whole self.new.entries.items) (reconnected ∷ []) }
+        ensures room { self.old.is_whole ≡ true → vec_len self.old.entries < vec_capacity self.old.entries
+            → self.new.is_whole ≡ true }
         ensures script { (self.new.events ≡ self.old.events) × (self.new.answers ≡ self.old.answers) }
     {
         self.add(Entry::Reconnected);
@@ -121,6 +128,8 @@ impl Connection for ScriptedConnection<'_> {
     fn wait(&mut self) -> Event
         ensures log { GoesOn (log_of self.old.is_whole self.old.entries.items)
             (log_of self.new.is_whole self.new.entries.items) (waited result ∷ []) }
+        ensures room { self.old.is_whole ≡ true → vec_len self.old.entries < vec_capacity self.old.entries
+            → self.new.is_whole ≡ true }
         ensures event { result ≡ next_event self.old.events.now }
         ensures events { self.new.events.now ≡ drop 1 self.old.events.now }
         ensures answers { self.new.answers ≡ self.old.answers }

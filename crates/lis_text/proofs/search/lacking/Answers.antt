@@ -6,7 +6,7 @@ pub loop-rest-preserved : goal.loop-rest-preserved
 loop-rest-preserved g c =
     passes g.S.ByteSet.member 64 c.loop-rest.place c.loop-rest.rest.now c.split_at.result.1.now c.args.bytes.now
     c.loop-rest.invariant (omega (arith, c.loop-rest-test.true)) c.split_at.ensures.back
-    (c.lacks.ensures c.if-lacks.true)
+    (c.lacks.ensures.none c.if-lacks.true)
 
 pub returns-else-lacks : goal.returns-else-lacks
 returns-else-lacks g c = rw (← c.loop-rest.invariant.following) c.loop-rest.invariant

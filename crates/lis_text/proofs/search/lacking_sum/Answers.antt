@@ -8,7 +8,7 @@ loop-rest-preserved g c = record {
   passed =
       passes g.S.ByteSet.member 64 c.loop-rest.place c.loop-rest.rest.now c.split_at.result.1.now c.args.bytes.now
       c.loop-rest.invariant.passed (omega (arith, c.loop-rest-test.true)) c.split_at.ensures.back
-      (c.lacks.ensures c.if-lacks.true);
+      (c.lacks.ensures.none c.if-lacks.true);
   total =
       lanes-before c.loop-rest.place 64 c.args.bytes.now c.loop-rest.sums c.sum_of_four-sums.result
       (c.loop-rest.auto.sums.0 ∙ sym c.sum_of_four-sums.ensures.lanes) c.loop-rest.invariant.total

@@ -1,0 +1,178 @@
+//! What is in a station's block.
+
+ghost use Rattle.std.specs.Prelude.{◌≡◌, ◌≤◌, ◌∷◌, [], take, None, Some, MatchResult};
+ghost use Rattle.lis_c.specs.Stations.{Hears, IsNow, MakesAnswer, NewStation, RejectsForMemory};
+ghost use Rattle.lis_c.specs.Stations.{StartsSession, state_of};
+ghost use Rattle.lis_c.specs.Stations.{station_kept, station_limit, station_spare};
+ghost use Rattle.lis_c.specs.Steps.{IsNotOutOfMemory, IsOutOfMemory};
+ghost use Rattle.lis_c.specs.inside.Stations.{ReportsAnswer};
+ghost use Rattle.lis_link.specs.Receiver.{ReceiverState, on_byte, on_bytes, with_heard};
+ghost use Rattle.lis_link.specs.Representation.{SpareAfter};
+ghost use Rattle.lis_station.specs.declared.station.Role.TheVariants.{Computer};
+ghost use Rattle.lis_station.specs.Station.{on_station_byte, on_station_bytes, on_station_timer};
+ghost use Rattle.lis_station.specs.Station.{station_fault, taken_by};
+
+use crate::handle_state::{note_code, note_detail, note_place};
+use crate::out::{LisAnswer, LisStep};
+use crate::stationing::AnyStation;
+use lis_link::Step;
+use lis_station::{Role, StationFault, StationRefusedOf};
+use lis_text::{LinkText, List, Texts};
+use std::alloc::Global;
+use std::mem;
+
+/// A station, the texts of its next session, and the text that it delivered last.
+#[derive(Drop)]
+pub struct StationHandleState {
+    pub alloc: Global,
+    pub station: AnyStation,
+    pub texts: Texts,
+    pub text: LinkText,
+}
+
+/// Releases all that a handle's state keeps.
+pub(crate) fn release_station(_handle_state: StationHandleState) {}
+
+impl StationHandleState {
+    pub(crate) fn new(alloc: Global) -> Self
+        ensures { NewStation Computer 240 result.station × (result.texts ≡ []) × (result.text ≡ []) }
+    {
+        StationHandleState::over(alloc, AnyStation::usual(alloc, Role::Computer))
+    }
+
+    /// A station with no text.
+    pub(crate) fn over(alloc: Global, station: AnyStation) -> Self
+        ensures { (result.station ≡ station) × (result.texts ≡ []) × (result.text ≡ []) }
+    {
+        StationHandleState {
+            alloc,
+            station,
+            texts: Texts::new(alloc),
+            text: List::new(alloc),
+        }
+    }
+
+    /// Releases the texts of the next session.
+    pub(crate) fn clear(&mut self)
+        ensures { self.new ≡ record self.old { texts = [] } }
+    {
+        self.texts = Texts::new(self.alloc);
+    }
+
+    /// Starts a session with the texts. Where it is rejected the handle's state is as before.
+    pub(crate) fn start(&mut self) -> Result<(), StationFault>
+        ensures { (r : ReceiverState) → Hears self.old.station r → MatchResult result
+            (λ unit. (station_fault (state_of self.old.station r) self.old.texts ≡ None)
+            × StartsSession self.old.texts self.old.station self.new.station
+            × (self.new ≡ record self.old { station = self.new.station; texts = [] }))
+            (λ fault. (station_fault (state_of self.old.station r) self.old.texts ≡ Some fault)
+            × (self.new ≡ self.old)) }
+    {
+        let texts = mem::replace(&mut self.texts, Texts::new(self.alloc));
+        match self.station.start(texts) {
+            Ok(()) => Ok(()),
+            Err(refused) => {
+                let StationRefusedOf { texts, fault } = refused;
+                self.texts = texts;
+                Err(fault)
+            }
+        }
+    }
+
+    /// Reports an answer, whose bytes were put. A text that it delivers is kept; the station has the room of the one
+    /// before.
+    fn report(&mut self, step: Option<Step>, out: &mut LisAnswer)
+        ensures reported { ReportsAnswer step self.old.text out.new self.new.text }
+        ensures sends { out.new.send ≡ out.old.send }
+        ensures same { step ≡ None → self.new.station ≡ self.old.station }
+        ensures state { (r : ReceiverState) → Hears self.old.station r →
+            IsNow self.new.station (state_of self.old.station r) }
+        ensures spare { station_spare self.old.station ≤ station_spare self.new.station }
+        ensures limit { station_limit self.new.station ≡ station_limit self.old.station }
+        ensures texts { self.new.texts ≡ self.old.texts }
+    {
+        let Some(
+            Step {
+                reply,
+                message,
+                note,
+            },
+        ) = step
+        else {
+            out.is_step = false;
+            out.step = LisStep {
+                reply: 0,
+                has_text: false,
+                note: 0,
+                detail: 0,
+                place: 0,
+            };
+            return;
+        };
+        out.is_step = true;
+        out.step.reply = reply.unwrap_or(0);
+        out.step.note = note_code(note);
+        out.step.detail = note_detail(note);
+        out.step.place = note_place(note);
+        match message {
+            None => out.step.has_text = false,
+            Some(text) => {
+                out.step.has_text = true;
+                let before = mem::replace(&mut self.text, text);
+                self.station.reuse(before);
+            }
+        }
+    }
+
+    /// A byte comes: reports the answer.
+    pub(crate) fn byte(&mut self, byte: u8, out: &mut LisAnswer)
+        ensures step { (r : ReceiverState) → Hears self.old.station r → IsNotOutOfMemory out.new.step →
+            MakesAnswer (on_station_byte (station_limit self.old.station) byte (state_of self.old.station r))
+            self.old out.new self.new }
+        ensures refused { (r : ReceiverState) → Hears self.old.station r → IsOutOfMemory out.new.step →
+            RejectsForMemory (on_byte (station_limit self.old.station) byte r) (record r { past = byte ∷ r.past })
+            self.old out.new self.new }
+        ensures spare { (r : ReceiverState) → Hears self.old.station r →
+            SpareAfter (station_spare self.old.station) (station_spare self.new.station)
+            (taken_by (on_station_byte (station_limit self.old.station) byte (state_of self.old.station r)).answer) }
+        ensures limit { station_limit self.new.station ≡ station_limit self.old.station }
+        ensures texts { self.new.texts ≡ self.old.texts }
+    {
+        let step = self.station.byte(byte, &mut out.send);
+        self.report(step, out);
+    }
+
+    /// Bytes come: reports the answer to the last one that was heard, and answers how many were.
+    pub(crate) fn hear(&mut self, bytes: &[u8], out: &mut LisAnswer) -> usize
+        ensures count { (r : ReceiverState) → Hears self.old.station r → result
+            ≡ (on_station_bytes (station_limit self.old.station) bytes.now (state_of self.old.station r)).count }
+        ensures step { (r : ReceiverState) → Hears self.old.station r → IsNotOutOfMemory out.new.step → MakesAnswer
+            (on_station_bytes (station_limit self.old.station) bytes.now (state_of self.old.station r)).step
+            self.old out.new self.new }
+        ensures refused { (r : ReceiverState) → Hears self.old.station r → IsOutOfMemory out.new.step →
+            RejectsForMemory (on_bytes (station_limit self.old.station) bytes.now r).step
+            (with_heard (take result bytes.now) r) self.old out.new self.new }
+        ensures spare { (r : ReceiverState) → Hears self.old.station r →
+            SpareAfter (station_spare self.old.station) (station_spare self.new.station) (taken_by
+            (on_station_bytes (station_limit self.old.station) bytes.now (state_of self.old.station r)).step.answer) }
+        ensures limit { station_limit self.new.station ≡ station_limit self.old.station }
+        ensures texts { self.new.texts ≡ self.old.texts }
+    {
+        let (count, step) = self.station.bytes(bytes, &mut out.send);
+        self.report(step, out);
+        count
+    }
+
+    /// The timer runs out: reports the answer.
+    pub(crate) fn timer(&mut self, out: &mut LisAnswer)
+        ensures step { (r : ReceiverState) → Hears self.old.station r → MakesAnswer
+            (on_station_timer {limit = station_limit self.old.station} (state_of self.old.station r))
+            self.old out.new self.new }
+        ensures spare { station_spare self.old.station ≤ station_spare self.new.station }
+        ensures limit { station_limit self.new.station ≡ station_limit self.old.station }
+        ensures texts { self.new.texts ≡ self.old.texts }
+    {
+        let step = self.station.timer(&mut out.send);
+        self.report(step, out);
+    }
+}
