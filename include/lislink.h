@@ -31,8 +31,9 @@
  *     which is 10 seconds: it calls lis_receiver_restart.
  *
  * Memory. A scanner, the calls that write a frame, and the calls of records take none. A sender takes it in
- * lis_sender_add_text alone, a receiver for the text that it holds, a reader for the bytes of one record, and a writer
- * for the record that is begun and the texts of those that are put; for long frames lis_X_set_limit takes it.
+ * lis_sender_add_text alone, a receiver for the text that it holds, a station as these two do, a reader for the bytes
+ * of one record, and a writer for the record that is begun and the texts of those that are put; for long frames
+ * lis_X_set_limit and lis_station_begin take it.
  * lis_X_end gives it back. If there is none, the call says so, and what it left is stated with it. */
 #ifndef LISLINK_H
 #define LISLINK_H
@@ -102,7 +103,8 @@ LIS_ENUM(lis_status) {
     LIS_STATUS_PUT_NOT_HEADER = 14,     /* outside a message a header comes first */
     LIS_STATUS_PUT_NO_PARENT = 15,      /* an order belongs under a patient, a result under an order */
     LIS_STATUS_PUT_SECOND_HEADER = 16,  /* the message has its header */
-    LIS_STATUS_OLD_LINE = 17            /* no connection yet, or a session failed on it; of lis_line_start */
+    LIS_STATUS_OLD_LINE = 17,           /* no connection yet, or a session failed on it; of lis_line_start */
+    LIS_STATUS_LINE_OPEN = 18           /* the other side has the line; of lis_station_start */
 } LIS_ENUM_END(lis_status);
 
 /* Bytes for the link: the first `len` of `bytes`; 0 if nothing is to be sent. */
@@ -185,7 +187,8 @@ lis_status lis_frame_write(uint8_t number, bool last, const uint8_t *text, size_
                            size_t *place);
 /* Writes a frame whose text has up to LIS_LIMIT_LONG_FRAME_TEXT bytes to the front of a buffer; `size` is its length.
  * The same answers, and LIS_STATUS_TOO_SHORT if the frame, 7 bytes longer than its text, does not fit. `size` and
- * `place` are always written, else 0; `out` only with OK. It takes about 400 kB of the stack, and no heap. */
+ * `place` are always written, else 0; `out` only with OK. The frame is written in the buffer itself: it takes no heap,
+ * and of the stack little. */
 lis_status lis_long_frame_write(uint8_t number, bool last, const uint8_t *text, size_t text_len, uint8_t *out,
                                 size_t out_len, size_t *size, size_t *place);
 
@@ -378,6 +381,94 @@ uint64_t lis_receiver_held(lis_receiver *s);
  * if the buffer is shorter, and nothing is copied. */
 size_t lis_receiver_text_len(lis_receiver *s);
 lis_status lis_receiver_text(lis_receiver *s, uint8_t *out, size_t out_len);
+
+/* ---- Station: a side of a line on which both sides send (LIS01-A2, 6.2.7 and 6.5). ----
+ *
+ * A sender and a receiver, and which of them a byte is for. Where both sides send, use this in place of the two: one
+ * sender and one receiver on such a line can lose a text (docs/LINK.md, 'Both ways of one line'). Hear all that came
+ * before you let the timer run out. After a session that timed out or was restarted, and before ENQ goes out again
+ * after a wait, the same holds as for a sender: no reply may come that late. */
+
+/* If both sides ask for the line at once, the computer waits for the analyzer's session. */
+LIS_ENUM(lis_role) {
+    LIS_ROLE_ANALYZER = 0,
+    LIS_ROLE_COMPUTER = 1
+} LIS_ENUM_END(lis_role);
+
+/* What a byte or the timer meant: whether it was for the receiver, and then its step; and what is to be sent, which is
+ * the reply of that step, or what the sender sends. `step` is all 0 if it was for the sender.
+ *
+ * Keep, then send: as for `lis_step`, but that with a text which can't be kept lis_station_close_line is called, and no
+ * session is started for longer than LIS_SECONDS_REPLY. The timer begins anew after each answer but a step that is
+ * LIS_NOTE_QUIET. */
+typedef struct lis_answer {
+    bool is_step;
+    lis_bytes send;
+    lis_step step;
+} lis_answer;
+
+typedef struct lis_station {
+    void *at;
+} lis_station;
+
+size_t lis_station_size(void);
+size_t lis_station_align(void);
+/* A new station is a computer's, whose frames' texts have at most LIS_LIMIT_FRAME_TEXT bytes. */
+void lis_station_init(void *at);
+void lis_station_end(lis_station s);
+/* Sets the role, and how long the text of a frame may be, LIS_LIMIT_FRAME_TEXT or LIS_LIMIT_LONG_FRAME_TEXT, and makes
+ * the station new, without a text: LIS_STATUS_OK; LIS_STATUS_BAD_NUMBER for another role or limit, or
+ * LIS_STATUS_OUT_OF_MEMORY, and nothing has changed. The long limit takes about 64 kB from the heap. */
+lis_status lis_station_begin(lis_station *s, lis_role role, size_t limit);
+/* The texts of the next session, as lis_sender_add_text and lis_sender_clear. */
+lis_status lis_station_add_text(lis_station *s, const uint8_t *text, size_t text_len);
+void lis_station_clear(lis_station *s);
+/* Asks for the line, to send the texts that were added: LIS_STATUS_OK, and `out` has ENQ, to be sent;
+ * LIS_STATUS_LINE_OPEN while the other side has the line; else as lis_sender_start. The session is over when the phase
+ * is LIS_PHASE_NEUTRAL again. */
+lis_status lis_station_start(lis_station *s, lis_bytes *out, lis_place *fault);
+/* Hears one byte. `out` is always written. EOT in reply to a frame is taken as NAK, since it may be the end of a
+ * session that the other side asked for: lis_station_turn_asked reports it. */
+void lis_station_byte(lis_station *s, uint8_t byte, lis_answer *out);
+/* Hears one byte if a reply is awaited, else bytes up to the first that means something, or all of them if none does;
+ * answers how many it heard. `out` is always written. Call it again with the rest. */
+size_t lis_station_hear(lis_station *s, const uint8_t *bytes, size_t bytes_len, lis_answer *out);
+/* The timer ran out. `out` is always written; if no timer runs, nothing changes. */
+void lis_station_timer(lis_station *s, lis_answer *out);
+/* Whether a timer runs, and after how many seconds lis_station_timer is due. It is the receiver's while the other side
+ * has the line. 0 seconds: the analyzer has had its session after both asked, and a computer may ask at once. `seconds`
+ * is always written, else 0. */
+bool lis_station_timer_seconds(lis_station *s, uint32_t *seconds);
+/* With the long limit, after an answer of the sender with nothing in `send`: as lis_sender_frame. With that limit
+ * lis_station_byte and lis_station_hear take up to 770 kB of the stack, and lis_station_frame 450 kB. */
+lis_status lis_station_frame(lis_station *s, uint8_t *out, size_t out_len, size_t *size);
+/* Gives up the session of its own, as lis_sender_restart; drops that of the other side, as lis_receiver_restart, but
+ * readiness; does both, as when the connection is lost. The text that was completed last stays. */
+void lis_station_give_up(lis_station *s);
+void lis_station_close_line(lis_station *s);
+void lis_station_restart(lis_station *s);
+/* Whether the other side gets the line from now on: its ENQ is answered ACK, or NAK. */
+void lis_station_set_ready(lis_station *s, bool ready);
+/* While the other side has the line: asks it to let this one send. The next frame that is accepted is answered EOT in
+ * place of ACK. */
+void lis_station_ask_turn(lis_station *s);
+/* Whether the other side asked so, in the last session of this one, and hasn't had the line since; and for how many
+ * seconds this side should start no session, because the other one waits for its turn, 0 if it doesn't. */
+bool lis_station_turn_asked(lis_station *s);
+uint32_t lis_station_turn_seconds(lis_station *s);
+/* Whether the next byte is a reply. */
+bool lis_station_awaits_reply(lis_station *s);
+/* As lis_receiver_reserve. */
+lis_status lis_station_reserve(lis_station *s, uint64_t bytes);
+/* As the calls of the sender and of the receiver. */
+lis_phase lis_station_phase(lis_station *s);
+lis_outcome lis_station_outcome(lis_station *s);
+uint64_t lis_station_acknowledged(lis_station *s);
+bool lis_station_is_open(lis_station *s);
+uint64_t lis_station_accepted(lis_station *s);
+uint64_t lis_station_held(lis_station *s);
+size_t lis_station_text_len(lis_station *s);
+lis_status lis_station_text(lis_station *s, uint8_t *out, size_t out_len);
 
 /* ---- Records, each a text without its CR. These calls take no memory and keep nothing. ---- */
 
@@ -582,6 +673,7 @@ const char *lis_phase_text(lis_phase phase);
 const char *lis_outcome_text(lis_outcome outcome);
 const char *lis_note_text(lis_note note);
 const char *lis_ready_text(lis_ready readiness);
+const char *lis_role_text(lis_role role);
 const char *lis_found_text(lis_found_kind kind);
 const char *lis_reason_text(lis_reason reason);
 

@@ -9,6 +9,7 @@
 //   - A std::string_view that a call gives is good until the next call of its owner.
 //   - One thread at a time uses an owner. It may be handed to another thread.
 //   - receiver::hear keeps, then replies. sender::start asks for a connection on which no late reply can come.
+//   - lislink_station.hpp has the class `station`, for a line on which both sides send.
 #ifndef LISLINK_HPP
 #define LISLINK_HPP
 

@@ -28,6 +28,7 @@ const char *lis_status_text(lis_status status) {
         [LIS_STATUS_PUT_NO_PARENT] = "the record has no parent in the message",
         [LIS_STATUS_PUT_SECOND_HEADER] = "the message has its header",
         [LIS_STATUS_OLD_LINE] = "a session starts on a new connection: none was made yet, or a session failed on this one",
+        [LIS_STATUS_LINE_OPEN] = "the other side has the line",
     };
     return WORDS(words, status);
 }
@@ -104,6 +105,14 @@ const char *lis_ready_text(lis_ready readiness) {
         [LIS_READY_CONTENDING] = "contending",
     };
     return WORDS(words, readiness);
+}
+
+const char *lis_role_text(lis_role role) {
+    static const char *const words[] = {
+        [LIS_ROLE_ANALYZER] = "analyzer",
+        [LIS_ROLE_COMPUTER] = "computer",
+    };
+    return WORDS(words, role);
 }
 
 const char *lis_found_text(lis_found_kind kind) {

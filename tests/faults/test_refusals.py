@@ -175,6 +175,8 @@ WITHOUT_MEMORY = ("show", "upgrade")
 # The command that compares no replies: it takes no memory for them.
 WITHOUT_REPLIES = "texts"
 ENQUIRY = b"> 05\n"
+# How many growths 8,000 results may take: their text has under 2 to the 18th bytes, and some more things grow.
+MOST_GROWTHS = 40
 # Commands whose text has no closing line: the text of a refused run may lack nothing.
 UNCLOSED = ("texts", "results")
 
@@ -195,6 +197,11 @@ def try_run(shim, program, command, data, test):
             is_prefix = not ran.output
         is_k4 = told[1:] == (3, b"lislink: K4\n") and is_prefix
         test.need(is_k4 or told == whole, lambda: f"{command}, growth {growth}: {told}, wanted a prefix of {whole}")
+
+
+def long_message(count):
+    """A message of so many results."""
+    return b"H|\\^&\rP|1\rO|1|S7\r" + b"".join(b"R|%d|^^^GLU|5.4\r" % at for at in range(1, count + 1)) + b"L|1|N\r"
 
 
 def try_commands(shim, program, test):
@@ -294,6 +301,14 @@ class Refusals(kit.Test):
             once, often = (self.shim.run([self.lislink, name], SESSION * count, armed=1).table["growths"]
                            for count in (1, 600))
             self.need(0 < once == often, lambda: f"{name} takes memory for each text: {once} growths, then {often}")
+
+    def test_held_text_grows_by_doubling(self):
+        """The text that is held until a message is whole grows ever more seldom: each growth may move all of it."""
+        for name in ("check", "results"):
+            few, many = (self.shim.run([self.lislink, name], long_message(count), armed=1).table["growths"]
+                         for count in (1_000, 8_000))
+            self.check(0 < few <= many <= MOST_GROWTHS,
+                       f"{name} grows too often: {few} growths for 1,000 results, {many} for 8,000")
 
     def test_lists(self):
         try_tests(self.shim, kit.built("record_tests"), self)

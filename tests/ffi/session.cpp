@@ -4,10 +4,21 @@
 
 #include <cstdio>
 #include <cstdlib>
+#include <new>
 #include <string>
 #include <vector>
 
 using namespace std::string_view_literals;
+
+static bool is_refusing = false;    // whether there is no memory
+
+void *operator new(std::size_t size) {
+    if (void *at = is_refusing ? nullptr : std::malloc(size))
+        return at;
+    throw std::bad_alloc();
+}
+void operator delete(void *at) noexcept { std::free(at); }
+void operator delete(void *at, std::size_t) noexcept { std::free(at); }
 
 static void same(bool good, const char *what) {
     if (!good) {
@@ -124,6 +135,25 @@ static void answer_later(lislink::receiver &receiver) {
     SAME(!receiver.next_step(bytes).reply() && bytes.empty());
 }
 
+// While there is no memory for a text, no reply is due: the receiver restarts, and hears the session again.
+static void answer_without_memory() {
+    lislink::receiver receiver;
+    const std::string stream = "\x05\x02" "1R|1|^^^GLU|5.4|mmol/L\r\x03" "7D\r\n\x04";
+    for (bool refuses : {true, false}) {
+        std::string_view bytes = stream;
+        receiver.next_step(bytes).sent();
+        SAME(receiver.is_open());
+        is_refusing = refuses;
+        auto answer = receiver.next_step(bytes);
+        is_refusing = false;
+        SAME(!answer.text() == refuses && !answer.reply() == refuses && receiver.is_open() == !refuses);
+        SAME(answer.step().note == (refuses ? LIS_NOTE_OUT_OF_MEMORY : LIS_NOTE_ACCEPTED) && bytes == "\x04");
+        answer.sent();
+        receiver.next_step(bytes).sent();
+        SAME(!receiver.is_open());
+    }
+}
+
 static void throw_in_keep(lislink::receiver &receiver) {
     std::string replies;
     auto send = [&](std::uint8_t byte) { replies.push_back(static_cast<char>(byte)); };
@@ -226,6 +256,7 @@ int main() {
     throw_in_start(sender);
     fail_to_keep(sender, receiver, texts);
     throw_in_keep(receiver);
+    answer_without_memory();
     answer_later(receiver);
     std::string store;
     add(sender, texts);

@@ -1,5 +1,6 @@
-// lislink.hpp without exceptions: each call that may fail answers its status. It ends with 0 if all is as it should be.
-#include <lislink.hpp>
+// lislink.hpp and lislink_station.hpp without exceptions: each call that may fail answers its status. It ends with 0 if
+// all is as it should be.
+#include <lislink_station.hpp>
 
 #include <string>
 
@@ -22,6 +23,41 @@ static bool of_sender() {
         && is(sender.patience() == std::chrono::seconds(15)) && is(sender.reply(line, 21).empty())
         && is(sender.patience() == std::chrono::seconds(10)) && is(sender.timer() == "\x05")
         && is(sender.reply(line, 6).size() == 7);
+}
+
+static const std::string first("\x02" "1a\x03" "95\r\n");
+
+// What a station sends in answer to bytes.
+static std::string sent(lislink::station &station, std::string_view bytes) {
+    std::string all;
+    while (!bytes.empty()) {
+        auto answer = station.next_answer(bytes);
+        all += answer.send();
+        answer.sent();
+    }
+    return all;
+}
+
+static bool of_station() {
+    lislink::station station(std::nothrow);
+    std::string_view enq, bytes = first;
+    if (!is(station && station.try_begin(LIS_ROLE_ANALYZER, 241) == LIS_STATUS_BAD_NUMBER)
+        || !is(station.try_begin(LIS_ROLE_ANALYZER, LIS_LIMIT_LONG_FRAME_TEXT) == LIS_STATUS_OK)
+        || !is(station.try_add("a") == LIS_STATUS_OK && station.try_start(enq) == LIS_STATUS_OLD_LINE))
+        return false;
+    station.connected();
+    if (!is(sent(station, "\x05") == "\x06" && station.try_start(enq) == LIS_STATUS_LINE_OPEN && enq.empty()))
+        return false;
+    { auto dropped = station.next_answer(bytes); }    // its text is not kept, and no reply goes out
+    if (!is(!station.is_open() && bytes.empty()) || !is(station.try_start(enq) == LIS_STATUS_OK && enq == "\x05")
+        || !is(sent(station, "\x05").empty() && station.patience() == std::chrono::seconds(1))
+        || !is(station.turn() == std::chrono::seconds(15) && !station.turn_asked()))
+        return false;
+    bool asks = station.timer().send() == "\x05";    // that isn't sent: the session is given up
+    return is(asks && station.outcome() == LIS_OUTCOME_RESTARTED && station.try_start(enq) == LIS_STATUS_OLD_LINE)
+        && is((station.connected(), station.try_add("a")) == LIS_STATUS_OK)
+        && is(station.try_start(enq) == LIS_STATUS_OK && sent(station, "\x06\x06") == first + "\x04")
+        && is(station.outcome() == LIS_OUTCOME_DONE && station.acknowledged() == 1 && !station.patience());
 }
 
 static bool of_records() {
@@ -66,4 +102,4 @@ static bool of_receiver() {
         && is(!receiver.is_open()) && is(receiver.try_reserve(1048577) == LIS_STATUS_TOO_LONG);
 }
 
-int main() { return of_sender() && of_records() && of_receiver() ? 0 : step; }
+int main() { return of_sender() && of_station() && of_records() && of_receiver() ? 0 : step; }

@@ -3,8 +3,8 @@ from tests import kit
 
 kit.library()
 from lislink import (LONG_FRAME_TEXT, FrameFault, Kind, LinkError, MessageError, Note, Outcome, Phase,  # noqa: E402
-                     Readiness, Reason, Reader, Receiver, Record, Scanner, Sender, Status, Writer, frame_bytes,
-                     messages, records)
+                     Readiness, Reason, Reader, Receiver, Record, Role, Scanner, Sender, Station, Status, Writer,
+                     frame_bytes, messages, records)
 
 FIRST = bytes.fromhex("0231487c5c5e260d0345350d0a")
 LONG = b"\x021" + b"a" * 63993 + b"\x03%02X\r\n" % ((ord("1") + 63993 * ord("a") + 3) % 256)
@@ -124,6 +124,60 @@ class Calls(kit.Test):
             self.gives(sender.start(), b"\x05")
             sender.restart()
             self.gives((sender.phase, sender.outcome, sender.seconds), (Phase.NEUTRAL, Outcome.RESTARTED, None))
+
+    def test_station(self):
+        with Station(Role.ANALYZER) as station:
+            self.rejects(lambda: station.start([]), Status.NO_TEXT, 0, 0)
+            self.rejects(lambda: station.start([b"ok", b"bad\n"]), Status.FORBIDDEN, 1, 3)
+            self.gives((station.start([b"H|\\^&\r"]), station.phase, station.seconds), (b"\x05", Phase.AWAIT_LINE, 15))
+            self.rejects(lambda: station.start([b"later"]), Status.IN_SESSION, 0, 0)
+            self.gives(list(station.hear(b"\x06")), [(FIRST, None)])
+            self.gives((station.awaits_reply, station.turn_seconds), (True, None))
+            self.gives([answer.send for answer in station.hear(b"\x04")], [FIRST])
+            self.gives((station.turn_asked, station.turn_seconds), (True, 15))
+            self.gives([answer.send for answer in station.hear(b"\x06")], [b"\x04"])
+            self.gives((station.outcome, station.acknowledged, station.seconds), (Outcome.DONE, 1, None))
+            answers = list(station.hear(b"\x05" + FIRST[:4]))
+            self.gives([(it.send, it.note, it.text) for it in answers], [(b"\x06", Note.OPENED, None)])
+            self.rejects(lambda: station.start([b"a"]), Status.LINE_OPEN, 0, 0)
+            self.gives((station.is_open, station.seconds), (True, 30))
+            station.ask_turn()
+            answers = [answer for _, answer in station.hear_placed(FIRST[4:])]
+            self.gives([(it.send, it.note, it.text) for it in answers], [(b"\x04", Note.ACCEPTED, b"H|\\^&\r")])
+            self.gives((station.accepted, station.held, station.waiting), (1, 0, 0))
+            self.gives((station.timer().note, station.turn_seconds, station.timer()), (Note.TIMED_OUT, None, (b"", None)))
+            station.set_ready(False)
+            self.gives([answer.send for answer in station.hear(b"\x05")], [b"\x15"])
+            station.reserve(1000)
+            self.rejects(lambda: station.reserve(1 << 21), Status.TOO_LONG)
+
+    def test_types_of_a_station(self):
+        with Station(Role.COMPUTER) as station:
+            for call in (lambda: Station(True), lambda: station.hear("ENQ"), lambda: station.start("text"),
+                         lambda: station.start(b"text"), lambda: station.set_ready(1), lambda: station.reserve("1")):
+                self.assertRaises(TypeError, call)
+            for call in (lambda: Station(2), lambda: station.reserve(-1)):
+                self.assertRaises(ValueError, call)
+            self.gives((station.phase, station.is_open, station.seconds), (Phase.NEUTRAL, False, None))
+        self.assertRaises(ValueError, station.timer)
+
+    def test_stations(self):
+        """Contention of a computer, with frames of any length; what is given up or closed."""
+        with Station(Role.COMPUTER, frame_limit=LONG_FRAME_TEXT) as station:
+            station.start([b"a" * LONG_FRAME_TEXT])
+            self.gives(list(station.hear(b"\x05")), [(b"", None)])
+            self.gives((station.phase, station.seconds), (Phase.CONTENTION, 20))
+            self.gives([(it.send, it.note) for it in station.hear(b"\x05\x04")], [(b"\x06", 1), (b"", Note.ENDED)])
+            self.gives((station.seconds, station.timer()), (0, (b"\x05", None)))
+            self.gives(list(station.hear(b"\x06\x15")), [(LONG, None), (LONG, None)])
+            station.give_up()
+            self.gives((station.outcome, station.phase), (Outcome.RESTARTED, Phase.NEUTRAL))
+            self.gives([it.send for it in station.hear(b"\x05" + LONG)], [b"\x06", b"\x06"])
+            station.close_line()
+            self.gives((station.is_open, list(station.hear(FIRST))), (False, []))
+            station.restart()
+            self.gives(station.timer(), (b"", None))
+        self.rejects(lambda: Station(Role.COMPUTER, frame_limit=241), Status.BAD_NUMBER)
 
     def test_writer(self):
         with Writer() as writer:

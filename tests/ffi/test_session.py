@@ -4,7 +4,9 @@ Each prints what session.txt has, and compares the rest itself: C99 and C++17 wi
 the archive with the sanitizers and over the shared library; lislink.hpp without exceptions; the crates of bindings/rust
 with their tests, by cargo without a network. What a machine has no compiler for is skipped.
 """
+import functools
 import os
+import resource
 import shutil
 import sys
 
@@ -35,6 +37,22 @@ def receives(test, name, program, path, build, goes_on=True):
     test.check(good, f"{name}: a text that can't be kept")
     full.end()
     test.check(samples.is_silent_late(*late), f"{name}, stopped for 12 seconds, sends no late reply")
+
+
+def keeps_no_half(program, path):
+    """Whether a text of which the disk takes a part alone gets no reply, and leaves nothing behind: in this session,
+    and when it is sent again."""
+    room = len(samples.TEXTS[0]) + 3
+    limit = functools.partial(resource.setrlimit, resource.RLIMIT_FSIZE, (room, room))
+    sample = samples.InPython([program, "0", path], preexec_fn=limit)
+    good = samples.ask(sample.line, samples.ENQ, samples.ACK)
+    good = good and samples.ask(sample.line, samples.frame(1, samples.TEXTS[0]), samples.ACK)
+    good = good and samples.ask(sample.line, samples.frame(2, samples.TEXTS[1]), b"")
+    good = good and samples.kept(path) == samples.TEXTS[0]
+    good = good and samples.ask(sample.line, samples.ENQ, samples.ACK)
+    good = good and samples.ask(sample.line, samples.frame(1, samples.TEXTS[0]), b"")
+    sample.end()
+    return good and samples.kept(path) == samples.TEXTS[0]
 
 
 class Session(kit.Test):
@@ -80,6 +98,7 @@ class Session(kit.Test):
                  os.path.join(self.build, "liblislink.a"), "-o", f"{work}/later"]
         if self.runs(words):
             receives(self, "later.cpp", f"{work}/later", f"{work}/kept", self.build)
+            self.check(keeps_no_half(f"{work}/later", f"{work}/half"), "later.cpp: a text that is written in part")
 
     def test_rust_is_up_to_date(self):
         self.assertTrue(self.runs([sys.executable, os.path.join(RUST, "generate"), "--check"]))

@@ -51,6 +51,10 @@ class StepOut(ctypes.Structure):
     ]
 
 
+class AnswerOut(ctypes.Structure):
+    _fields_ = [("is_step", ctypes.c_bool), ("send", Bytes), ("step", StepOut)]
+
+
 class Delimiters(ctypes.Structure):
     _fields_ = [(name, ctypes.c_uint8) for name in ("field", "repeat", "component", "escape")]
 
@@ -125,10 +129,35 @@ _CALLS: Dict[str, Any] = {
     "receiver_held": (_COUNT, _POINTER),
     "receiver_text_len": (_SIZE, _POINTER),
     "receiver_text": (_BYTE, _POINTER, _POINTER, _SIZE),
+    "station_begin": (_BYTE, _POINTER, _BYTE, _SIZE),
+    "station_add_text": (_BYTE, _POINTER, _POINTER, _SIZE),
+    "station_clear": (None, _POINTER),
+    "station_start": (_BYTE, _POINTER, _POINTER, _POINTER),
+    "station_hear": (_SIZE, _POINTER, _POINTER, _SIZE, _POINTER),
+    "station_frame": (_BYTE, _POINTER, _POINTER, _SIZE, _POINTER),
+    "station_timer": (None, _POINTER, _POINTER),
+    "station_timer_seconds": (_FLAG, _POINTER, _POINTER),
+    "station_give_up": (None, _POINTER),
+    "station_close_line": (None, _POINTER),
+    "station_restart": (None, _POINTER),
+    "station_set_ready": (None, _POINTER, _FLAG),
+    "station_ask_turn": (None, _POINTER),
+    "station_turn_asked": (_FLAG, _POINTER),
+    "station_turn_seconds": (ctypes.c_uint32, _POINTER),
+    "station_awaits_reply": (_FLAG, _POINTER),
+    "station_reserve": (_BYTE, _POINTER, _COUNT),
+    "station_phase": (_BYTE, _POINTER),
+    "station_outcome": (_BYTE, _POINTER),
+    "station_acknowledged": (_COUNT, _POINTER),
+    "station_is_open": (_FLAG, _POINTER),
+    "station_accepted": (_COUNT, _POINTER),
+    "station_held": (_COUNT, _POINTER),
+    "station_text_len": (_SIZE, _POINTER),
+    "station_text": (_BYTE, _POINTER, _POINTER, _SIZE),
     "status_text": (ctypes.c_char_p, _BYTE),
     "reason_text": (ctypes.c_char_p, _BYTE),
 }
-for _kind in ("scanner", "sender", "receiver", "reader", "writer"):
+for _kind in ("scanner", "sender", "receiver", "station", "reader", "writer"):
     _CALLS.update(
         {
             f"{_kind}_size": (_SIZE,),

@@ -40,7 +40,9 @@ class Status(enum.IntEnum):
         PUT_NOT_HEADER,
         PUT_NO_PARENT,
         PUT_SECOND_HEADER,
-    ) = range(17)
+        OLD_LINE,
+        LINE_OPEN,
+    ) = range(19)
 
 
 class Kind(enum.IntEnum):

@@ -23,6 +23,7 @@ pub const LIS_STATUS_PUT_NOT_HEADER: lis_status = 14;
 pub const LIS_STATUS_PUT_NO_PARENT: lis_status = 15;
 pub const LIS_STATUS_PUT_SECOND_HEADER: lis_status = 16;
 pub const LIS_STATUS_OLD_LINE: lis_status = 17;
+pub const LIS_STATUS_LINE_OPEN: lis_status = 18;
 
 pub type lis_signal_kind = u8;
 pub const LIS_SIGNAL_NONE: lis_signal_kind = 0;
@@ -73,6 +74,10 @@ pub type lis_ready = u8;
 pub const LIS_READY_YES: lis_ready = 0;
 pub const LIS_READY_BUSY: lis_ready = 1;
 pub const LIS_READY_CONTENDING: lis_ready = 2;
+
+pub type lis_role = u8;
+pub const LIS_ROLE_ANALYZER: lis_role = 0;
+pub const LIS_ROLE_COMPUTER: lis_role = 1;
 
 pub type lis_found_kind = u8;
 pub const LIS_FOUND_NOTHING: lis_found_kind = 0;
@@ -170,6 +175,20 @@ pub struct lis_step {
 #[repr(C)]
 #[derive(Clone, Copy, Debug)]
 pub struct lis_receiver {
+    pub at: *mut c_void,
+}
+
+#[repr(C)]
+#[derive(Clone, Copy, Debug)]
+pub struct lis_answer {
+    pub is_step: bool,
+    pub send: lis_bytes,
+    pub step: lis_step,
+}
+
+#[repr(C)]
+#[derive(Clone, Copy, Debug)]
+pub struct lis_station {
     pub at: *mut c_void,
 }
 
@@ -353,6 +372,54 @@ extern "C" {
     pub fn lis_receiver_held(s: *mut lis_receiver) -> u64;
     pub fn lis_receiver_text_len(s: *mut lis_receiver) -> usize;
     pub fn lis_receiver_text(s: *mut lis_receiver, out: *mut u8, out_len: usize) -> lis_status;
+    pub fn lis_station_size() -> usize;
+    pub fn lis_station_align() -> usize;
+    pub fn lis_station_init(at: *mut c_void);
+    pub fn lis_station_end(s: lis_station);
+    pub fn lis_station_begin(s: *mut lis_station, role: lis_role, limit: usize) -> lis_status;
+    pub fn lis_station_add_text(
+        s: *mut lis_station,
+        text: *const u8,
+        text_len: usize,
+    ) -> lis_status;
+    pub fn lis_station_clear(s: *mut lis_station);
+    pub fn lis_station_start(
+        s: *mut lis_station,
+        out: *mut lis_bytes,
+        fault: *mut lis_place,
+    ) -> lis_status;
+    pub fn lis_station_byte(s: *mut lis_station, byte: u8, out: *mut lis_answer);
+    pub fn lis_station_hear(
+        s: *mut lis_station,
+        bytes: *const u8,
+        bytes_len: usize,
+        out: *mut lis_answer,
+    ) -> usize;
+    pub fn lis_station_timer(s: *mut lis_station, out: *mut lis_answer);
+    pub fn lis_station_timer_seconds(s: *mut lis_station, seconds: *mut u32) -> bool;
+    pub fn lis_station_frame(
+        s: *mut lis_station,
+        out: *mut u8,
+        out_len: usize,
+        size: *mut usize,
+    ) -> lis_status;
+    pub fn lis_station_give_up(s: *mut lis_station);
+    pub fn lis_station_close_line(s: *mut lis_station);
+    pub fn lis_station_restart(s: *mut lis_station);
+    pub fn lis_station_set_ready(s: *mut lis_station, ready: bool);
+    pub fn lis_station_ask_turn(s: *mut lis_station);
+    pub fn lis_station_turn_asked(s: *mut lis_station) -> bool;
+    pub fn lis_station_turn_seconds(s: *mut lis_station) -> u32;
+    pub fn lis_station_awaits_reply(s: *mut lis_station) -> bool;
+    pub fn lis_station_reserve(s: *mut lis_station, bytes: u64) -> lis_status;
+    pub fn lis_station_phase(s: *mut lis_station) -> lis_phase;
+    pub fn lis_station_outcome(s: *mut lis_station) -> lis_outcome;
+    pub fn lis_station_acknowledged(s: *mut lis_station) -> u64;
+    pub fn lis_station_is_open(s: *mut lis_station) -> bool;
+    pub fn lis_station_accepted(s: *mut lis_station) -> u64;
+    pub fn lis_station_held(s: *mut lis_station) -> u64;
+    pub fn lis_station_text_len(s: *mut lis_station) -> usize;
+    pub fn lis_station_text(s: *mut lis_station, out: *mut u8, out_len: usize) -> lis_status;
     pub fn lis_header_read(
         text: *const u8,
         text_len: usize,
@@ -490,6 +557,7 @@ extern "C" {
     pub fn lis_outcome_text(outcome: lis_outcome) -> *const c_char;
     pub fn lis_note_text(note: lis_note) -> *const c_char;
     pub fn lis_ready_text(readiness: lis_ready) -> *const c_char;
+    pub fn lis_role_text(role: lis_role) -> *const c_char;
     pub fn lis_found_text(kind: lis_found_kind) -> *const c_char;
     pub fn lis_reason_text(reason: lis_reason) -> *const c_char;
 }

@@ -5,21 +5,19 @@
 //! The futures here are ready at once. With a runtime as tokio, `read` is `timeout(PAUSE, line.read(bytes))`, `send` is
 //! `line.write_all`, and `keep` is what `spawn_blocking` runs; `receive` stays as it is.
 
+mod port;
+
 use lislink::Receiver;
-use std::fs::{File, OpenOptions};
+use std::fs::File;
 use std::future::Future;
 use std::io::{self, ErrorKind, Read, Write};
-use std::net::{TcpListener, TcpStream};
-use std::os::unix::fs::OpenOptionsExt;
+use std::net::TcpStream;
 use std::pin::pin;
 use std::task::{Context, Poll, Waker};
 use std::time::{Duration, Instant};
 
 /// A reply that goes out later could come after the analyzer's timer, which is 15 seconds.
 const LATE: Duration = Duration::from_secs(10);
-
-/// How long a read waits: a line that is idle is looked at so often.
-const PAUSE: Duration = Duration::from_secs(1);
 
 /// A line of some runtime.
 trait Line {
@@ -92,15 +90,6 @@ fn block_on<T>(future: impl Future<Output = T>) -> T {
 }
 
 fn main() -> io::Result<()> {
-    let words: Vec<String> = std::env::args().collect();
-    let [_, port, path] = words.as_slice() else {
-        return Err(io::Error::other("usage: later PORT FILE"));
-    };
-    let port: u16 = port.parse().map_err(io::Error::other)?;
-    let mut store = OpenOptions::new().append(true).create(true).mode(0o600).open(path)?;
-    let server = TcpListener::bind(("127.0.0.1", port))?;
-    println!("port {}", server.local_addr()?.port());
-    let (mut line, _) = server.accept()?;
-    line.set_read_timeout(Some(PAUSE))?;
+    let (mut line, mut store) = port::line_and_store("later")?;
     block_on(receive(&mut line, &mut store))
 }

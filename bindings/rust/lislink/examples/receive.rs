@@ -2,15 +2,12 @@
 //! acknowledged, and no reply is sent that could come after the analyzer's timer. PORT 0 is one that is free, and is
 //! printed. The receiver's timer does not run here: `host.c` in `examples/c` has it.
 
-use lislink::{Heard, Receiver};
-use std::fs::OpenOptions;
-use std::io::{self, ErrorKind, Read, Write};
-use std::net::{TcpListener, TcpStream};
-use std::os::unix::fs::OpenOptionsExt;
-use std::time::{Duration, Instant};
+mod port;
 
-/// How long a read waits: a line that is idle is looked at so often.
-const PAUSE: Duration = Duration::from_secs(1);
+use lislink::{Heard, Receiver};
+use std::io::{self, ErrorKind, Read, Write};
+use std::net::TcpStream;
+use std::time::Instant;
 
 /// Reads what came. It came after `empty`, and what the next read gives after the time that is answered.
 fn read_some(
@@ -33,16 +30,7 @@ fn read_some(
 }
 
 fn main() -> io::Result<()> {
-    let words: Vec<String> = std::env::args().collect();
-    let [_, port, path] = words.as_slice() else {
-        return Err(io::Error::other("usage: receive PORT FILE"));
-    };
-    let port: u16 = port.parse().map_err(io::Error::other)?;
-    let mut store = OpenOptions::new().append(true).create(true).mode(0o600).open(path)?;
-    let server = TcpListener::bind(("127.0.0.1", port))?;
-    println!("port {}", server.local_addr()?.port());
-    let (mut line, _) = server.accept()?;
-    line.set_read_timeout(Some(PAUSE))?;
+    let (mut line, mut store) = port::line_and_store("receive")?;
     let mut receiver = Receiver::new();
     let mut bytes = [0; 4096];
     let mut empty = Instant::now();

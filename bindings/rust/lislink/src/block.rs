@@ -34,6 +34,7 @@ macro_rules! handle {
 handle!(lis_scanner, lis_scanner_size, lis_scanner_align, lis_scanner_init, lis_scanner_end);
 handle!(lis_sender, lis_sender_size, lis_sender_align, lis_sender_init, lis_sender_end);
 handle!(lis_receiver, lis_receiver_size, lis_receiver_align, lis_receiver_init, lis_receiver_end);
+handle!(lis_station, lis_station_size, lis_station_align, lis_station_init, lis_station_end);
 handle!(lis_reader, lis_reader_size, lis_reader_align, lis_reader_init, lis_reader_end);
 handle!(lis_writer, lis_writer_size, lis_writer_align, lis_writer_init, lis_writer_end);
 

@@ -66,6 +66,7 @@ family! {
     PutNoParent = LIS_STATUS_PUT_NO_PARENT,
     PutSecondHeader = LIS_STATUS_PUT_SECOND_HEADER,
     OldLine = LIS_STATUS_OLD_LINE,
+    LineOpen = LIS_STATUS_LINE_OPEN,
 }
 
 family! {
@@ -123,6 +124,13 @@ family! {
     Yes = LIS_READY_YES,
     Busy = LIS_READY_BUSY,
     Contending = LIS_READY_CONTENDING,
+}
+
+family! {
+    /// Which side of the line a station is.
+    Role, lis_role_text:
+    Analyzer = LIS_ROLE_ANALYZER,
+    Computer = LIS_ROLE_COMPUTER,
 }
 
 family! {

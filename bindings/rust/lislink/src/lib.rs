@@ -3,6 +3,7 @@
 //!
 //! - A [`Receiver`] hears bytes. [`Receiver::hear`] keeps each text before it gives the reply that acknowledges it.
 //! - A [`Sender`] sends texts. A session starts only on a [`Connection`] on which no late reply can come.
+//! - A [`Station`] does both, on a line on which both sides send.
 //! - A [`Reader`] reads the records of a stream, a [`Writer`] writes them, a [`Scanner`] reads frames alone.
 //!
 //! Nothing here does input or output or has a clock: the caller moves the bytes and runs the timers.
@@ -16,13 +17,15 @@ mod frame;
 mod reader;
 mod receiver;
 mod sender;
+mod station;
 mod writer;
 
-pub use codes::{Fault, Note, Outcome, Phase, Ready, Reason, Status};
+pub use codes::{Fault, Note, Outcome, Phase, Ready, Reason, Role, Status};
 pub use frame::{frame, long_frame, Bytes, FrameLimit, Scanner, Signal};
 pub use reader::{MessageError, Part, Reader, Record, Records};
 pub use receiver::{Answer, Heard, Receiver, Step};
 pub use sender::{Connection, Sender, Text};
+pub use station::{Station, StationAnswer};
 pub use writer::{Delimiters, Writer};
 
 use std::fmt;

@@ -240,10 +240,10 @@ impl Receiver {
     }
 }
 
-fn no_step() -> sys::lis_step {
+pub(crate) fn no_step() -> sys::lis_step {
     sys::lis_step { reply: 0, has_text: false, note: 0, detail: 0, place: 0 }
 }
 
-fn step_of(step: &sys::lis_step) -> Step {
+pub(crate) fn step_of(step: &sys::lis_step) -> Step {
     Step { note: Note::of(step.note), detail: step.detail, place: step.place }
 }

@@ -1,7 +1,7 @@
 //! What the scripted session doesn't show: threads, texts that stay, panics, contention.
 use lislink::{
-    long_frame, Connection, FrameLimit, Heard, Note, Outcome, Phase, Reader, Ready, Receiver,
-    Sender, Status, Text,
+    long_frame, Connection, FrameLimit, Heard, Note, Outcome, Phase, Reader, Ready, Receiver, Role,
+    Sender, Station, Status, Text,
 };
 use std::panic::{catch_unwind, AssertUnwindSafe};
 use std::thread;
@@ -17,6 +17,7 @@ fn each_may_move_to_another_thread() {
     is_send::<lislink::Reader>();
     is_send::<lislink::Writer>();
     is_send::<lislink::Scanner>();
+    is_send::<Station>();
     let mut receiver = Receiver::new();
     let mut kept = Vec::new();
     for bytes in [b"\x05", &HEADER[..4], &HEADER[4..], b"\x04"] {
@@ -249,4 +250,62 @@ fn a_reply_that_is_not_said_to_be_sent_ends_the_session() {
     let note = receiver.next_step(&mut bytes).step().note;
     assert_eq!((note, receiver.is_open(), bytes.len()), (Note::Accepted, false, 0));
     assert_eq!(receiver.next_step(&mut bytes).reply(), None);
+}
+
+/// What a station sends in answer to bytes.
+fn sent(station: &mut Station, mut bytes: &[u8]) -> Vec<u8> {
+    let mut all = Vec::new();
+    while !bytes.is_empty() {
+        let answer = station.next_answer(&mut bytes);
+        all.extend_from_slice(answer.send());
+        answer.sent();
+    }
+    all
+}
+
+#[test]
+fn a_station_sends_and_receives() {
+    let mut station = Station::new(Role::Analyzer, FrameLimit::Usual).unwrap();
+    let status =
+        |started: Result<lislink::Bytes, lislink::Error>| started.err().map(|it| it.status);
+    assert_eq!(status(station.start([b"a"])), Some(Status::OldLine));
+    station.connected();
+    assert_eq!(status(station.start([b"a\n"])), Some(Status::Forbidden));
+    assert_eq!(sent(&mut station, b"\x05"), b"\x06");
+    assert_eq!(status(station.start([b"a"])), Some(Status::LineOpen));
+    assert_eq!(station.patience(), Some(Duration::from_secs(30)));
+    station.ask_turn();
+    assert_eq!(sent(&mut station, &[HEADER, b"\x04"].concat()), b"\x04");
+    assert_eq!((station.accepted(), station.held(), station.is_open()), (1, 0, false));
+    assert_eq!(&station.start([b"H|\\^&\r"]).unwrap()[..], b"\x05");
+    assert_eq!(sent(&mut station, b"\x05"), b"");
+    assert_eq!(
+        (station.phase(), station.patience()),
+        (Phase::Contention, Some(Duration::from_secs(1)))
+    );
+    assert_eq!((station.turn(), station.turn_asked()), (Some(Duration::from_secs(15)), false));
+    let answer = station.timer();
+    assert_eq!((answer.send(), answer.step()), (&b"\x05"[..], None));
+    answer.sent();
+    assert_eq!(sent(&mut station, b"\x06\x06"), [HEADER, b"\x04"].concat());
+    assert_eq!((station.outcome(), station.acknowledged()), (Outcome::Done, 1));
+    station.set_ready(false);
+    assert_eq!(sent(&mut station, b"\x05"), b"\x15");
+    assert_eq!(station.reserve(1_048_577).err().map(|it| it.status), Some(Status::TooLong));
+}
+
+#[test]
+fn an_answer_that_is_not_sent_ends_its_session() {
+    let mut station = Station::new(Role::Computer, FrameLimit::Long).unwrap();
+    station.connected();
+    assert_eq!(sent(&mut station, b"\x05"), b"\x06");
+    let mut bytes = HEADER;
+    assert_eq!(station.next_answer(&mut bytes).text(), Some(&b"H|\\^&\r"[..]));
+    assert!(!station.is_open() && bytes.is_empty());
+    let text = vec![b'a'; 63_993];
+    station.start([&text]).unwrap();
+    let mut ack: &[u8] = b"\x06";
+    assert_eq!(station.next_answer(&mut ack).send(), long_frame(1, true, &text).unwrap());
+    assert_eq!((station.phase(), station.outcome()), (Phase::Neutral, Outcome::Restarted));
+    assert_eq!(station.start([&text]).err().map(|it| it.status), Some(Status::OldLine));
 }

@@ -1,0 +1,269 @@
+//! The station: both ways of one line.
+use crate::receiver::{no_step, step_of};
+use crate::{block::Block, Bytes, Error, FrameLimit, Note, Outcome, Phase, Role, Status, Step};
+use lislink_sys as sys;
+use std::time::Duration;
+
+/// A side of a line on which both sides send. The bytes that a call gives are to be sent; there may be none.
+pub struct Station {
+    block: Block<sys::lis_station>,
+    limit: FrameLimit,
+    // The text that is complete, and the bytes that are to be sent.
+    text: Vec<u8>,
+    send: Vec<u8>,
+    // Whether a reply may come that is late.
+    spent: bool,
+}
+
+/// An answer: keep its text, send its bytes, and say [`sent`](Self::sent). If that isn't said, nothing of it may go
+/// out: as this is dropped the line is closed, or, if the answer was of the sender, its session given up.
+#[must_use = "keep the text, send the bytes, and then say `sent`; else the line is closed"]
+pub struct StationAnswer<'a> {
+    station: &'a mut Station,
+    step: Option<Step>,
+    has_text: bool,
+    is_due: bool,
+}
+
+impl StationAnswer<'_> {
+    /// What the bytes meant to the receiver; none if they were for the sender.
+    pub fn step(&self) -> Option<Step> {
+        self.step
+    }
+
+    /// Whether nothing happened: the timer runs on. After any other answer it begins anew.
+    pub fn is_quiet(&self) -> bool {
+        self.step.is_some_and(|step| step.note == Note::Quiet)
+    }
+
+    /// The text that is complete, to be kept before anything is sent.
+    pub fn text(&self) -> Option<&[u8]> {
+        self.has_text.then_some(&self.station.text[..])
+    }
+
+    /// The bytes that are to be sent.
+    pub fn send(&self) -> &[u8] {
+        &self.station.send
+    }
+
+    /// The text was kept, and the bytes were sent.
+    pub fn sent(mut self) {
+        self.is_due = false;
+    }
+}
+
+impl Drop for StationAnswer<'_> {
+    fn drop(&mut self) {
+        match (self.is_due, self.step) {
+            (false, _) => (),
+            (true, Some(_)) => self.station.close_line(),
+            (true, None) => self.station.give_up(),
+        }
+    }
+}
+
+impl Station {
+    /// A station without a connection; an error if there is no memory for the long limit.
+    pub fn new(role: Role, limit: FrameLimit) -> Result<Self, Error> {
+        let mut block = Block::new();
+        let status = unsafe { sys::lis_station_begin(block.get(), role.number(), limit.bytes()) };
+        Error::of(status, 0, 0)?;
+        Ok(Station { block, limit, text: Vec::new(), send: Vec::new(), spent: true })
+    }
+
+    /// A new connection was made; or a serial line was waited for, longer than the other side takes to answer, and what
+    /// came was dropped. The station restarts.
+    pub fn connected(&mut self) {
+        self.restart();
+        self.spent = false;
+    }
+
+    /// Asks for the line, to send these texts in one session, which gives ENQ. [`Status::OldLine`] before
+    /// [`connected`](Self::connected), and after a session that timed out or was given up; [`Status::LineOpen`] while
+    /// the other side has the line. The station is then as before. Only [`Outcome::Done`] says that all texts were
+    /// acknowledged: keep them until then.
+    pub fn start<T: AsRef<[u8]>>(
+        &mut self,
+        texts: impl IntoIterator<Item = T>,
+    ) -> Result<Bytes, Error> {
+        if self.spent {
+            return Err(Error { status: Status::OldLine, index: 0, place: 0 });
+        }
+        self.clear();
+        let started = self.add_all(texts).and_then(|()| self.start_added());
+        self.clear();
+        started
+    }
+
+    fn add_all<T: AsRef<[u8]>>(&mut self, texts: impl IntoIterator<Item = T>) -> Result<(), Error> {
+        texts.into_iter().try_for_each(|text| {
+            let (station, text) = (self.block.get(), text.as_ref());
+            let status = unsafe { sys::lis_station_add_text(station, text.as_ptr(), text.len()) };
+            Error::of(status, 0, 0)
+        })
+    }
+
+    fn start_added(&mut self) -> Result<Bytes, Error> {
+        let (mut out, mut fault) = (Bytes::none(), sys::lis_place { index: 0, place: 0 });
+        let status = unsafe { sys::lis_station_start(self.block.get(), out.get(), &mut fault) };
+        Error::of(status, fault.index, fault.place)?;
+        Ok(out)
+    }
+
+    fn clear(&mut self) {
+        unsafe { sys::lis_station_clear(self.block.get()) };
+    }
+
+    /// Hears bytes up to the first answer, and takes them from the front of `bytes`. It may be sent later, as after an
+    /// `await`; until then the station hears no more. Without an answer all bytes are taken. If there is no memory for
+    /// a text, the line is closed, and the note says so.
+    pub fn next_answer(&mut self, bytes: &mut &[u8]) -> StationAnswer<'_> {
+        let mut out = no_answer();
+        if !bytes.is_empty() {
+            let station = self.block.get();
+            let heard =
+                unsafe { sys::lis_station_hear(station, bytes.as_ptr(), bytes.len(), &mut out) };
+            *bytes = &bytes[heard..];
+        }
+        if out.step.has_text && !self.copy_text() {
+            self.close_line();
+            let step = sys::lis_step { note: sys::LIS_NOTE_OUT_OF_MEMORY, ..no_step() };
+            out = sys::lis_answer { step, ..no_answer() };
+        }
+        self.answer(&out)
+    }
+
+    /// The time of [`patience`](Self::patience) is over.
+    pub fn timer(&mut self) -> StationAnswer<'_> {
+        let (mut out, session) = (no_answer(), self.phase() != Phase::Neutral);
+        unsafe { sys::lis_station_timer(self.block.get(), &mut out) };
+        self.spent = self.spent || (session && self.outcome() == Outcome::TimedOut);
+        self.answer(&out)
+    }
+
+    fn answer(&mut self, out: &sys::lis_answer) -> StationAnswer<'_> {
+        self.send.clear();
+        self.send.extend_from_slice(&out.send.bytes[..out.send.len]);
+        // `lis_bytes` has no room for a long frame.
+        if !out.is_step && self.send.is_empty() && self.limit == FrameLimit::Long {
+            self.copy_frame();
+        }
+        let step = out.is_step.then(|| step_of(&out.step));
+        let is_due = !self.send.is_empty() || out.step.has_text;
+        StationAnswer { step, has_text: out.step.has_text, is_due, station: self }
+    }
+
+    /// The frame that awaits its reply, if one does.
+    fn copy_frame(&mut self) {
+        self.send.resize(sys::LIS_LIMIT_LONG_FRAME_BYTES as usize, 0);
+        let (to, room, mut size) = (self.send.as_mut_ptr(), self.send.len(), 0);
+        unsafe { sys::lis_station_frame(self.block.get(), to, room, &mut size) };
+        self.send.truncate(size);
+    }
+
+    /// Copies the text that is complete; whether there is memory for it.
+    fn copy_text(&mut self) -> bool {
+        let station = self.block.get();
+        let len = unsafe { sys::lis_station_text_len(station) };
+        self.text.clear();
+        if self.text.try_reserve(len).is_err() {
+            return false;
+        }
+        self.text.resize(len, 0);
+        let status = unsafe { sys::lis_station_text(station, self.text.as_mut_ptr(), len) };
+        status == sys::LIS_STATUS_OK
+    }
+
+    /// How long the timer runs that runs now, before [`timer`](Self::timer).
+    pub fn patience(&self) -> Option<Duration> {
+        let mut seconds = 0;
+        let runs =
+            unsafe { sys::lis_station_timer_seconds(&mut self.block.handle(), &mut seconds) };
+        runs.then(|| Duration::from_secs(seconds.into()))
+    }
+
+    /// How long the line should be left to the other side, which waits for its turn.
+    pub fn turn(&self) -> Option<Duration> {
+        let seconds = unsafe { sys::lis_station_turn_seconds(&mut self.block.handle()) };
+        (seconds > 0).then(|| Duration::from_secs(seconds.into()))
+    }
+
+    /// Whether the other side asked for its turn, by EOT in reply to a frame, and hasn't had it since.
+    pub fn turn_asked(&self) -> bool {
+        unsafe { sys::lis_station_turn_asked(&mut self.block.handle()) }
+    }
+
+    /// Asks for its turn while the other side has the line: the next frame that is accepted is answered EOT.
+    pub fn ask_turn(&mut self) {
+        unsafe { sys::lis_station_ask_turn(self.block.get()) };
+    }
+
+    /// Gives up the session of its own; nothing is sent.
+    pub fn give_up(&mut self) {
+        self.spent = self.spent || self.phase() != Phase::Neutral;
+        unsafe { sys::lis_station_give_up(self.block.get()) };
+    }
+
+    /// Drops the other side's session: it is not heard until it asks for the line again.
+    pub fn close_line(&mut self) {
+        unsafe { sys::lis_station_close_line(self.block.get()) };
+    }
+
+    /// Does both, as when the connection is lost.
+    pub fn restart(&mut self) {
+        self.give_up();
+        unsafe { sys::lis_station_restart(self.block.get()) };
+    }
+
+    /// Whether the other side gets the line from now on: its ENQ is answered ACK, or NAK.
+    pub fn set_ready(&mut self, ready: bool) {
+        unsafe { sys::lis_station_set_ready(self.block.get(), ready) };
+    }
+
+    /// Makes room for so many more bytes of text.
+    pub fn reserve(&mut self, bytes: u64) -> Result<(), Error> {
+        let status = unsafe { sys::lis_station_reserve(self.block.get(), bytes) };
+        Error::of(status, 0, 0)
+    }
+
+    /// Whether the next byte is a reply to its own ENQ or frame.
+    pub fn awaits_reply(&self) -> bool {
+        unsafe { sys::lis_station_awaits_reply(&mut self.block.handle()) }
+    }
+
+    /// What its sender waits for; neutral if no session of its own goes on.
+    pub fn phase(&self) -> Phase {
+        Phase::of(unsafe { sys::lis_station_phase(&mut self.block.handle()) })
+    }
+
+    /// How the last session of its own ended.
+    pub fn outcome(&self) -> Outcome {
+        Outcome::of(unsafe { sys::lis_station_outcome(&mut self.block.handle()) })
+    }
+
+    /// How many frames of its own session are acknowledged.
+    pub fn acknowledged(&self) -> u64 {
+        unsafe { sys::lis_station_acknowledged(&mut self.block.handle()) }
+    }
+
+    /// Whether the other side has the line.
+    pub fn is_open(&self) -> bool {
+        unsafe { sys::lis_station_is_open(&mut self.block.handle()) }
+    }
+
+    /// How many frames were accepted since the other side got the line.
+    pub fn accepted(&self) -> u64 {
+        unsafe { sys::lis_station_accepted(&mut self.block.handle()) }
+    }
+
+    /// How many bytes are held of a text that isn't complete.
+    pub fn held(&self) -> u64 {
+        unsafe { sys::lis_station_held(&mut self.block.handle()) }
+    }
+}
+
+/// The answer to no byte: the receiver's, quiet.
+fn no_answer() -> sys::lis_answer {
+    let send = sys::lis_bytes { len: 0, bytes: [0; 247] };
+    sys::lis_answer { is_step: true, send, step: no_step() }
+}

@@ -1,0 +1,202 @@
+// lislink::station of lislink.hpp: both ways of one line (LIS01-A2, 6.2.7 and 6.5), for C++17.
+//
+// Header only, over the C calls: tested and not proved. What lislink.hpp says of its owners holds for this one.
+#ifndef LISLINK_STATION_HPP
+#define LISLINK_STATION_HPP
+
+#include <lislink.hpp>
+
+namespace lislink {
+
+// A side of a line on which both sides send: one owner for both ends. The bytes that a call gives are to be sent; there
+// may be none.
+class station {
+    detail::owner<lis_station, lis_station_size, lis_station_align, lis_station_init, lis_station_end> own_;
+    lis_answer answer_{};
+    lis_place fault_{};
+    std::string text_;
+    std::string long_;      // room for a frame, with the long limit
+    bool spent_ = true;     // whether a reply may come that is late
+
+    lis_station *get() noexcept { return own_.get(); }
+
+    // The text that is complete, in `text_`; false if there is no memory for it.
+    bool copy_text() {
+        std::size_t len = lis_station_text_len(get());
+#if defined(__cpp_exceptions)
+        try {
+            text_.resize(len);
+        } catch (const std::bad_alloc &) {
+            return false;
+        }
+#else
+        text_.resize(len);
+#endif
+        return lis_station_text(get(), detail::at(text_), len) == LIS_STATUS_OK;
+    }
+
+    // What is to be sent of the last answer.
+    std::string_view out() noexcept {
+        std::size_t size = 0;
+        if (answer_.is_step || answer_.send.len > 0 || long_.empty()
+            || lis_station_frame(get(), detail::at(long_), long_.size(), &size) != LIS_STATUS_OK)
+            return detail::view(answer_.send.bytes, answer_.send.len);
+        return std::string_view(long_).substr(0, size);
+    }
+
+public:
+    // An answer: keep its text, send its bytes, and call sent(). If that isn't called, nothing of it may go out: the
+    // line is closed, or, if the answer was of the sender, its session given up. Meanwhile the station hears no more.
+    class [[nodiscard]] answer_due {
+        station *its_;
+        lis_step step_;
+        bool is_step_;
+        std::string_view send_, text_;
+        friend class station;
+
+        answer_due(station &its, bool is_due) noexcept
+            : its_(is_due ? &its : nullptr), step_(its.answer_.step), is_step_(its.answer_.is_step), send_(its.out()),
+              text_(its.text_) {}
+
+    public:
+        answer_due(answer_due &&other) noexcept
+            : its_(std::exchange(other.its_, nullptr)), step_(other.step_), is_step_(other.is_step_),
+              send_(other.send_), text_(other.text_) {}
+        answer_due &operator=(answer_due &&) = delete;
+        ~answer_due() { drop(); }
+
+        // Whether it is a step of the receiver, and that step; else it was for the sender.
+        bool is_step() const noexcept { return is_step_; }
+        const lis_step &step() const noexcept { return step_; }
+        // Whether nothing happened: the timer runs on. After any other answer it begins anew.
+        bool is_quiet() const noexcept { return is_step_ && step_.note == LIS_NOTE_QUIET; }
+        // The text that is complete, to be kept before anything is sent.
+        std::optional<std::string_view> text() const noexcept {
+            return step_.has_text ? std::optional(text_) : std::nullopt;
+        }
+        // The bytes that are to be sent.
+        std::string_view send() const noexcept { return send_; }
+        // The text was kept, and the bytes were sent.
+        void sent() noexcept { its_ = nullptr; }
+        // Nothing goes out.
+        void drop() noexcept {
+            if (station *its = std::exchange(its_, nullptr))
+                is_step_ ? its->close_line() : its->give_up();
+        }
+    };
+
+#if defined(__cpp_exceptions)
+    // A station of the usual limit on a frame's text.
+    explicit station(lis_role role) { begin(role); }
+    // Sets the role and how long the text of a frame may be, and makes the station new, without a text.
+    void begin(lis_role role, std::size_t limit = LIS_LIMIT_FRAME_TEXT) { detail::check(try_begin(role, limit)); }
+    void add(std::string_view text) { detail::check(try_add(text)); }
+    std::string_view start() {
+        std::string_view enq;
+        lis_status status = try_start(enq);
+        detail::check(status, fault_.index, fault_.place);
+        return enq;
+    }
+    void reserve(std::uint64_t bytes) { detail::check(try_reserve(bytes)); }
+#endif
+    // A computer's station of the usual limit.
+    explicit station(std::nothrow_t) noexcept : own_(std::nothrow) {}
+    explicit operator bool() const noexcept { return static_cast<bool>(own_); }
+
+    // As begin. It throws std::bad_alloc, and the station is as it was, if there is no memory.
+    lis_status try_begin(lis_role role, std::size_t limit = LIS_LIMIT_FRAME_TEXT) {
+        std::string room(limit == LIS_LIMIT_LONG_FRAME_TEXT ? LIS_LIMIT_LONG_FRAME_BYTES : 0, '\0');
+        bool session = phase() != LIS_PHASE_NEUTRAL;
+        lis_status status = lis_station_begin(get(), role, limit);
+        if (status == LIS_STATUS_OK) {
+            long_ = std::move(room);
+            spent_ = spent_ || session;
+        }
+        return status;
+    }
+    // A new connection was made; or a serial line was waited for, longer than the other side takes to answer, and what
+    // came was dropped. The station restarts.
+    void connected() noexcept {
+        restart();
+        spent_ = false;
+    }
+    // A copy of a text for the next session.
+    lis_status try_add(std::string_view text) noexcept {
+        return lis_station_add_text(get(), detail::at(text), text.size());
+    }
+    void clear() noexcept { lis_station_clear(get()); }
+    // Asks for the line: `out` is ENQ. LIS_STATUS_OLD_LINE before `connected`, and after a session that timed out or
+    // was given up; LIS_STATUS_LINE_OPEN while the other side has the line.
+    lis_status try_start(std::string_view &out) noexcept {
+        out = std::string_view();
+        fault_ = lis_place{};
+        if (spent_)
+            return LIS_STATUS_OLD_LINE;
+        lis_status status = lis_station_start(get(), &answer_.send, &fault_);
+        if (status == LIS_STATUS_OK)
+            out = detail::view(answer_.send.bytes, answer_.send.len);
+        return status;
+    }
+    // The text and the byte at fault of the last start.
+    lis_place fault() const noexcept { return fault_; }
+
+    // Hears bytes up to the first answer, and takes them from the front of `bytes`; without one all are taken. If there
+    // is no memory for a text, the line is closed, and the note says so.
+    answer_due next_answer(std::string_view &bytes) {
+        answer_ = lis_answer{};
+        answer_.is_step = true;
+        if (!bytes.empty())
+            bytes.remove_prefix(lis_station_hear(get(), detail::at(bytes), bytes.size(), &answer_));
+        if (answer_.step.has_text && !copy_text()) {
+            close_line();
+            answer_ = lis_answer{};
+            answer_.is_step = true;
+            answer_.step.note = LIS_NOTE_OUT_OF_MEMORY;
+        }
+        return answer_due(*this, answer_.send.len > 0 || answer_.step.has_text || !answer_.is_step);
+    }
+    // The time of `patience` is over.
+    answer_due timer() {
+        bool session = phase() != LIS_PHASE_NEUTRAL;
+        lis_station_timer(get(), &answer_);
+        spent_ = spent_ || (session && outcome() == LIS_OUTCOME_TIMED_OUT);
+        return answer_due(*this, answer_.send.len > 0);
+    }
+    // How long the timer runs that runs now; none if none runs.
+    std::optional<std::chrono::seconds> patience() noexcept {
+        std::uint32_t seconds = 0;
+        return lis_station_timer_seconds(get(), &seconds) ? std::optional(std::chrono::seconds(seconds)) : std::nullopt;
+    }
+    // How long the line should be left to the other side, which waits for its turn; none if it doesn't.
+    std::optional<std::chrono::seconds> turn() noexcept {
+        std::uint32_t seconds = lis_station_turn_seconds(get());
+        return seconds > 0 ? std::optional(std::chrono::seconds(seconds)) : std::nullopt;
+    }
+    bool turn_asked() noexcept { return lis_station_turn_asked(get()); }
+    void ask_turn() noexcept { lis_station_ask_turn(get()); }
+
+    // Gives up the session of its own; drops that of the other side; does both.
+    void give_up() noexcept {
+        spent_ = spent_ || phase() != LIS_PHASE_NEUTRAL;
+        lis_station_give_up(get());
+    }
+    void close_line() noexcept { lis_station_close_line(get()); }
+    void restart() noexcept {
+        give_up();
+        lis_station_restart(get());
+    }
+    void set_ready(bool ready) noexcept { lis_station_set_ready(get(), ready); }
+    lis_status try_reserve(std::uint64_t bytes) noexcept { return lis_station_reserve(get(), bytes); }
+
+    bool awaits_reply() noexcept { return lis_station_awaits_reply(get()); }
+    lis_phase phase() noexcept { return lis_station_phase(get()); }
+    lis_outcome outcome() noexcept { return lis_station_outcome(get()); }
+    std::uint64_t acknowledged() noexcept { return lis_station_acknowledged(get()); }
+    bool is_open() noexcept { return lis_station_is_open(get()); }
+    std::uint64_t accepted() noexcept { return lis_station_accepted(get()); }
+    std::uint64_t held() noexcept { return lis_station_held(get()); }
+};
+
+} // namespace lislink
+
+#endif
