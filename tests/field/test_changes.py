@@ -137,6 +137,42 @@ class Changes(FieldTest):
             ran = lislab("normalize", "--all", data=data)
             self.same(f"a value that looks like one: {value!r}", (ran.status, ran.output), (0, data))
 
+    def test_one_line(self):
+        """Records on one line, each with ^M for its CR: mended where no value can be meant that begins with M and a
+        record's letter, else told."""
+        plain = [record for record in RECORDS if b"MC" not in record]
+        lines = {
+            "one message": plain,
+            "two messages": plain * 2,
+            "a comment": [*plain[:4], b"C|1|I|seen by ^Mary", *plain[4:]],
+            "two results": [*plain[:4], b"R|2|^^^K|139|mmol/L", *plain[4:]],
+            "a sender that ends in ^M": [b"H|\\^&|||Lab^M", *plain[1:]],
+            "empty fields": [plain[0], b"P|1||4711|||", *plain[2:]],
+        }
+        for name, records in lines.items():
+            for end in (b"", b"\n", b"\r\n"):
+                data = b"".join(record + b"^M" for record in records) + end
+                ran, explained = lislab("normalize", "--all", data=data), lislab("normalize", "--explain", data=data)
+                wanted = b"".join(record + b"\r" for record in records)
+                self.same(f"{name}, {end}: mended {ran.error}", (ran.status, ran.output), (0, wanted))
+                self.has(f"{name}, {end}: explained", explained.text, "mended by: lislab normalize --cr-words\n")
+                self.has(f"{name}, {end}: told", ran.error, "line 1: ^M became a CR")
+        doubtful = {
+            "a test MC with the value 7": [*plain[:4], b"R|2|^^^MC|7", *plain[4:]],
+            "a test MC with the value 1": [*plain[:3], b"R|1|^^^MC|1|mg/L", *plain[4:]],
+            "a test GLU^MC with the value 1": [*plain[:3], b"R|1|^^^GLU^MC|1|mg/L", *plain[4:]],
+            "a test MR with the value 2": [*plain[:4], b"R|2|^^^MR|2|mg/L", *plain[4:]],
+            "an order of the test GLU^MC": [*plain[:2], b"O|1|S7||^^^GLU^MC|1", *plain[3:]],
+            "5 mm": [*plain[:3], b"R|1|^^^GLU|5^MM|1", *plain[4:]],
+            "no L": plain[:-1],
+        }
+        for name, records in doubtful.items():
+            data = b"".join(record + b"^M" for record in records)
+            ran, explained = lislab("normalize", "--all", data=data), lislab("normalize", "--explain", data=data)
+            self.same(f"{name}: status {ran.output}", (ran.status, explained.status), (1, 1))
+            self.has(f"{name}: told", ran.error, "a result is gone: 'R|")
+            self.check("mended by" not in explained.text, f"{name}: explained", explained.text)
+
     def test_told(self):
         """What a change does to a result is told, and the status is 1."""
         for name, data, option, words in (

@@ -158,10 +158,11 @@ def notations():
         "Java, all by number": (lambda byte: f"\\u{byte:04X}", True),
         "C": (lambda byte: letters.get(byte, f"\\x{byte:02x}"), True),
         "words, and escapes": (lambda byte: letters.get(byte, f"<{NAMES.get(byte, '')}>"), True),
-        "=02": (lambda byte: f"={byte:02X}", False),
-        "%02": (lambda byte: f"%{byte:02X}", False),
+        "=02": (lambda byte: f"={byte:02X}", True),
+        "%02": (lambda byte: f"%{byte:02x}", True),
+        "<2>": (lambda byte: f"<{byte}>", True),
+        "<2>, <D>": (lambda byte: f"<{byte:X}>", True),
         "^B": (lambda byte: f"^{chr(byte + 64)}", False),
-        "<2>": (lambda byte: f"<{byte}>", False),
     }
 
 
@@ -204,6 +205,45 @@ def errors():
     ("replies alone", b"RX: 06\nRX: 06\n", "replies alone"),
     ("a capture", b"> 05\n", "already"),
     )
+
+
+#: Samples that are told to be of a form, which another one is taken for otherwise.
+IRP, CSV = "eltima-table.txt --form irp-table", "csv-dir.txt --form csv-table"
+FIELDS = "tshark-fields-names.txt --form tshark-fields"
+
+
+def skipped():
+    """Rows with bytes that a reader of a form could skip: what is wrong, the sample, what is put in the place of what
+    (or behind all), and words of the error."""
+    return (
+        ("a byte without its value", "slsnif.txt", b"|(124)1(049)", b"|1(049)", "a byte without its value"),
+        ("a row of no side", "slsnif.txt", b"Host   --> ^U(021)", b"Hosts: ^U(15)", "no line of slsnif"),
+        ("a call without its end", "strace.txt", b"", b'1 write(5, "\\25", 1\n', "the call has no result"),
+        ("a call that isn't resumed", "strace.txt", b"", b'7 write(5, "\\25", 1 <unfinished ...>\n', "has no result"),
+        ("a call of another kind", "strace.txt", b"", b'1 pwrite64(5, "\\25", 1, 0) = 1\n', "isn't read here"),
+        ("no length", "portmon.txt", b"Length 8: 02", b"Data: 02", "no line of Portmon"),
+        ("digits that are none", "eltima-table.txt", b"02 31 48", b"02 31 4g", "no bytes in the column data"),
+        ("digits that are none", IRP, b"02 31 48 7c", b"02 31 48 7g", "bytes that can't be read"),
+        ("digits in one word", IRP, b"03 45 35 0d 0a", b"0345350d0a", "bytes that can't be read"),
+        ("digits that are none", "eltima-dump.txt", b"02 31 48", b"0x2 31 48", "a row of bytes that isn't whole"),
+        ("a row before the first side", "jpnevulator.txt", b"2026", b"02 31 48 7c 5c\n2026", "isn't whole"),
+        ("a word before the row", "serialport-monitor.txt", b"    02 31", b"Buffer: 02 31", "isn't whole"),
+        ("repeated rows at the end", "one-xxd.txt", b"", b"*\n", "how many isn't known"),
+        ("repeated rows without offsets", "one-xxdp.txt", b"", b"*\n" + b"00" * 16 + b"\n", "how many isn't known"),
+        ("an array that isn't ended", "follow-c.txt", b"", b"char peer0_9[] = {\n0x05", "an array that isn't whole"),
+        ("bytes of another kind", "follow-yaml-old.txt", b"BQ==", b"BQ?=", "no line of YAML that is known"),
+        ("a row that is cut", FIELDS, b"", b"02 31 48 7c 5c 5e 26 0d\n", "a row that isn't whole"),
+        ("a row that is cut", "tshark-fields-names.txt", b"", b"0231487c5c5e260d\n", "bytes that can't be read"),
+        ("a row that is cut", CSV, b"", b"02 31 48 7c 5c 5e 26 0d\n", "a row that isn't whole"),
+        ("no direction", "json-lines.txt", b"", b'{"data": "02 31 48 7c"}\n', "bytes without a direction"),
+        ("a row of another offset", "tcpdump-X.txt", b"0x0020:  5018", b"0x0030:  5018", "a row is missing"),
+        ("a row that isn't ended", "k12.txt", b"|50|02|20|00|", b"|50|02|2|00|", "no row of K12"),
+    )
+
+
+def captured(text):
+    """The bytes of a capture."""
+    return bytes.fromhex("".join(row[2:] for row in text.splitlines() if row[:2] in ("> ", "< ")))
 
 
 class Logs(FieldTest):
@@ -361,6 +401,19 @@ class Logs(FieldTest):
         """Control bytes in text: each log is read whole, or is an error; no frame is left out, and no byte is wrong."""
         wanted = bytes_of(SESSION).decode()
         session = [(mark, data) for mark, _, data in timed_session()]
+        for name, mark in (("percent codes", "%"), ("quoted-printable", "=")):
+            coded = lambda byte: chr(byte) if chr(byte).isalnum() else f"{mark}{byte:02X}"
+            text = "".join(f"{'RX' if side == '>' else 'TX'}: {''.join(map(coded, data))}\n" for side, data in session)
+            ran = lislab("capture", self.path("log", text.encode()))
+            self.same(f"{name} of all but letters and digits {ran.error}", (ran.status, ran.text), (0, wanted))
+        for row, why in (
+            ("TX: ^B1H|\\^&^M^CE5^M^J", "line 3: control bytes are written as ^B here"),
+            ("RX: %021R|1|^^^GLU|5%05|%%0D%0300", "line 3: a number within a frame is no byte of it"),
+            ("RX: <2>1R|1|^^^GLU|<7>|%<13><3>00", "which bytes these are isn't clear: <13>, <2>, <3>, <7>"),
+        ):
+            ran = lislab("capture", self.path("log", f"RX: port opened\nTX: closed\n{row}\n".encode()))
+            self.same(f"{row}: status", (ran.status, ran.text), (3, ""))
+            self.has(f"{row}: why", ran.error, why)
         for name, (write, is_read) in notations().items():
             is_escaped = name in ("Java", "C", "words, and escapes")
             ways = [("\\", ""), ("\\\\", ""), ("\\\\", '"')] if is_escaped else [("\\", "")]
@@ -403,6 +456,51 @@ class Logs(FieldTest):
         rows[2] = {"dir": "rx", "data": [2, 49, 72]}
         ran = lislab("capture", self.path("log", "".join(json.dumps(row) + "\n" for row in rows).encode()))
         self.same("JSON with a list of numbers", (ran.status, ran.text), (3, ""))
+
+    def test_damaged_rows(self):
+        """A row of bytes that is damaged is an error, or it is told that it was left out: no byte goes unsaid."""
+        chance, tried, unsaid = random.Random(62), 0, []
+        for path in sorted(glob.glob(os.path.join(LOGS, "*"))):
+            log = bytes_of(path)
+            if path.endswith((".bin", ".md", ".pcap", "nolf.txt")) or b"\0" in log:
+                continue  # a log without LF has fewer bytes than its capture
+            whole = len(captured(lislab("capture", path).text))
+            rows = log.splitlines(keepends=True)
+            for at in chance.sample(range(len(rows)), min(len(rows), 12)):
+                places = [place for place, byte in enumerate(rows[at]) if byte in b"0123456789abcdefABCDEF"]
+                if not places:
+                    continue
+                place, byte = chance.choice(places), chance.choice((b"g", b"~"))
+                row = rows[at][:place] + byte + rows[at][place + 1 :]
+                ran = lislab("capture", self.path("log", b"".join([*rows[:at], row, *rows[at + 1 :]])))
+                tried += 1
+                if not (ran.status or len(captured(ran.text)) >= whole or "left out" in ran.error):
+                    unsaid.append((os.path.basename(path), row, ran.error))
+        self.check(tried > 500, "rows are damaged", str(tried))
+        self.same("bytes are left out unsaid", unsaid, [])
+
+    def test_skipped(self):
+        """What the forms skip: a row that holds bytes is an error, any other is counted."""
+        for name, log, old, new, words in skipped():
+            sample, *options = log.split()
+            data = bytes_of(os.path.join(LOGS, sample))
+            ran = lislab("capture", *options, self.path("log", data.replace(old, new, 1) if old else data + new))
+            self.same(f"{log}, {name}: status {ran.text[:200]}", ran.status, 3)
+            self.has(f"{log}, {name}: why", ran.error, words)
+        for name, log, new in (
+            ("the program's name", "slsnif.txt", b""),
+            ("calls of other kinds", "portmon2.txt", b""),
+            ("a row without bytes", "tshark-fields.txt", b"1763630103.5\t51234\t\n"),
+            ("a row without bytes", "eltima-table.txt", b"11\t20/11/2026 09:15:03\tIRP_MJ_CLOSE\tUP\tSTATUS_SUCCESS\n"),
+        ):
+            ran = lislab("capture", self.path("log", bytes_of(os.path.join(LOGS, log)) + new))
+            self.same(f"{log}, {name}", (ran.status, ran.text), (0, bytes_of(SESSION).decode()))
+            self.has(f"{log}, {name}: told", ran.error, "lines without bytes were left out")
+        yaml = re.sub(rb"\|\n +(\S+)\n", rb"\1\n", bytes_of(os.path.join(LOGS, "follow-yaml-old.txt")))
+        ran = lislab("capture", self.path("log", yaml))
+        self.same(f"base64 on the line of its name {ran.error}", ran.text, bytes_of(SESSION).decode())
+        ran = lislab("capture", self.path("log", b"<STX>1H|\\^&<CR><ETX>E5<CR><LF>\n<15>\n<ENQ>\n<06>\n"))
+        self.same("NAK as <15> without a direction", [row for row in ran.lines if row[0] == "<"], ["< 15", "< 06"])
 
     def test_options(self):
         """The side of the analyzer, the timer, modes and times."""

@@ -5,10 +5,13 @@ import json
 import os
 import random
 import re
+import resource
+import subprocess
+import sys
 
 from lislink import Message, messages, read_all
 from lislink.field.normalize import CHANGES
-from tests import ROOT
+from tests import ROOT, kit
 from tests.field.lab import FieldTest, lislab
 
 SAMPLES = os.path.join(ROOT, "samples")
@@ -32,6 +35,14 @@ def changed(test, name, data, options, wanted, told):
 def table(data, *options):
     ran = lislab("table", *options, data=data)
     return ran, list(csv.reader(io.StringIO(ran.text)))
+
+
+def in_a_full_disk(words):
+    """A run of lislab that can write no byte to a file."""
+    limits = lambda: resource.setrlimit(resource.RLIMIT_FSIZE, (0, resource.RLIM_INFINITY))
+    env = {**os.environ, "PYTHONPATH": os.path.join(ROOT, "python", "src"), "PYTHONDONTWRITEBYTECODE": "1"}
+    words = [sys.executable, "-m", "lislink", *words]
+    return subprocess.run(words, env=env, capture_output=True, preexec_fn=limits, check=False)
 
 
 def framed(number, record):
@@ -65,6 +76,16 @@ def meaning_of(text):
 
 
 class Records(FieldTest):
+    def test_a_file_that_cannot_be_written(self):
+        """What was in the file is still there, and the status says so."""
+        path = os.path.join(kit.folder_of(self), "results.csv")
+        with open(path, "wb") as file:
+            file.write(b"old")
+        panel = os.path.join(SAMPLES, "panel.records")
+        self.same("status", in_a_full_disk(["table", panel, "-o", path]).returncode, 3)
+        with open(path, "rb") as file:
+            self.same("the file", file.read(), b"old")
+
     def test_nothing_is_lost(self):
         """A cell of a table, and a list of JSON, has what the field means: an escaped delimiter is none."""
         chance, lost = random.Random(5), []

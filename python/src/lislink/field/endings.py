@@ -2,6 +2,8 @@
 import re
 from typing import NamedTuple, Optional, Tuple
 
+from ..message import Found, Message, read_all
+
 _RECORD = rb"(?=[ \t]*[HPORCQMSLhporcqmsl]%s)"
 _LINE_END = rb"(?=[ \t]*(?:[\r\n]|\Z))"
 
@@ -39,6 +41,10 @@ class Ending(NamedTuple):
     places: "re.Pattern[bytes]"
     is_sure: bool
 
+    def with_cr(self, data: bytes) -> bytes:
+        """The same bytes with a CR for each word, and for the line end behind it."""
+        return re.sub(self.places.pattern + rb"[ \t]*(?:\r\n|\r|\n)?", b"\r", data, flags=self.places.flags)
+
 
 def ending_of(data: bytes) -> Optional[Ending]:
     """The word that ends records of these bytes; None if none does. At the end of a line it is one if each header ends
@@ -57,8 +63,10 @@ def ending_of(data: bytes) -> Optional[Ending]:
         if headers and all(ends):
             # As the headers end, so do the others: a value may be another of these words.
             same = b"|".join(re.escape(one) for one in sorted({end.group() for end in ends if end}, key=len)[::-1])
-            is_sure = is_at_end or word.cr != rb"\^M"
-            return _ending(data, _places(rb"(?:%s)" % same, record, is_at_end, word.flags), is_sure)
+            found = _ending(data, _places(rb"(?:%s)" % same, record, is_at_end, word.flags), True)
+            if found and word.cr == rb"\^M" and not is_at_end and not _are_messages(found.with_cr(data)):
+                return found._replace(is_sure=False)
+            return found
         if not word.is_doubtful and re.search(word.ends() + record, data, word.flags):
             return _ending(data, re.compile(word.ends() + record, word.flags), True)
     return None
@@ -72,6 +80,26 @@ def _places(found: bytes, record: bytes, is_at_end: bool, flags: "re.RegexFlag")
 def _ending(data: bytes, places: "re.Pattern[bytes]", is_sure: bool) -> Optional[Ending]:
     found = places.search(data)
     return Ending(found.group().decode("utf-8", "replace"), places, is_sure) if found else None
+
+
+def _are_messages(data: bytes) -> bool:
+    """Whether these are whole messages in which no value can be meant that begins with M and a record's letter: each
+    record has the number that is due where it stands and doesn't end in an empty component, each result has its value,
+    each comment its source, and none has a letter whose number isn't due anywhere."""
+    found = list(read_all(data))
+    messages = [one.message for one in found if isinstance(one, Found)]
+    return bool(found) and len(messages) == len(found) and all(map(_is_due, messages))
+
+
+def _is_due(message: Message) -> bool:
+    rows = [entry.row for entry in message.entries]
+    return not message.findings() and not any(
+        row.letter in "MS"
+        or row.text[-1:] == row.delimiters[2:3]
+        or row.letter == "R" and not row.written(4)
+        or row.letter == "C" and row.written(3) not in (b"I", b"L", b"P")
+        for row in rows
+    )
 
 
 def ending_at(record: bytes) -> Optional[Ending]:

@@ -37,12 +37,12 @@ class Log(NamedTuple):
     remarks: List[str]
 
 
-def left_out(lines: List[int]) -> List[str]:
+def left_out(lines: List[int], what: str = "without bytes") -> List[str]:
     """A remark on the lines that were left out of a log, if there are some."""
     if not lines:
         return []
     shown = ", ".join(map(str, lines[:20])) + (", .." if len(lines) > 20 else "")
-    return [f"lines without bytes were left out, {len(lines)} of them: {shown}"]
+    return [f"lines {what} were left out, {len(lines)} of them: {shown}"]
 
 
 _MONTHS = {name: number for number, name in enumerate("jan feb mar apr may jun jul aug sep oct nov dec".split(), 1)}
@@ -87,6 +87,13 @@ def find_time(text: str) -> Optional[int]:
         if found:
             return _of_clock(found)
     return None
+
+
+def times_beside(numbers: List[int], path: str) -> List[Optional[int]]:
+    """The times of these lines of a capture, by the file of its times."""
+    with open(path, encoding="utf-8") as file:
+        rows = file.read().splitlines()
+    return [find_time(rows[number - 1]) if number <= len(rows) else None for number in numbers]
 
 
 def _of_clock(found: "re.Match[str]") -> Optional[int]:
@@ -178,6 +185,19 @@ def ascii_fits(text: str, data: bytes) -> bool:
         32 <= byte < 127 and shown == chr(byte) or not 32 < byte < 127 or shown == "."
         for shown, byte in zip(text, data)
     ) and (len(text) == len(data) or not text.strip() or data[len(text) :].strip(b" ") == b"")
+
+
+#: What is in a row that holds bytes of a line: the beginning of a record, pairs of digits, or the digits of a frame. A
+#: time has pairs too.
+_BYTES = re.compile(
+    r"(?<![A-Za-z])[HPORCQMSL]\|[\\\d]|(?<![0-9A-Za-z])(?:(?:[0-9A-Fa-f]{2}[ ,:]){3}|023[0-7](?:[0-9A-Fa-f]{2})+)"
+)
+_TIME = re.compile(r"(?<![\d:])\d{1,2}:\d\d:\d\d(?![\d:])")
+
+
+def holds_bytes(text: str) -> bool:
+    """Whether a text holds what looks like bytes of a line. A row that does and can't be read is an error."""
+    return _BYTES.search(_TIME.sub("", text)) is not None
 
 
 def hex_row(text: str, most: int = 64) -> Optional[bytes]:

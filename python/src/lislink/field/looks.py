@@ -55,6 +55,12 @@ def _lines(rows: List[Row]) -> List[int]:
     return list(dict.fromkeys(row.line for row in rows))
 
 
+def _of_rows(rows: List[Row], name: str, level: str, text: str, advice: str) -> Iterator[Look]:
+    """What looks wrong in some rows, if there are any; it names the first of them."""
+    if rows:
+        yield Look(name, level, text, advice, _lines(rows)[:5])
+
+
 def parity_of(data: bytes) -> Optional[str]:
     """Whether all bytes carry a parity bit: `even` or `odd`; None if they don't."""
     if sum(one > 127 for one in data) < 3:
@@ -244,14 +250,13 @@ def _begins_wrong(ladder: Ladder) -> Iterator[Look]:
 
 def _lost(ladder: Ladder) -> Iterator[Look]:
     rows = [row for row in ladder.rows if row.cause is not None and row.cause.name == "lost"]
-    if rows:
-        yield Look(
-            "lost",
-            "bad",
-            f"{_many(len(rows), 'frame')} with the number of the one before and another text: acknowledged, and lost",
-            "the sender doesn't count its frames, or missed an acknowledgement",
-            _lines(rows)[:5],
-        )
+    yield from _of_rows(
+        rows,
+        "lost",
+        "bad",
+        f"{_many(len(rows), 'frame')} with the number of the one before and another text: acknowledged, and lost",
+        "the sender doesn't count its frames, or missed an acknowledgement",
+    )
 
 
 def _never_ended(ladder: Ladder) -> Iterator[Look]:
@@ -354,29 +359,27 @@ def _gives_up(ladder: Ladder) -> Iterator[Look]:
         elif row.kind == "EOT" and count >= 6:
             rows.append(row)
         count = count if row.reply == b"\x15" else 0
-    if rows:
-        yield Look(
-            "gives-up",
-            "bad",
-            "six rejections in a row: the sender gave the session up, and its texts are lost unless "
-            "it begins again",
-            "",
-            _lines(rows)[:5],
-        )
+    yield from _of_rows(
+        rows,
+        "gives-up",
+        "bad",
+        "six rejections in a row: the sender gave the session up, and its texts are lost unless "
+        "it begins again",
+        "",
+    )
 
 
 def _not_open(ladder: Ladder) -> Iterator[Look]:
     rows = [
         row for row in ladder.rows if row.kind in ("frame", "bad") and row.note.startswith("the line isn't open")
     ]
-    if rows:
-        yield Look(
-            "not-open",
-            "bad",
-            f"{_many(len(rows), 'frame')} came while the line wasn't open: no ENQ before them, or it was given up",
-            "begin the capture before ENQ; a sender must send ENQ first",
-            _lines(rows)[:5],
-        )
+    yield from _of_rows(
+        rows,
+        "not-open",
+        "bad",
+        f"{_many(len(rows), 'frame')} came while the line wasn't open: no ENQ before them, or it was given up",
+        "begin the capture before ENQ; a sender must send ENQ first",
+    )
 
 
 def _dropped(ladder: Ladder) -> Iterator[Look]:
@@ -467,38 +470,35 @@ def _answers(ladder: Ladder) -> Iterator[Look]:
                 _lines(rows)[:5],
             )
     rows = [row for row in ladder.rows if row.kind == "reply" and row.level == "bad" and ": " not in row.note]
-    if rows:
-        yield Look(
-            "other-answer",
-            "bad",
-            f"{_times(len(rows))} the computer answers otherwise than a receiver would",
-            "",
-            _lines(rows)[:5],
-        )
+    yield from _of_rows(
+        rows,
+        "other-answer",
+        "bad",
+        f"{_times(len(rows))} the computer answers otherwise than a receiver would",
+        "",
+    )
 
 
 def _echo(ladder: Ladder) -> Iterator[Look]:
     rows = [row for row in ladder.rows if row.kind == "echo"]
-    if rows:
-        yield Look(
-            "echo",
-            "bad",
-            f"{_times(len(rows))} the bytes of the analyzer come back as they were sent: a loopback or an echo",
-            "look for a loopback plug, a wire between both data pins, or an echo that is switched on; no host answers",
-            _lines(rows)[:5],
-        )
+    yield from _of_rows(
+        rows,
+        "echo",
+        "bad",
+        f"{_times(len(rows))} the bytes of the analyzer come back as they were sent: a loopback or an echo",
+        "look for a loopback plug, a wire between both data pins, or an echo that is switched on; no host answers",
+    )
 
 
 def _computer_session(ladder: Ladder) -> Iterator[Look]:
     rows = [row for row in ladder.rows if row.side == "<" and row.note.startswith("the computer's own session")]
-    if rows:
-        yield Look(
-            "computer-session",
-            "plain",
-            "the computer has sessions of its own (an order download): `replay` tells them as " "differences",
-            "`lislab capture --swap` gives a capture of the other way",
-            _lines(rows)[:5],
-        )
+    yield from _of_rows(
+        rows,
+        "computer-session",
+        "plain",
+        "the computer has sessions of its own (an order download): `replay` tells them as " "differences",
+        "`lislab capture --swap` gives a capture of the other way",
+    )
 
 
 def _no_answer(ladder: Ladder) -> Iterator[Look]:
@@ -523,14 +523,13 @@ def _no_answer(ladder: Ladder) -> Iterator[Look]:
             before = None
     if before is not None and before.reply:
         rows.append(before)
-    if rows:
-        yield Look(
-            "no-answer",
-            "bad",
-            f"the computer didn't answer {_times(len(rows))} where a receiver would",
-            "look whether it was running, and whether its line is wired back",
-            _lines(rows)[:5],
-        )
+    yield from _of_rows(
+        rows,
+        "no-answer",
+        "bad",
+        f"the computer didn't answer {_times(len(rows))} where a receiver would",
+        "look whether it was running, and whether its line is wired back",
+    )
 
 
 def _late(ladder: Ladder) -> Iterator[Look]:
@@ -542,23 +541,21 @@ def _late(ladder: Ladder) -> Iterator[Look]:
                 rows.append(row)
         if row.side in "<>":
             before = row if row.side == ">" else None
-    if rows:
-        yield Look(
-            "late",
-            "bad",
-            f"{_many(len(rows), 'answer')} came over 15 seconds late: the sender has given up by then",
-            "a late ACK may be taken for another frame's: the sender needs a new connection",
-            _lines(rows)[:5],
-        )
+    yield from _of_rows(
+        rows,
+        "late",
+        "bad",
+        f"{_many(len(rows), 'answer')} came over 15 seconds late: the sender has given up by then",
+        "a late ACK may be taken for another frame's: the sender needs a new connection",
+    )
     silences = [row for row in ladder.rows if row.kind == "silence" and row.title.endswith("seconds of silence")]
-    if silences:
-        yield Look(
-            "silence",
-            "warn",
-            f"{_times(len(silences))} the analyzer was silent for over 30 seconds in a session",
-            "`lislab capture --timer 30` puts the lines T",
-            _lines(silences)[:5],
-        )
+    yield from _of_rows(
+        silences,
+        "silence",
+        "warn",
+        f"{_times(len(silences))} the analyzer was silent for over 30 seconds in a session",
+        "`lislab capture --timer 30` puts the lines T",
+    )
 
 
 #: Two or more characters of two bytes in a row, as GBK, Big5 and Shift JIS have them.
@@ -574,15 +571,14 @@ def _is_split(text: bytes) -> bool:
 
 def _charset(ladder: Ladder) -> Iterator[Look]:
     rows = [row for row in ladder.units() if _is_split(row.text)]
-    if rows:
-        yield Look(
-            "two-bytes",
-            "warn",
-            "bytes over 127 are followed by |, \\, ^ or ~: text of two bytes a character (GBK, Big5, "
-            "Shift JIS) is split at its second bytes",
-            "set the analyzer to UTF-8 or to plain letters",
-            _lines(rows)[:5],
-        )
+    yield from _of_rows(
+        rows,
+        "two-bytes",
+        "warn",
+        "bytes over 127 are followed by |, \\, ^ or ~: text of two bytes a character (GBK, Big5, "
+        "Shift JIS) is split at its second bytes",
+        "set the analyzer to UTF-8 or to plain letters",
+    )
 
 
 def _unfinished(ladder: Ladder) -> Iterator[Look]:

@@ -108,8 +108,7 @@ def _bytes(work: Work) -> None:
     if ending is not None and ending.is_sure and work.wants("cr-words", _line_at(work.data, _first(ending, work.data))):
         for line in sorted(_lines_of(ending, work.data)):
             work.tell(line, f"{ending.shown} became a CR")
-        places = re.compile(ending.places.pattern + rb"[ \t]*(?:\r\n|\r|\n)?", ending.places.flags)
-        work.data = places.sub(b"\r", work.data)
+        work.data = ending.with_cr(work.data)
 
 
 def _first(ending: Ending, data: bytes) -> int:

@@ -164,13 +164,12 @@ def segment_of(packet: Packet) -> Optional[Segment]:
         source, target = str(ipaddress.ip_address(ip[8:24])), str(ipaddress.ip_address(ip[24:40]))
     else:
         return None
-    if len(ip) < start + 20:
-        return None
-    end = total if total > start else len(ip)
+    end = total if total > start else max(len(ip), start + 20)
+    if end > len(ip):
+        lacking = max(packet.cut, end - len(ip))
+        raise LogError(f"{lacking} bytes of a packet weren't kept: capture whole packets (tcpdump -s 0)")
     source_port, target_port, sequence, acknowledged = struct.unpack_from(">HHII", ip, start)
     data = ip[start + (ip[start + 12] >> 4) * 4 : end]
-    if packet.cut and end > len(ip):
-        raise LogError(f"{packet.cut} bytes of a packet weren't kept: capture whole packets (tcpdump -s 0)")
     return Segment(
         packet.time, source, source_port, target, target_port, sequence, ip[start + 13], data, acknowledged
     )
@@ -308,15 +307,11 @@ def connections_of(segments: List[Segment], skip_missing: bool = False) -> List[
 def _serial(packets: List[Packet], form: str) -> Log:
     """Packets of a serial line (LINKTYPE_RTAC_SERIAL): 12 bytes of head with what happened, and the bytes."""
     names = {1: "TX", 2: "RX", 3: "TX", 4: "RX"}
-    return Log(
-        form,
-        [
-            Piece(one.time, names[one.data[8]], one.data[12:])
-            for one in packets
-            if len(one.data) > 12 and one.data[8] in names
-        ],
-        [],
-    )
+    full = [one for one in packets if len(one.data) > 12]
+    unknown = next((one.data[8] for one in full if one.data[8] not in names), None)
+    if unknown is not None:
+        raise LogError(f"bytes of a serial line have an event that isn't known: {unknown}")
+    return Log(form, [Piece(one.time, names[one.data[8]], one.data[12:]) for one in full], [])
 
 
 def read_packets(
@@ -347,7 +342,7 @@ def read_packets(
     if len(found) > 1 and not _one_after_another(found):
         names = "; ".join(f"--stream {every.index(one) + 1}: {one.name()}" for one in found)
         raise LogError(f"{len(found)} connections have ENQ or STX, choose one: {names}")
-    return _joined(found, form)
+    return joined(found, every, form)
 
 
 def linked(every: List[Connection]) -> List[Connection]:
@@ -371,7 +366,8 @@ def _is_behind(after: Connection, before: Connection) -> bool:
     return last is None or first is None or last <= first
 
 
-def _joined(found: List[Connection], form: str) -> Log:
+def joined(found: List[Connection], every: List[Connection], form: str) -> Log:
+    """The bytes of connections that follow one another. How many bytes the other ones have is told."""
     pieces: List[Piece] = []
     remarks = []
     common = frozenset.intersection(*(one.ports for one in found))
@@ -398,6 +394,10 @@ def _joined(found: List[Connection], form: str) -> Log:
         )
     if sum(one.early for one in found):
         remarks.append(f"{sum(one.early for one in found)} segments came out of order, and were put in their place")
+    others = [one for one in every if one not in found and one.pieces]
+    if others:
+        count = sum(len(piece.data) for one in others for piece in one.pieces)
+        remarks.append(f"other connections were left out, {len(others)} of them: {count} bytes")
     remarks.append("connection " + found[0].name())
     return Log(form, pieces, remarks)
 
@@ -408,17 +408,22 @@ _DUMP = re.compile(r"^\s*(?:0x)?([0-9a-fA-F]{4,8}):? +((?:[0-9a-fA-F]{2,4} ?)+)(
 def dumped_packets(text: str) -> Iterator[Packet]:
     """The packets of `tshark -x`, of Wireshark's text with packet bytes, and of `tcpdump -x`, -xx, -X and -XX."""
     time, data = None, b""  # type: Optional[int], bytes
+    link: Optional[int] = None  # as the first packet is, so are the others
     for row in text.splitlines():
         found = _DUMP.match(row)
         if found and int(found[1], 16) == len(data):
             pass
         elif found and int(found[1], 16) == 0:
             if data:
-                yield _dumped(time, data)
+                link = link or _link_of(data)
+                yield Packet(time, link, data, 0)
             data = b""
+        elif found:
+            raise LogError(f"the offset {found[1]} doesn't follow the bytes before: a row is missing")
         elif row.strip():
             if data:
-                yield _dumped(time, data)
+                link = link or _link_of(data)
+                yield Packet(time, link, data, 0)
                 data = b""
             relative = re.match(r"\s*\d+\s+(\d+)\.(\d{6,9})\s", row)
             if relative:
@@ -430,7 +435,7 @@ def dumped_packets(text: str) -> Iterator[Packet]:
             continue
         data += bytes.fromhex("".join(_pairs(found[2])))
     if data:
-        yield _dumped(time, data)
+        yield Packet(time, link or _link_of(data), data, 0)
 
 
 def k12_packets(text: str) -> Iterator[Packet]:
@@ -443,12 +448,15 @@ def k12_packets(text: str) -> Iterator[Packet]:
         found = re.match(r"\|0\s*\|((?:[0-9a-fA-F]{2}\|)+)\s*$", row)
         if found:
             yield Packet(time, 1, bytes.fromhex(found[1].replace("|", "")), 0)
+        elif row.startswith("|"):
+            raise LogError(f"no row of K12: {row[:60]!r}")
 
 
 def _pairs(text: str) -> List[str]:
     return text.split()[:16]
 
 
-def _dumped(time: Optional[int], data: bytes) -> Packet:
-    is_ip = data[0] >> 4 == 4 and len(data) == struct.unpack_from(">H", data, 2)[0] if len(data) > 20 else False
-    return Packet(time, 101 if is_ip else 1, data, 0)
+def _link_of(data: bytes) -> int:
+    """The kind of the link of a packet that is dumped: IP alone if it has as many bytes as it says, else Ethernet."""
+    is_ip = len(data) > 20 and data[0] >> 4 == 4 and len(data) == struct.unpack_from(">H", data, 2)[0]
+    return 101 if is_ip else 1

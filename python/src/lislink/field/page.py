@@ -1,6 +1,6 @@
 """A ladder as one page of HTML, for a browser without a network: folding, a filter, printing. Colours go with words."""
 import html
-from typing import Iterator, List, Optional
+from typing import Iterable, Iterator, List, Optional
 
 from ..message import KINDS, NAMES, Entry, Fault, Found
 from .faults import cause_of_record, code_of, words
@@ -8,7 +8,8 @@ from .ladder import Ladder, Look, Row
 from .log import SECOND, time_text
 from .looks import looks_of, record_at
 
-_STYLE = """
+#: The look of a page.
+STYLE = """
 :root{--line:#8a94a3;--good:#1b7f3b;--warn:#9a5b00;--bad:#b3261e;--soft:#f4f6f9}
 *{box-sizing:border-box}body{font:15px/1.45 system-ui,"DejaVu Sans",sans-serif;margin:0;color:#1c2430;background:#fff}
 header,main{padding:0 1.6rem;max-width:1500px}h1{font-size:1.35rem;margin:1.2rem 0 .2rem}h2{font-size:1.1rem;margin:1.6rem 0 .5rem}
@@ -66,13 +67,14 @@ _GUARD = "window.addEventListener('error',function(e){document.documentElement.d
 _WORDS = {"good": "right", "plain": "", "warn": "look", "bad": "wrong"}
 
 
-def _esc(text: str) -> str:
+def escaped(text: str) -> str:
+    """Text as HTML."""
     return html.escape(text, quote=True)
 
 
 def _tag(level: str, text: Optional[str] = None) -> str:
     shown = _WORDS[level] if text is None else text
-    return f'<span class="tag {level}">{_esc(shown)}</span> ' if shown else ""
+    return f'<span class="tag {level}">{escaped(shown)}</span> ' if shown else ""
 
 
 def _looks(looks: List[Look]) -> Iterator[str]:
@@ -80,13 +82,13 @@ def _looks(looks: List[Look]) -> Iterator[str]:
         yield f'<p class="look">{_tag("good", "right")}Nothing looks wrong.</p>'
     for look in looks:
         where = ", ".join(f'<a href="#l{line}">line {line}</a>' for line in look.lines)
-        advice = f'<p class="advice">{_esc(look.advice)}</p>' if look.advice else ""
+        advice = f'<p class="advice">{escaped(look.advice)}</p>' if look.advice else ""
         tag = _tag(look.level, "note" if look.level == "plain" else None)
-        yield f'<div class="look {look.level}" data-look="{_esc(look.name)}"><p>{tag}{_esc(look.words)}' f'{" (" + where + ")" if where else ""}</p>{advice}</div>'
+        yield f'<div class="look {look.level}" data-look="{escaped(look.name)}"><p>{tag}{escaped(look.words)}' f'{" (" + where + ")" if where else ""}</p>{advice}</div>'
 
 
-def _details(row: Row) -> str:
-    told = [("bytes", f"<code>{row.raw.hex(' ')}</code>"), ("as text", f"<code>{_esc(words(row.raw))}</code>")]
+def _details(row: Row, is_judged: bool) -> str:
+    told = [("bytes", f"<code>{row.raw.hex(' ')}</code>"), ("as text", f"<code>{escaped(words(row.raw))}</code>")]
     if row.kind == "frame":
         told.insert(
             0,
@@ -102,47 +104,48 @@ def _details(row: Row) -> str:
             1,
             (
                 "checksum",
-                f"{_esc(row.checksum.found)} found, {row.checksum.wanted} wanted: "
+                f"{escaped(row.checksum.found)} found, {row.checksum.wanted} wanted: "
                 + ("the same" if same else "<b>another</b>"),
             ),
         )
-    if row.side == ">":
+    if row.side == ">" and is_judged:
         told.append(
-            ("reply", f"a receiver answers {_esc(words(row.reply))}" if row.reply else "a receiver answers nothing")
+            ("reply", f"a receiver answers {escaped(words(row.reply))}" if row.reply else "a receiver answers nothing")
         )
     return "<dl>" + "".join(f"<dt>{name}</dt><dd>{text}</dd>" for name, text in told) + "</dl>"
 
 
-def _rows(ladder: Ladder) -> Iterator[str]:
+def rows_of(rows: Iterable[Row], is_judged: bool = True, anchors: str = "l") -> Iterator[str]:
+    """The rows of a table, each with an anchor that begins so. If a receiver judged them, what it answers is said."""
     before: Optional[int] = None
     seen = set()
-    for row in ladder.rows:
+    for row in rows:
         if row.time is not None and before is not None and row.time - before > SECOND:
             yield (
                 f'<tr class="event" data-level="plain"><td class="n"></td><td class="t"></td><td class="a c" colspan="2">'
                 f"{(row.time - before) / SECOND:.1f} s later</td><td></td></tr>"
             )
         before = row.time if row.time is not None else before
-        anchor = "" if row.line in seen else f' id="l{row.line}"'
+        anchor = "" if row.line in seen else f' id="{anchors}{row.line}"'
         seen.add(row.line)
         level = row.level if row.level in ("bad", "warn") else ""
-        head = f'<td class="n">{row.line}</td><td class="t">{_esc(time_text(row.time).split("T")[-1])}</td>'
-        note = f"<td>{_tag(row.level)}{_esc(row.note)}"
+        head = f'<td class="n">{row.line}</td><td class="t">{escaped(time_text(row.time).split("T")[-1])}</td>'
+        note = f"<td>{_tag(row.level)}{escaped(row.note)}"
         if row.side == "-":
             yield (
-                f'<tr class="event {level}" data-level="{row.level}"{anchor}>{head}<td class="a c" colspan="2">{_esc(row.title)}</td>'
+                f'<tr class="event {level}" data-level="{row.level}"{anchor}>{head}<td class="a c" colspan="2">{escaped(row.title)}</td>'
                 f"{note}</td></tr>"
             )
             continue
         if row.side == ">":
-            note += f' <span class="arrow">&rarr; {_esc(words(row.reply))}</span>' if row.reply else ""
+            note += f' <span class="arrow">&rarr; {escaped(words(row.reply))}</span>' if row.reply else ""
             title = (
-                f'<details class="f"><summary><code>{_esc(row.title[:110])}{"…" if len(row.title) > 110 else ""}</code></summary>'
-                f"{_details(row)}</details>"
+                f'<details class="f"><summary><code>{escaped(row.title[:110])}{"…" if len(row.title) > 110 else ""}</code></summary>'
+                f"{_details(row, is_judged)}</details>"
             )
             cells = f'<td class="a">{title}</td><td class="c arrow">&#9654;</td>'
         else:
-            cells = f'<td class="a arrow">&#9664;</td><td class="c"><code>{_esc(row.title[:60])}</code></td>'
+            cells = f'<td class="a arrow">&#9664;</td><td class="c"><code>{escaped(row.title[:60])}</code></td>'
         yield f'<tr class="{level}" data-level="{row.level}"{anchor}>{head}{cells}{note}</td></tr>'
 
 
@@ -152,14 +155,14 @@ def _entry(entry: Entry, found: Found) -> Iterator[str]:
     mark = f' <span class="finding">finding: its number isn\'t {wrong[0].position}</span>' if wrong else ""
     brief = "|".join(entry.whole(entry.row.first + place) for place in range(entry.row.count))
     fields = "".join(
-        f"<tr><td>{place + entry.row.first}</td><td>{_esc(names.get(place + entry.row.first, '').replace('_', ' '))}</td>"
-        f"<td><code>{_esc(entry.whole(place + entry.row.first))}</code></td></tr>"
+        f"<tr><td>{place + entry.row.first}</td><td>{escaped(names.get(place + entry.row.first, '').replace('_', ' '))}</td>"
+        f"<td><code>{escaped(entry.whole(place + entry.row.first))}</code></td></tr>"
         for place in range(entry.row.count)
         if entry.whole(place + entry.row.first)
     )
     below = "".join("".join(_entry(one, found)) for one in entry.notes + entry.children)
     yield (
-        f"<li><details><summary>{entry.number} <b>{KINDS.get(entry.letter, entry.letter)}</b> <code>{_esc(brief[:140])}</code>{mark}"
+        f"<li><details><summary>{entry.number} <b>{KINDS.get(entry.letter, entry.letter)}</b> <code>{escaped(brief[:140])}</code>{mark}"
         f'</summary><table class="fields">{fields}</table></details>{"<ul class=tree>" + below + "</ul>" if below else ""}</li>'
     )
 
@@ -187,14 +190,14 @@ def _rejected(ladder: Ladder, number: int, fault: Fault) -> str:
     cause = cause_of_record(fault.error, record, fault.place + len(record) >= len(ladder.stream))
     line = ladder.line_of(min(fault.place, max(len(ladder.stream) - 1, 0)))
     options = (
-        f'<p class="advice">lislab normalize {_esc(" or ".join(cause.options))} mends the records</p>'
+        f'<p class="advice">lislab normalize {escaped(" or ".join(cause.options))} mends the records</p>'
         if cause.options
         else ""
     )
     return (
         f'<div class="look bad" data-message="rejected"><p>{_tag("bad", "rejected")}message {number}: record {fault.error.number}, '
-        f'<a href="#l{line}">line {line}</a> ({code_of(fault.error)}): {_esc(cause.words)}</p>'
-        f"<p><code>{_esc(words(record, 200))}</code></p>{options}</div>"
+        f'<a href="#l{line}">line {line}</a> ({code_of(fault.error)}): {escaped(cause.words)}</p>'
+        f"<p><code>{escaped(words(record, 200))}</code></p>{options}</div>"
     )
 
 
@@ -203,7 +206,7 @@ def page_of(ladder: Ladder, name: str) -> str:
     looks = looks_of(ladder)
     counts = ladder.counts()
     shown = "".join(
-        f'<span data-count="{_esc(key)}"><b>{value}</b> {_esc(key[:-1] if value == 1 and key.endswith("s") else key)}</span>'
+        f'<span data-count="{escaped(key)}"><b>{value}</b> {escaped(key[:-1] if value == 1 and key.endswith("s") else key)}</span>'
         for key, value in counts.items()
         if value or key in ("frames", "texts", "differences")
     )
@@ -211,15 +214,15 @@ def page_of(ladder: Ladder, name: str) -> str:
     return f"""<!doctype html>
 <html lang="en"><head><meta charset="utf-8"><meta name="viewport" content="width=device-width">
 <meta http-equiv="Content-Security-Policy" content="default-src 'none'; style-src 'unsafe-inline'; script-src 'unsafe-inline'; img-src data:">
-<link rel="icon" href="data:,"><title>{_esc(name)}: ladder</title><style>{_STYLE}</style><script>{_GUARD}</script></head><body>
-<header><h1>{_esc(name)}</h1><div class="counts">{shown}</div></header><main>
+<link rel="icon" href="data:,"><title>{escaped(name)}: ladder</title><style>{STYLE}</style><script>{_GUARD}</script></head><body>
+<header><h1>{escaped(name)}</h1><div class="counts">{shown}</div></header><main>
 <h2>What looks wrong</h2>{"".join(_looks(looks))}
 <h2>The session</h2><div class="tools"><input type="search" id="find" placeholder="filter: NAK, frame 3, a sample .." aria-label="filter">
 <label><input type="checkbox" id="wrong"> only what looks wrong</label><button type="button" id="open">unfold all</button>
 <button type="button" id="close">fold all</button><button type="button" id="print">print</button><output id="shown"></output></div>
 <table id="ladder"><colgroup><col class="n"><col class="t"><col class="a"><col class="c"><col></colgroup>
 <thead><tr><th>line</th><th>time</th><th>analyzer</th><th style="text-align:right">computer</th><th>what it means to the proved receiver</th></tr></thead>
-<tbody>{"".join(_rows(ladder))}</tbody></table>
+<tbody>{"".join(rows_of(ladder.rows))}</tbody></table>
 <h2>The messages</h2>{messages or "<p>No record came through.</p>"}</main>
 <footer>Made by lislab. The receiver and the reader that judge are proved; this page and its advice are not.</footer>
 <script>{_SCRIPT}</script></body></html>

@@ -2,9 +2,9 @@
 jpnevulator, ngrep, slsnif, and dumps of one direction."""
 import ast
 import re
-from typing import Dict, List, Optional
+from typing import Dict, List, Optional, Tuple
 
-from .log import Log, LogError, Piece, find_time, hex_row, left_out, likeness
+from .log import Log, LogError, Piece, find_time, hex_row, holds_bytes, left_out, likeness
 
 _SOCAT = re.compile(r"([<>]) (\d+/\d+/\d+ \d+:\d+:\d+)\.(\d+) +length=(\d+) from=\d+ to=\d+\s*$")
 
@@ -40,39 +40,68 @@ def socat(text: str) -> Log:
     return Log("socat", pieces, [])
 
 
-_CALL = re.compile(r"\b(read|readv|recv|recvfrom|recvmsg|write|writev|send|sendto|sendmsg)\((\d+)(<.*?>)?,\s*(.*)$")
+_NAMES = "read|readv|recv|recvfrom|recvmsg|write|writev|send|sendto|sendmsg"
+_CALL = re.compile(rf"\b({_NAMES})\((\d+)(<.*?>)?,\s*(.*)$")
+#: A call that moves bytes of no descriptor that can be read, or the end of a call that doesn't begin in the log.
+_NO_DESCRIPTOR = re.compile(rf"\b(?:{_NAMES})\((?!\d+[<,])|^(?!.*\w\()")
 _STRING = re.compile(r'"((?:[^"\\]|\\.)*)"(\.\.\.)?')
+#: Another call that moves bytes of a descriptor, with some of them.
+_OTHER_CALL = re.compile(r'(\S+)\((\d+)(?:<.*?>)?,.*"[^"]')
+#: Sides of pieces that aren't whole; their data is the line's number.
+_CUT, _OPEN, _UNREAD = "cut", "open", "unread"
+_WHY = {
+    _CUT: "strace left bytes out (...): ask it for -s 4096",
+    _OPEN: "the call has no result: whether its bytes went over the line isn't known",
+    _UNREAD: "a call that isn't read here moves bytes of this descriptor",
+}
 
 
 def strace(text: str, fd: Optional[int] = None) -> Log:
     """`strace -e trace=read,write,..` with or without -f, -t, -tt, -ttt, -x, -xx, -y: of the descriptor that has ENQ or
     STX, or of the one that is named."""
     found: Dict[int, List[Piece]] = {}
-    open_calls: Dict[str, str] = {}
+    left: List[int] = []
+    open_calls: Dict[str, Tuple[str, int]] = {}
     for number, line in enumerate(text.splitlines(), 1):
         who = re.match(r"\s*(?:\[pid\s+(\d+)\]|(\d+)\s)", line)
         key = (who[1] or who[2]) if who else ""
         if line.rstrip().endswith("<unfinished ...>"):
-            open_calls[key] = line.rstrip()[: -len("<unfinished ...>")].rstrip()
+            open_calls[key] = line.rstrip()[: -len("<unfinished ...>")].rstrip(), number
             continue
         resumed = re.search(r"<\.\.\. \w+ resumed>(.*)$", line)
         if resumed:
-            begun = open_calls.pop(key, "")
+            begun, _ = open_calls.pop(key, ("", 0))
             before = re.sub(r",\s*$", "", begun)
             line = (
                 (before + "," if begun.endswith(",") or begun != before else before) + " " + resumed[1].lstrip(", ")
             )
-        call = _CALL.search(line)
-        count = re.search(r"\)\s*=\s*(\d+)\b[^\"]*$", line)
-        if not call or not count or count[1] == "0":
-            continue
-        data = _string_bytes(call[4])
-        if len(data) < int(count[1]):
-            found.setdefault(int(call[2]), []).append(Piece(None, "cut", str(number).encode()))
-            continue
-        side = "read" if call[1].startswith(("read", "recv")) else "write"
-        found.setdefault(int(call[2]), []).append(Piece(find_time(line.split("(")[0]), side, data[: int(count[1])]))
-    return Log("strace", _descriptor(found, fd), [])
+        if re.search(r'".*\)\s*=\s*[1-9]', line) and _NO_DESCRIPTOR.search(line):
+            left.append(number)
+        _put_call(line, number, found)
+    for begun, number in open_calls.values():
+        _put_call(begun, number, found)
+    return Log("strace", _descriptor(found, fd), left_out(left, "of calls without a descriptor"))
+
+
+def _put_call(line: str, number: int, found: Dict[int, List[Piece]]) -> None:
+    """Puts what a call moved to the pieces of its descriptor."""
+    call = _CALL.search(line)
+    other = None if call else _OTHER_CALL.search(line)
+    count = re.search(r"\)\s*=\s*(-?\d+\b|\?)[^\"]*$", line)
+    one, moved = call or other, count[1] if count else ""
+    if one is None or moved in ("0", "?") or moved.startswith("-"):
+        return
+    pieces = found.setdefault(int(one[2]), [])
+    if call is None or not moved:
+        if '"' in line:
+            pieces.append(Piece(None, _UNREAD if call is None else _OPEN, str(number).encode()))
+        return
+    data = _string_bytes(call[4])
+    if len(data) < int(moved):
+        pieces.append(Piece(None, _CUT, str(number).encode()))
+        return
+    side = "read" if call[1].startswith(("read", "recv")) else "write"
+    pieces.append(Piece(find_time(line.split("(")[0]), side, data[: int(moved)]))
 
 
 def _string_bytes(text: str) -> bytes:
@@ -90,7 +119,7 @@ def _string_bytes(text: str) -> bytes:
 def _descriptor(found: Dict[int, List[Piece]], fd: Optional[int]) -> List[Piece]:
     if fd is not None and fd not in found:
         raise LogError(f"descriptor {fd} is neither read nor written in the log")
-    likes = {one: likeness([piece for piece in pieces if piece.side != "cut"]) for one, pieces in found.items()}
+    likes = {one: likeness([piece for piece in pieces if piece.side not in _WHY]) for one, pieces in found.items()}
     linked = [
         one for one, like in likes.items() if one == fd or fd is None and like and like == max(likes.values())
     ]
@@ -99,9 +128,9 @@ def _descriptor(found: Dict[int, List[Piece]], fd: Optional[int]) -> List[Piece]
     if len(linked) > 1:
         raise LogError("descriptors " + ", ".join(map(str, linked)) + " carry ENQ or STX: choose one by --fd")
     pieces = found[linked[0]]
-    cut = next((piece for piece in pieces if piece.side == "cut"), None)
-    if cut is not None:
-        raise LogError("strace left bytes out (...): ask it for -s 4096", int(cut.data))
+    bad = next((piece for piece in pieces if piece.side in _WHY), None)
+    if bad is not None:
+        raise LogError(_WHY[bad.side], int(bad.data))
     return pieces
 
 
@@ -117,20 +146,27 @@ def interceptty(text: str) -> Log:
     return Log("interceptty", pieces, [])
 
 
+#: A line of Portmon with bytes: behind the length, behind a word, or pairs of digits alone.
+_WITH_BYTES = re.compile(
+    r"IRP_MJ_(?:READ|WRITE)\b.*(?:\bLength:? \d+:|\bData:? +\S|\s[0-9A-Fa-f]{2}[ \t]+[0-9A-Fa-f]{2}\b)"
+)
+
+
 def portmon(text: str) -> Log:
     """Portmon and AccessPort: IRP_MJ_READ and IRP_MJ_WRITE with `Length 5: 02 31 ..` or `Length: 5, Data: 02 31 ..`."""
-    pieces = []
+    pieces, left = [], []
     for number, line in enumerate(text.splitlines(), 1):
         found = re.search(r"\bIRP_MJ_(READ|WRITE)\b.*?\bLength:? *(\d+)(?::|, *Data:)\s*(.*?)\s*$", line)
         if not found:
-            if re.search(r"IRP_MJ_(READ|WRITE)\b.*\bLength:? \d+:", line):
+            if _WITH_BYTES.search(line):
                 raise LogError(f"no line of Portmon: {line[:60]!r}", number)
+            left += [number] if line.strip() else []
             continue
         data = hex_row(found[3]) or b""
         if len(data) != int(found[2]):
             raise LogError(f"Portmon shows {len(data)} of {found[2]} bytes: raise its output length", number)
         pieces.append(Piece(find_time(line), found[1], data))
-    return Log("portmon", pieces, [])
+    return Log("portmon", pieces, left_out(left))
 
 
 def irp_table(text: str) -> Log:
@@ -146,7 +182,9 @@ def irp_table(text: str) -> Log:
         )
         if found and data:
             pieces.append(Piece(find_time(line), found[1].lower(), bytes.fromhex(data)))
-        elif found:
+        elif found and (holds_bytes(found[2]) or any(re.match(r"(?:0x)?[0-9a-fA-F]{6,}$", one) for one in cells)):
+            raise LogError(f"bytes that can't be read: {line[:60]!r}", number)
+        elif line.strip():
             left.append(number)
     return Log("irp-table", pieces, left_out(left))
 
@@ -217,26 +255,33 @@ def blocks(text: str) -> Log:
                 fresh = False
             else:
                 pieces[-1] = pieces[-1]._replace(data=pieces[-1].data + data)
+        elif holds_bytes(line) or re.match(r"\s+(?:[0-9a-fA-F]{2}\s+){2,}", line):
+            raise LogError(f"a row of bytes that isn't whole: {line[:60]!r}", number)
         elif not _IGNORED.match(line):
-            if re.match(r"\s+(?:[0-9a-fA-F]{2}\s+){2,}", line):
-                raise LogError(f"a row of bytes that isn't whole: {line[:60]!r}", number)
             left.append(number)
     return Log("blocks", pieces, left_out(left))
 
 
+#: A byte of slsnif: as a character or ^X, and its value.
+_VALUED = re.compile(r"(?:\^.|.)\((\d{3}|[0-9a-f]{2})\)\s?", re.S)
+
+
 def slsnif(text: str) -> Log:
     """slsnif: `Host   --> H(072)|(124)` and `Device --> ^F(006)`, the value of each byte in parentheses."""
-    pieces = []
+    pieces, left = [], []
     for number, line in enumerate(text.splitlines(), 1):
         found = re.match(r"(.*?)\b(Host|Device)\s*-->\s?(.*)$", line)
         if not found:
-            if re.search(r"\(\d{3}\)", line):
+            if re.search(r"\((?:\d{3}|[0-9a-f]{2})\)", line):
                 raise LogError(f"no line of slsnif: {line[:60]!r}", number)
+            left += [number] if line.strip() else []
             continue
-        values = re.findall(r"\((\d{3}|[0-9a-f]{2})\)", found[3])
+        if _VALUED.sub("", found[3]).strip():
+            raise LogError(f"a byte without its value: {line[-60:]!r}", number)
+        values = _VALUED.findall(found[3])
         data = bytes(int(one) if len(one) == 3 else int(one, 16) for one in values)
         pieces.append(Piece(find_time(found[1]), found[2], data))
-    return Log("slsnif", pieces, [])
+    return Log("slsnif", pieces, left_out(left))
 
 
 _OFFSET = re.compile(r"^\s*([0-9a-fA-F]{6,8}|[0-9a-fA-F]{4})[:h]?(?:\s+|$)")
@@ -248,9 +293,11 @@ def hex_dump(text: str) -> Log:
     repeat, rows, base = False, text.splitlines(), _offset_base(text)
     words = _has_words(text)
     for number, line in enumerate(rows, 1):
-        if not line.strip() or line.lstrip().startswith("#"):
+        if not line.strip() or line.lstrip().startswith("#") and not holds_bytes(line):
             continue
         if line.strip() == "*":
+            if not base:
+                raise LogError("rows that are repeated (*) have no offsets here: how many isn't known", number)
             repeat = True
             continue
         found = _OFFSET.match(line) if base else None
@@ -273,6 +320,8 @@ def hex_dump(text: str) -> Log:
             ends = [int(last[1], base) for last in map(_OFFSET.match, rows[-1:]) if last]
             row = row[: ends[0] - len(data)] if ends and ends[0] > len(data) else row
         data += row
+    if repeat:
+        raise LogError("the dump ends in rows that are repeated (*): how many isn't known", len(rows))
     return Log("hex", [Piece(None, "", data)], [])
 
 

@@ -12,6 +12,9 @@ from .looks import record_at
 
 #: The columns that a table has if none are named.
 USUAL = ("sample", "patient", "test", "value", "unit", "range", "flag", "status", "date", "instrument")
+#: Those of a table of orders.
+OF_ORDERS = ("sample", "patient", "tests", "priority", "collected", "requested", "action", "report")
+#: A message, a patient, an order and a result; in a table of orders the order stands for the result.
 Where = Tuple[Message, Entry, Entry, Entry]
 
 
@@ -47,10 +50,12 @@ def _nested_component(entry: Entry, number: int, component: int) -> str:
     return component_text(entry.row, number, component, entry.encoding, False)
 
 
-def columns_of(names: List[str], sample_from: int = 3, nested: bool = False) -> List[Column]:
+def columns_of(
+    names: List[str], sample_from: int = 3, nested: bool = False, orders: bool = False
+) -> List[Column]:
     """Columns by their names: those of USUAL, `R.4`, `O.3`, `P.6`, `H.5`, `R.3.4` (a component, from 1), the standard's
     names such as `result.operator`, and each with a heading of its own before `=`. Nested ones have lists where a field
-    has components or repeats."""
+    has components or repeats. A table of orders has those of OF_ORDERS, and none of results."""
     field: Field = _nested if nested else _flat
     part: Component = _nested_component if nested else _flat_component
     usual: Dict[str, Callable[[Where], Any]] = {
@@ -64,13 +69,23 @@ def columns_of(names: List[str], sample_from: int = 3, nested: bool = False) -> 
         "status": lambda where: field(where[3], 9),
         "date": lambda where: field(where[3], 13) or field(where[3], 12),
         "instrument": lambda where: field(where[3], 14) or field(where[0].header, 5),
+        "tests": lambda where: field(where[2], 5),
+        "priority": lambda where: field(where[2], 6),
+        "collected": lambda where: field(where[2], 8),
+        "requested": lambda where: field(where[2], 7),
+        "action": lambda where: field(where[2], 12),
+        "report": lambda where: field(where[2], 26),
     }
+    if orders:
+        usual = {name: usual[name] for name in OF_ORDERS}
     told = []
     for name in names:
         heading, _, source = name.rpartition("=")
         if source in usual:
             told.append(Column(heading or source, usual[source]))
         else:
+            if orders and source[:2] in ("R.", "re"):
+                raise TableError(f"{source}: an order has no result")
             told.append(Column(heading or source, _of_field(source, field, part)))
     return told
 
@@ -98,22 +113,32 @@ def _of_field(source: str, field: Field, component: Component) -> Callable[[Wher
     return text
 
 
-def rows_of(stream: bytes, columns: List[Column], encoding: str) -> Iterator["Tuple[Optional[List[Any]], str]"]:
-    """A row for each result, or None and why for a message that can't be read: none of its results is told."""
-    number = 0
+def rows_of(
+    stream: bytes, columns: List[Column], encoding: str, orders: bool = False
+) -> Iterator["Tuple[Optional[List[Any]], str]"]:
+    """A row for each result, or for each order, or None and why for a message that can't be read: none of its results
+    is told."""
+    number, letter = 0, "O" if orders else "R"
     for one in read_all(stream, encoding):
         number += 1
         if isinstance(one, Fault):
             record = record_at(stream, one.place)
             cause = cause_of_record(one.error, record, one.place + len(record) >= len(stream))
-            lost = sum(row.letter == "R" for row in one.rows)
+            lost = sum(row.letter == letter for row in one.rows)
             yield None, (
                 f"message {number}: record {one.error.number} is rejected ({code_of(one.error)}): {cause.words}"
-                + (f"; {lost} results before it aren't told" if lost else "")
+                + (f"; {lost} {'orders' if orders else 'results'} before it aren't told" if lost else "")
             )
             continue
-        for patient, order, result in one.message.results():
-            yield [column.text((one.message, patient, order, result)) for column in columns], ""
+        for where in _orders(one.message) if orders else one.message.results():
+            yield [column.text((one.message, *where)) for column in columns], ""
+
+
+def _orders(message: Message) -> Iterator[Tuple[Entry, Entry, Entry]]:
+    for patient in message.entries:
+        if patient.letter in "PQ":
+            for order in patient.orders:
+                yield patient, order, order
 
 
 def line_writer(form: str, columns: List[Column]) -> Callable[[Optional[List[Any]]], str]:

@@ -5,9 +5,10 @@ import csv
 import html
 import json
 import re
-from typing import Callable, Dict, List, NamedTuple, Optional, Tuple
+from typing import Callable, List, NamedTuple, Optional, Tuple
 
-from .log import CONTROL, Log, LogError, Piece, encode, find_time, hex_row, left_out
+from .log import CONTROL, Log, LogError, Piece, encode, find_time, hex_row, holds_bytes, left_out
+from .notations import numbered
 
 _NAMES = "|".join(sorted(CONTROL, key=len, reverse=True))
 #: A control byte in words: <STX>, [STX], {STX}, (STX), <0x02>, <02>, \x02, or a control picture.
@@ -173,20 +174,6 @@ def _good_frames(data: bytes) -> int:
     return sum(sum(body) % 256 == int(digits, 16) for body, digits in frames)
 
 
-def _brackets_of(text: str) -> "Optional[re.Pattern[str]]":
-    """What finds control bytes in brackets that may also be a counter's (`[02]1H|`, `(02)`), if a log has such ones."""
-    found = re.search(r"([\[{(])(?:0x|\$)?02[\])}](?=[0-7][A-Za-z])", text, re.I)
-    if found is None:
-        return None
-    end = {"[": "]", "{": "}", "(": ")"}[found[1]]
-    return re.compile(re.escape(found[1]) + r"(?:0x|\$)?([0-9A-Fa-f]{2})" + re.escape(end), re.I)
-
-
-def _plain_brackets(text: str, brackets: "Optional[re.Pattern[str]]") -> str:
-    """A text with those bytes as `<0x02>`."""
-    return text if brackets is None else brackets.sub(r"<0x\1>", text)
-
-
 def _worded(text: str) -> Optional[bytes]:
     bare = _unquoted(text)
     return words(bare) if bare.strip() else None
@@ -226,46 +213,56 @@ def traces(text: str) -> Log:
     """A log with a line for each piece."""
     if re.match(r"\s*<(?:!doctype|html)", text, re.I):
         text = _of_html(text)
-    text = _plain_brackets(text, _brackets_of(text))
-    kind = _kind(text)
-    grammar = next(one for one in GRAMMARS if one.name == kind)
-    way = _way_of(text) if kind == "words" else _NUMBERS
-    if way != _NUMBERS:
-        grammar = grammar._replace(read=lambda rest: escaped_words(_unquoted(rest), way) or None)
+    text = numbered(text)
+    grammar = _grammar_of(text)
     lines = text.splitlines()
     marked = [_split(line, grammar) if line.strip() else None for line in lines]
     if sum(one is not None for one in marked) == 0:
         return _unmarked(lines, grammar)
-    sure = [(number, line) for number, line in enumerate(lines, 1) if _SURE.search(line)]
+    full = [(number, line) for number, line in enumerate(lines, 1) if line.strip()]
+    sure = [one for one in full if _SURE.search(one[1])]
     if any(marked[number - 1] is None for number, _ in sure):
-        named = _named(sure, grammar)
+        named = _named(sure, grammar, [one for one in full if not _SURE.search(one[1])])
         if named is not None:
             return named
+    return _marked(full, marked, grammar)
+
+
+def _grammar_of(text: str) -> Grammar:
+    """The grammar of a log, with the way of its escapes."""
+    kind = _kind(text)
+    grammar = next(one for one in GRAMMARS if one.name == kind)
+    way = _way_of(text) if kind == "words" else _NUMBERS
+    if way == _NUMBERS:
+        return grammar
+    return grammar._replace(read=lambda rest: escaped_words(_unquoted(rest), way) or None)
+
+
+def _marked(
+    full: List[Tuple[int, str]], marked: List[Optional[Tuple[str, str, bytes]]], grammar: Grammar
+) -> Log:
+    """A log whose lines have directions, as they were found; a line without one may go on the one before."""
     pieces: List[Piece] = []
     left: List[int] = []
-    for number, (line, found) in enumerate(zip(lines, marked), 1):
+    like_bytes: List[int] = []
+    for number, line in full:
+        found = marked[number - 1]
         if found is not None:
             pieces.append(Piece(find_time(found[0]), found[1], found[2]))
-        elif not line.strip():
-            continue
         elif _goes_on(line, grammar, pieces):
-            more = grammar.read(line.strip() if kind != "words" else line) or b""
+            more = grammar.read(line.strip() if grammar.name != "words" else line) or b""
             pieces[-1] = pieces[-1]._replace(data=pieces[-1].data + more)
-        elif _SURE.search(line) or kind == "python" and re.search(r"\bb['\"]", line):
+        elif _SURE.search(line) or grammar.name == "python" and re.search(r"\bb['\"]", line):
             raise LogError(f"bytes without a direction: {line[:60]!r}", number)
         elif _has_bytes(line):
             raise LogError(f"bytes that can't be read: {line[:60]!r}", number)
         else:
-            left.append(number)
-    remarks = left_out(left)
-    if kind == "words":
+            (like_bytes if holds_bytes(line) else left).append(number)
+    remarks = left_out(left) + left_out(like_bytes, "without a direction that look like bytes")
+    if grammar.name == "words":
         _no_text_around(pieces)
         pieces = _with_line_ends(pieces, remarks)
-    return Log("trace-" + kind, pieces, remarks)
-
-
-#: What is in a row that holds bytes of a line: the beginning of a record, or pairs of digits.
-_BYTES = re.compile(r"(?<![A-Za-z])[HPORCQMSL]\|[\\\d]|(?<![0-9A-Za-z])(?:[0-9A-Fa-f]{2}[ ,:]){3}")
+    return Log("trace-" + grammar.name, pieces, remarks)
 
 
 def _has_bytes(line: str) -> bool:
@@ -274,7 +271,7 @@ def _has_bytes(line: str) -> bool:
         if rank in _ARROWS and not any(one in line for one in _ARROWS[rank]):
             continue
         found = (one for one in pattern.finditer(line) if _is_head(line[: one.start()]))
-        if any(_BYTES.search(line, one.end()) for one in found):
+        if any(holds_bytes(line[one.end() :]) for one in found):
             return True
     return False
 
@@ -318,9 +315,10 @@ _DATA = ("data", "bytes", "payload", "hex", "raw", "message", "msg")
 
 def json_lines(text: str) -> Log:
     """A log of JSON objects, one a line: who sends and the bytes, as hex or as text with escapes."""
-    found: List[Tuple[Optional[int], str, str]] = []
-    left = []
-    for number, line in enumerate(text.splitlines(), 1):
+    lines = text.splitlines()
+    found: List[Tuple[Optional[int], str, int]] = []
+    rows, left = [""] * len(lines), []
+    for number, line in enumerate(lines, 1):
         if not line.strip():
             continue
         try:
@@ -331,14 +329,16 @@ def json_lines(text: str) -> Log:
         data = next((row[key] for key in _DATA if row.get(key)), None)
         if data is not None and not isinstance(data, str):
             raise LogError(f"bytes that can't be read: {line[:60]!r}", number)
+        if side is None and data is not None and (holds_bytes(data) or _SURE.search(data) or _hex(data)):
+            raise LogError(f"bytes without a direction: {line[:60]!r}", number)
         if side is None or data is None:
             left.append(number)
             continue
-        found.append((find_time(line), side, data))
-    brackets = _brackets_of("\n".join(data for _, _, data in found))
-    found = [(time, side, _plain_brackets(data, brackets)) for time, side, data in found]
-    way = _way_of("\n".join(data for _, _, data in found))
-    pieces = [Piece(time, side, _hex(data) or escaped_words(data, way)) for time, side, data in found]
+        found.append((find_time(line), side, number - 1))
+        rows[number - 1] = data.replace("\n", "<LF>")
+    rows = numbered("\n".join(rows)).split("\n")
+    way = _way_of("\n".join(rows))
+    pieces = [Piece(time, side, _hex(rows[at]) or escaped_words(rows[at], way)) for time, side, at in found]
     return Log("json-lines", pieces, left_out(left))
 
 
@@ -347,12 +347,15 @@ def csv_table(text: str) -> Log:
     export)."""
     rows = list(csv.reader(text.splitlines(), delimiter=next(one for one in "\t;," if one in text.splitlines()[0])))
     names = [name.strip().lower() for name in rows.pop(0)]
-    left = [number for number, row in enumerate(rows, 2) if row and len(row) < len(names)]
+    short = [(number, row) for number, row in enumerate(rows, 2) if row and len(row) < len(names)]
     data = next((names.index(one) for one in ("data", "bytes", "payload", "hex", "value") if one in names), None)
     whole = [(number, row) for number, row in enumerate(rows, 2) if len(row) >= len(names)]
     rows = [row for _, row in whole]
     if data is None or not rows:
         raise LogError("the table has no column of bytes")
+    for number, row in short:
+        if holds_bytes(" ".join(row) + " ") or data < len(row) and row[data].strip():
+            raise LogError(f"a row that isn't whole: {', '.join(row)[:60]!r}", number)
     sides = [
         place
         for place, name in enumerate(names)
@@ -371,7 +374,7 @@ def csv_table(text: str) -> Log:
             seconds = re.match(r"\d+\.\d+$", stamp)
             time = int(float(stamp) * 1_000_000) * 1000 if seconds else find_time(stamp)
             pieces.append(Piece(time, row[sides[0]] if sides else "", read))
-    return Log("csv-table", pieces, left_out(left))
+    return Log("csv-table", pieces, left_out([number for number, _ in short]))
 
 
 def with_control_bytes(data: bytes) -> Optional[Log]:
@@ -392,6 +395,9 @@ def with_control_bytes(data: bytes) -> Optional[Log]:
         at += len(row) + 1
     if len({side for _, _, side, _ in entries}) != 2:
         return None
+    before = data[: entries[0][0]]
+    if re.search(rb"[\x02-\x06\x15\x17]", before):
+        raise LogError("bytes of a line are before the first line with a direction", 1)
     bodies = [
         data[start:end] for (_, start, _, _), end in zip(entries, [one[0] for one in entries[1:]] + [len(data)])
     ]
@@ -402,7 +408,7 @@ def with_control_bytes(data: bytes) -> Optional[Log]:
         bare = body[: -len(end_of_line)] if body.endswith(end_of_line) else body
         # Where a frame's own CR LF ends the line, the log has no other.
         pieces.append(Piece(time, side, body if re.search(rb"[\x03\x17][0-9A-Fa-f]{2}\r?\Z", bare) else bare))
-    return Log("trace-bytes", pieces, [])
+    return Log("trace-bytes", pieces, left_out([at for at, row in enumerate(before.split(b"\n"), 1) if row.strip()]))
 
 
 def _goes_on(line: str, grammar: Grammar, pieces: List[Piece]) -> bool:
@@ -458,7 +464,7 @@ def _split(line: str, grammar: Grammar) -> Optional[Tuple[str, str, bytes]]:
 
 def _is_head(text: str) -> bool:
     """Whether what is before a direction is a head: times, levels, counters, names; no bytes in words."""
-    return len(text) < 120 and not _SURE.search(text)
+    return len(text) < 120 and not _SURE.search(text) and re.search(r"<(?:CR|LF)>", text, re.I) is None
 
 
 _NAME_FIRST = r"\W*(?:[\d/.\-]*[ T]?\d{1,2}:\d\d:\d\d(?:[.,]\d+)?)?\W*([A-Za-z][\w ]{0,24}?)\s*"
@@ -467,10 +473,10 @@ _NAMED, _NAMED_HEX = re.compile(_NAME_FIRST + r"[:>|\]]+\s*(.+)$"), re.compile(
 )
 
 
-def _named(read: List[Tuple[int, str]], grammar: Grammar) -> Optional[Log]:
+def _named(read: List[Tuple[int, str]], grammar: Grammar, others: List[Tuple[int, str]]) -> Optional[Log]:
     """A log whose lines each begin with one of two names; a line of hex may have another beginning, and no bytes
-    then."""
-    pieces, left = [], []
+    then. The other lines are left out."""
+    pieces, left = [], list(others)
     for number, line in read:
         found = (_NAMED if grammar.name == "words" else _NAMED_HEX).match(line)
         data = grammar.read(found[2]) if found else None
@@ -479,11 +485,21 @@ def _named(read: List[Tuple[int, str]], grammar: Grammar) -> Optional[Log]:
         elif grammar.name == "words":
             return None
         else:
-            left.append(number)
+            left.append((number, line))
+    if len({one.side for one in pieces}) != 2:
+        return None
     if grammar.name == "words":
         _no_text_around(pieces)
-    remarks = left_out(left)
-    return Log("trace-" + grammar.name, pieces, remarks) if len({one.side for one in pieces}) == 2 else None
+    for number, line in left:
+        if holds_bytes(line):
+            raise LogError(f"bytes that can't be read: {line[:60]!r}", number)
+    return Log("trace-" + grammar.name, pieces, left_out(sorted(number for number, _ in left)))
+
+
+#: What is before the bytes of a line without a direction: a time, a counter.
+_HEAD = re.compile(r"\s*(?:\[?[\d/.\-]*[ T]?\d{1,2}:\d\d:\d\d(?:[.,]\d+)?\]?\s*)?(?:\d+[.:)]\s+)?")
+#: One control byte in words, and nothing else.
+_ONE_WORD = re.compile(rf"(?:{_WORD.pattern})\s*$", re.I)
 
 
 def _unmarked(lines: List[str], grammar: Grammar) -> Log:
@@ -495,16 +511,20 @@ def _unmarked(lines: List[str], grammar: Grammar) -> Log:
     read = [
         (number, line)
         for number, line in full
-        if (_SURE.search(line) if is_words else grammar.read(line.strip()) is not None)
+        if (
+            _SURE.search(line) or _ONE_WORD.match(_HEAD.sub("", line, count=1))
+            if is_words
+            else grammar.read(line.strip()) is not None
+        )
     ]
-    named = _named(read if is_words else full, grammar)
+    numbers = {number for number, _ in read}
+    left = [(number, line) for number, line in full if number not in numbers]
+    named = _named(read, grammar, left) if is_words else _named(full, grammar, [])
     if named is not None:
         return named
     if not read:
         raise LogError("no line holds ENQ, a frame or a reply")
-    numbers = {number for number, _ in read}
-    left = [(number, line) for number, line in full if number not in numbers]
-    bad = next((one for one in left if _BYTES.search(one[1])), None)
+    bad = next((one for one in left if holds_bytes(one[1])), None)
     if bad is not None:
         raise LogError(f"bytes that can't be read: {bad[1][:60]!r}", bad[0])
     heads = [number for number, line in left if re.search(r"\b(?:%s|%s)\b" % (_OUT, _IN), line, re.I)]
@@ -525,8 +545,9 @@ def _without_sides(lines: List[str], grammar: Grammar) -> Tuple[List[Piece], str
     wide = max(indents) - least >= 4
     pieces: List[Piece] = []
     for line, indent in zip(lines, indents):
-        head = re.match(r"\s*(?:\[?[\d/.\-]*[ T]?\d{1,2}:\d\d:\d\d(?:[.,]\d+)?\]?\s*)?(?:\d+[.:)]\s+)?", line)
-        data = grammar.read(line[head.end() :].strip() if head else line.strip()) or b""
+        data = grammar.read(_HEAD.sub("", line, count=1).strip())
+        if data is None:
+            raise LogError(f"bytes that can't be read: {line[:60]!r}")
         if wide:
             side = "right" if indent - least >= 4 else "left"
         else:

@@ -6,7 +6,7 @@ import json
 import re
 from typing import Any, Dict, Iterator, List, Optional, Tuple
 
-from .log import SECOND, Log, LogError, Piece, find_time, hex_row
+from .log import SECOND, Log, LogError, Piece, find_time, hex_row, holds_bytes, left_out
 from .packets import Packet, Segment, connections_of, linked, read_packets
 
 _HEX = re.compile(r"^(?:[0-9A-Fa-f]{2})(?:[:\- ]?[0-9A-Fa-f]{2})*$")
@@ -54,10 +54,17 @@ def follow_raw(text: str) -> Log:
     return Log("tshark-raw", pieces, [])
 
 
+_ARRAY = re.compile(r"(peer\d+)_\d+\s*\[\]\s*=\s*\{([^{}]*)\}\s*;")
+
+
 def follow_c(text: str) -> Log:
     """Follow TCP Stream as C arrays: peer0_0[], peer1_0[] and so on, in the order of the packets."""
     pieces = []
-    for found in re.finditer(r"(peer\d+)_\d+\s*\[\]\s*=\s*\{(.*?)\}\s*;", text, re.S):
+    others = _ARRAY.sub(lambda one: "\n" * one[0].count("\n"), text)
+    rest = re.search(r"peer\d+_\d+|\b0x[0-9a-fA-F]{2}\b", others)
+    if rest is not None:
+        raise LogError(f"an array that isn't whole: {rest[0]}", others.count("\n", 0, rest.start()) + 1)
+    for found in _ARRAY.finditer(text):
         body = re.sub(r"/\*.*?\*/", "", found[2], flags=re.S)
         words = re.findall(r"0x([0-9a-fA-F]{2})", body)
         if re.sub(r"0x[0-9a-fA-F]{2}|[\s,]", "", body):
@@ -86,17 +93,17 @@ def follow_yaml(text: str) -> Log:
             continue
         put()
         digits = None
-        old = re.match(r"(peer\d+)_\d+:\s*!!binary\s*\|", bare)
         found = re.match(r"-?\s*(\w+):\s*(.*)$", bare)
-        if old:
-            side, digits, indent = old[1], [], depth
-        elif found and found[1] == "peer":
+        name = found[1] if found else ""
+        binary = re.match(r"!!binary\s*[|>]?[-+]?\s*([A-Za-z0-9+/]*=*)$", found[2]) if found else None
+        if binary and (name == "data" or re.match(r"peer\d+_\d+$", name)):
+            side = side if name == "data" else name.split("_")[0]
+            digits, indent = [binary[1]] if binary[1] else [], depth
+        elif found and name == "peer":
             side = "peer" + found[2]
-        elif found and found[1] == "timestamp":
+        elif found and name == "timestamp":
             time = _seconds(found[2])
-        elif found and found[1] == "data" and "!!binary" in found[2]:
-            digits, indent = [], depth
-        elif bare and not bare.startswith("#") and not found:
+        elif bare and not bare.startswith("#") and (not found or name == "data" or "!!binary" in bare):
             raise LogError(f"no line of YAML that is known: {line[:60]!r}", number)
     put()
     return Log("wireshark-yaml", pieces, [])
@@ -114,7 +121,11 @@ def tshark_fields(text: str, port: Optional[int] = None, stream: Optional[int] =
     bytes; the side is the source port, address or what else takes two values."""
     rows, names = _rows(text)
     payload = _payload(rows, names)
-    kept = [row for row in rows if payload < len(row[1]) and row[1][payload].strip()]
+    left = {number for number, row in rows if payload >= len(row) or not row[payload].strip()}
+    for number, row in rows:
+        if payload >= len(row) and holds_bytes(" ".join(row) + " "):
+            raise LogError(f"a row that isn't whole: {' '.join(row)[:60]!r}", number)
+    kept = [(number, row) for number, row in rows if number not in left]
     for number, row in kept:
         if not _HEX.match(row[payload].strip().split(",")[0]):
             raise LogError(f"no bytes in column {payload + 1}: {row[payload][:40]!r}", number)
@@ -125,6 +136,7 @@ def tshark_fields(text: str, port: Optional[int] = None, stream: Optional[int] =
             "tshark-fields",
             port,
             stream,
+            left_out(sorted(left)),
         )
     side = _side_columns(kept, payload, names, port)
     time = _time_column(kept, payload, names)
@@ -136,7 +148,7 @@ def tshark_fields(text: str, port: Optional[int] = None, stream: Optional[int] =
         )
         for _, row in kept
     ]
-    return Log("tshark-fields", pieces, [])
+    return Log("tshark-fields", pieces, left_out(sorted(left)))
 
 
 def is_table(text: str) -> bool:
@@ -232,11 +244,22 @@ def _segment_of(one: Dict[str, str], payload: str) -> Segment:
     )
 
 
+def _lacking(count: int) -> List[str]:
+    """A remark on packets with bytes that aren't TCP, or aren't in the text, if there are some. A connection in which
+    bytes are missing before others is an error."""
+    return [f"packets whose TCP bytes aren't in the text were left out, {count} of them"] if count else []
+
+
 def _segments(
-    told: List[Dict[str, str]], payload: str, form: str, port: Optional[int], stream: Optional[int]
+    told: List[Dict[str, str]],
+    payload: str,
+    form: str,
+    port: Optional[int],
+    stream: Optional[int],
+    remarks: List[str],
 ) -> Log:
     """Packets that have their TCP numbers are put together as those of a pcap."""
-    from .packets import _joined, _one_after_another
+    from .packets import _one_after_another, joined
 
     segments, groups = [], {}  # type: List[Segment], Dict[str, List[Segment]]
     for one in told:
@@ -256,7 +279,8 @@ def _segments(
     if len(found) > 1 and not _one_after_another(found):
         names = "; ".join(f"--stream {every.index(one) + 1}: {one.name()}" for one in found)
         raise LogError(f"{len(found)} connections have ENQ or STX, choose one: {names}")
-    return _joined(found, form)
+    log = joined(found, every, form)
+    return log._replace(remarks=log.remarks + remarks)
 
 
 def tshark_json(text: str, port: Optional[int] = None, stream: Optional[int] = None) -> Log:
@@ -270,22 +294,26 @@ def tshark_json(text: str, port: Optional[int] = None, stream: Optional[int] = N
             raise LogError(f"no JSON: {error.msg}", error.lineno) from None
     told: List[Dict[str, str]] = []
     raw: List[Packet] = []
+    lacking = 0
     for packet in packets if isinstance(packets, list) else [packets]:
         flat = dict(_flat(packet))
         if flat.get("tcp.payload") and flat.get("tcp.srcport"):
             told.append(flat)
         elif flat.get("frame_raw"):
             raw.append(Packet(None, 1, bytes.fromhex(flat["frame_raw"]), 0))
+        else:
+            lacking += flat.get("tcp.len", "0") != "0"
     if raw and not told:
         return read_packets(iter(raw), "tshark-jsonraw", stream, port)
     if not told:
         raise LogError("no packet has tcp.payload")
-    return _segments(told, "tcp.payload", "tshark-json", port, stream)
+    return _segments(told, "tcp.payload", "tshark-json", port, stream, _lacking(lacking))
 
 
 def wireshark_text(text: str, port: Optional[int] = None, stream: Optional[int] = None) -> Log:
     """`tshark -V`, and Wireshark's export as plain text with details: the lines `Data: ..` of each packet."""
     told: List[Dict[str, str]] = []
+    lacking = 0
     for block in re.split(r"(?m)^(?=Frame \d+:|No\. +Time)", text):
         data = re.search(
             r"(?m)^\s*(\[truncated\])?Data(?: \[truncated\])?: ?([0-9a-fA-F:]{2,}(?:\.\.\.|…)?)\s*$", block
@@ -296,6 +324,7 @@ def wireshark_text(text: str, port: Optional[int] = None, stream: Optional[int] 
         )
         ends = re.search(r"Internet Protocol(?: Version \d)?, Src: (\S+?)(?: \(\S+\))?, Dst: (\S+)", block)
         if not data or not head:
+            lacking += data is not None or head is not None and head[4] != "0"
             continue
         if data[1] or len(_bytes(data[2].rstrip(".…"))) != int(head[4]):
             raise LogError(
@@ -315,7 +344,7 @@ def wireshark_text(text: str, port: Optional[int] = None, stream: Optional[int] 
         )
     if not told:
         raise LogError("no packet has a line Data")
-    return _segments(told, "tcp.payload", "wireshark-text", port, stream)
+    return _segments(told, "tcp.payload", "wireshark-text", port, stream, _lacking(lacking))
 
 
 def _flat(node: Any, name: str = "") -> Iterator[Tuple[str, str]]:
@@ -332,6 +361,7 @@ def _flat(node: Any, name: str = "") -> Iterator[Tuple[str, str]]:
 def tshark_pdml(text: str, port: Optional[int] = None, stream: Optional[int] = None) -> Log:
     """`tshark -T pdml`, and Wireshark's export as PDML."""
     told = []
+    lacking = 0
     for packet in re.findall(r"<packet>(.*?)</packet>", text, re.S):
         one: Dict[str, str] = {}
         for found in re.finditer(r'<field name="([\w.]+)"([^>]*)>', packet):
@@ -346,6 +376,10 @@ def tshark_pdml(text: str, port: Optional[int] = None, stream: Optional[int] = N
                 one.setdefault(found[1], value[1])
         if one.get("tcp.payload") and one.get("tcp.srcport"):
             told.append(one)
+        else:
+            lacking += one.get("tcp.len", "0") != "0"
+    if text.count("<packet>") != text.count("</packet>"):
+        raise LogError("the file ends within a packet")
     if not told:
         raise LogError("no packet has tcp.payload")
-    return _segments(told, "tcp.payload", "tshark-pdml", port, stream)
+    return _segments(told, "tcp.payload", "tshark-pdml", port, stream, _lacking(lacking))
