@@ -37,6 +37,35 @@ WITH_THEIR_OWN = (
 )
 #: The other tests, and what each must notice.
 FAULTS = {
+    "test_connect.Connect.test_two_lines": Edit(
+        "host/serve.py", "in self._places.items() if isinstance(one, Listen)]", "in self._places.items() if one]"
+    ),
+    "test_connect.Connect.test_orders": Edit(
+        "host/serve.py",
+        "host.add(self, self._end.place, peer)",
+        'host.add(self, self._end.place._replace(orders=""), peer)',
+    ),
+    "test_connect.Connect.test_gone_and_back": Edit(
+        "host/serve.py", "pause = min(2 * pause, MOST)", "pause = min(pause, MOST)"
+    ),
+    "test_connect.Connect.test_nothing_listens": Edit(
+        "host/serve.py", "if self._said.get(name) != why:", "if why:"
+    ),
+    "test_connect.Connect.test_stop": Edit(
+        "host/serve.py",
+        "return not self.stopping and place in self.asked.connects",
+        "return place in self.asked.connects",
+    ),
+    "test_connect.Connect.test_reload": Edit(
+        "host/serve.py", "if connect not in before:", "if connect.name not in {one.name for one in before}:"
+    ),
+    "test_connect.Connect.test_pauses": Edit(
+        "host/serve.py", "if line is not None and (line.had_session or", "if line and ("
+    ),
+    "test_connect.Connect.test_words": Edit("host/options.py", "    if not port:\n", "    if port < 0:\n"),
+    "test_connect.Connect.test_a_call_to_itself": Edit(
+        "host/serve.py", 'name == transport.get_extra_info("sockname") or', 'name == () or'
+    ),
     "test_files.Whole.test_damaged": Edit(
         "host/commands.py", "return writing(path)", 'return contextlib.nullcontext(open(path, "wb"))'
     ),
@@ -96,26 +125,44 @@ FAULTS = {
         "host/serve.py", "key=lambda line: line.last_byte", "key=lambda line: -line.last_byte"
     ),
     "test_lines.Lines.test_long_frames": Edit("host/line.py", "Receiver(frame_limit=frame)", "Receiver()"),
-    "test_lines.Lines.test_peers": Edit("host/serve.py", "if peer is None:", "if peer == 0:"),
+    "test_lines.Lines.test_peers": Edit("host/serve.py", "if name is None:", "if name == 0:"),
     "test_lines.Lines.test_quarantine": Edit(
         "host/intake.py", "one.fault or _after(one, reason), changes", "_after(one, reason), changes"
     ),
     "test_lines.Lines.test_stop": Edit(
-        "host/line.py", "(self._stopping and not self._receiver.is_open)", "self._stopping"
+        "host/line.py", "(self._stopping and not self._is_busy())", "self._stopping"
     ),
     "test_lines.Lines.test_capture": Edit(
-        "host/line.py", 'self._tape.bytes("<", reply)', 'self._tape.bytes("<", b"")'
+        "host/line.py", 'self._tape.bytes("<", data)', 'self._tape.bytes("<", b"")'
     ),
     "test_lines.Lines.test_words": Edit(
         "host/options.py",
-        "if not is_loopback(one.host) and not networks:",
-        "if not is_loopback(one.host) and networks:",
+        "if not is_loopback(one.host) and not networks and",
+        "if not is_loopback(one.host) and networks and",
     ),
+    "test_lines.Lines.test_written_addresses": Edit(
+        "host/serve.py", "peer = plain_address(name[0])", "peer = name[0]"
+    ),
+    "test_lines_file.LinesFile.test_allow": Edit(
+        "host/serve.py", "[*host.asked.networks, *place.allow]", "[*host.asked.networks]"
+    ),
+    "test_lines_file.LinesFile.test_changes": Edit("host/serve.py", "port.place = found", "port.place = port.place"),
+    "test_lines_file.LinesFile.test_command": Edit(
+        "host/commands.py", "return WRONG if found.faults else GOOD", "return GOOD"
+    ),
+    "test_lines_file.LinesFile.test_faults": Edit(
+        "host/lines.py", "setdefault(optionstr, self._row)", "setdefault(optionstr, self._row - 1)"
+    ),
+    "test_lines_file.LinesFile.test_reloads": Edit("host/serve.py", "if place not in now:", "if place.name:"),
+    "test_lines_file.LinesFile.test_serial": Edit(
+        "host/serve.py", "while not self.stopping and serial in self.asked.serials:", "while not self.stopping:"
+    ),
+    "test_lines_file.LinesFile.test_start": Edit("host/commands.py", "    if twice:\n", "    if twice and not read:\n"),
     "test_load.Load.test_200_analyzers": Edit(
         "host/serve.py", "if len(lines) < self.limits.lines:", "if len(lines) < 100:"
     ),
     "test_load.Load.test_memory": Edit(
-        "host/sqlite.py",
+        "host/sql.py",
         "            self.apply(units)\n",
         "            self.apply(units)\n"
         '            self.__dict__.setdefault("units", []).append((units, bytes(1 << 17)))\n',
@@ -131,8 +178,81 @@ FAULTS = {
     "test_notices.Said.test_bad_sessions": Edit(
         "host/notices.py", "AT_ONCE, SECONDS = 10, 30.0", "AT_ONCE, SECONDS = 1000, 30.0"
     ),
+    "test_orders.Files.test_files": Edit("orders/order.py", "elif len(row) > len(names):", "elif len(row) > len(names) + 9:"),
+    "test_orders.Files.test_records": Edit(
+        "orders/order.py", "for test in tests)\n    return", "for test in tests[:1])\n    return"
+    ),
+    "test_orders.Files.test_nothing": Edit("orders/order.py", 'fields[12] = b"X"', 'fields[11] = b"X"'),
+    "test_orders.Files.test_queries": Edit("orders/query.py", '_CANCELS = "AX"', '_CANCELS = "A"'),
+    "test_orders.SqliteBooks.test_states": Edit(
+        "orders/book.py", "state = FAILED if 0 < most <= tries", "state = FAILED if 0 < most < tries"
+    ),
+    "test_orders.SqliteBooks.test_two_hosts": Edit(
+        "orders/book.py", "return f\"(holder = ''{left})\"", "return f\"(1 = 1{left})\""
+    ),
+    "test_orders.SqliteBooks.test_given_back": Edit(
+        "orders/book.py", "SET holder = '' WHERE holder = ?\"", "SET holder = '' WHERE holder <> ?\""
+    ),
+    "test_orders.SqliteBooks.test_two_connections_of_one_process": Edit(
+        "host/sqlite.py",
+        "with contextlib.suppress(FileExistsError):\n        os.close(os.open(path, os.O_RDWR | os.O_CREAT | os.O_EXCL",
+        "if path:\n        os.close(os.open(path, os.O_RDWR | os.O_CREAT",
+    ),
+    "test_orders.Commands.test_commands": Edit(
+        "orders/commands.py", "if good and (ask.some or not rejected):", "if good:"
+    ),
+    "test_orders.Answers.test_query": Edit("host/duplex.py", "self._outbox.sent(batch)", "self._outbox.stop"),
+    "test_orders.Answers.test_ways_to_say_nothing": Edit(
+        "orders/order.py", '    if way == "L-I":\n', "    if way:\n"
+    ),
+    "test_orders.Answers.test_worklists": Edit(
+        "host/duplex.py", "if asked == self._site.place or (self._site.unasked and", "if asked == self._site.place or (not"
+    ),
+    "test_orders.Answers.test_command": Edit("host/outbox.py", "            if status:\n", "            if status > 9:\n"),
+    "test_orders.Answers.test_contention": Edit(
+        "host/duplex.py",
+        "elif self._station.phase is Phase.BUSY:\n            self._asked_in_vain()",
+        "elif self._station.phase in (Phase.BUSY, Phase.CONTENTION):\n            self._station.give_up()",
+    ),
+    "test_orders.Answers.test_a_busy_analyzer": Edit(
+        "host/duplex.py", "return self._station.seconds", "return self._station.seconds and 1"
+    ),
+    "test_orders.Answers.test_a_line_that_is_pulled": Edit(
+        "host/duplex.py",
+        'if self._sending is not None:\n            self._over_in_vain("the line was closed")',
+        "if self._sending is not None:\n            self._outbox.sent(self._sending)",
+    ),
+    "test_orders.Answers.test_last_try": Edit(
+        "host/outbox.py", "self._in_vain(batch.placed, why, self._tries)", "self._in_vain(batch.placed, why, 0)"
+    ),
+    "test_orders.Answers.test_a_whole_round": Edit(
+        "host/asker.py", "(one for one in tests if one in known)", "(one for one in tests if one not in known)"
+    ),
+    "test_orders.Fire.test_kills": Edit(
+        "host/duplex.py", "        self._sending, self._busy = batch, 0\n",
+        "        self._sending, self._busy = batch, 0\n        self._outbox.sent(batch)\n",
+    ),
+    "test_orders.Fire.test_late_and_noisy": Edit(
+        "host/duplex.py", "if outcome is Outcome.DONE:", "if outcome is not Outcome.NONE:"
+    ),
+    "test_orders.Fire.test_fifty_lines": Edit(
+        "orders/book.py", "AND seat IN ('', ?) AND", "AND (seat IN ('', ?) OR 1 = 1) AND"
+    ),
+    "test_orders_postgres.PostgresBooks.test_states": Edit(
+        "orders/book.py", "state = FAILED if 0 < most <= tries", "state = FAILED if 0 < most < tries"
+    ),
+    "test_orders_postgres.PostgresBooks.test_two_hosts": Edit(
+        "orders/book.py", "return f\"(holder = ''{left})\"", "return f\"(1 = 1{left})\""
+    ),
+    "test_orders_postgres.PostgresBooks.test_given_back": Edit(
+        "orders/book.py", "SET holder = '' WHERE holder = ?\"", "SET holder = '' WHERE holder <> ?\""
+    ),
+    "test_orders_postgres.PostgresBooks.test_two_hosts_are_killed": Edit(
+        "host/duplex.py", "        self._sending, self._busy = batch, 0\n",
+        "        self._sending, self._busy = batch, 0\n        self._outbox.sent(batch)\n",
+    ),
     "test_out.Files.test_modes": Edit(
-        "host/sqlite.py", "os.fchmod(descriptor, 0o600)", "os.fchmod(descriptor, 0o644)"
+        "host/sqlite.py", "os.chmod(path, 0o600)", "os.chmod(path, 0o644)"
     ),
     "test_out.Files.test_modes_of_a_spool": Edit(
         "host/files.py",
@@ -193,7 +313,7 @@ FAULTS = {
         "host/export.py", "one.line == wanted.line", "one.line != wanted.line"
     ),
     "test_postgres.Postgres.test_keeping": Edit(
-        "host/postgresql.py", "self.apply(units)\n            self._committed()", "self.apply(units)"
+        "host/postgresql.py", "yield\n            self._committed()", "yield"
     ),
     "test_postgres.Postgres.test_kills": Edit(
         "host/postgresql.py",
@@ -226,7 +346,7 @@ FAULTS = {
         "AND again_of IS NULL\",\n                (end.line, end.digest),",
     ),
     "test_postgres.Postgres.test_start_while_another_commits": Edit(
-        "host/postgresql.py", "fetchone()[0] is not None", "fetchone()[0] == 0"
+        "host/postgresql.py", "[0][0] is not None", "[0][0] == 0"
     ),
     "test_repeats.RepeatsOfSpool.test_early_mark": Edit(
         "host/spool.py", "return None if any(map(os.path.exists, places)) else key", "return key"
@@ -355,6 +475,7 @@ HARMLESS = (
         '                "again": one.again if one else 0,\n                "whole": one.whole if one else 0,\n',
     ),
     Edit("host/options.py", "return found[1] or found[2] or", "return found[2] or found[1] or"),
+    Edit("host/lines.py", "for key in _WHERE if key in given]", "for key in _WHERE if given.get(key) is not None]"),
 )
 
 

@@ -292,7 +292,7 @@ class Lines(HostTest):
             transport.get_extra_info.side_effect = {"peername": peer, "socket": unittest.mock.Mock()}.get
             host = unittest.mock.Mock(stopping=False, lines={}, limits=options.Limits(), refused=0)
             host.asked.networks = options.networks_of(["192.0.2.0/24"])
-            serve.TcpWire(host, options.listen_of("0")).connection_made(transport)
+            serve.TcpWire(host, serve.Port(options.listen_of("0"))).connection_made(transport)
             found = transport.abort.call_count, host.add.call_count, host.refused
             self.same(f"{peer}: broken off, a line, refused", found, wanted)
 
@@ -379,3 +379,19 @@ class Lines(HostTest):
         ):
             self.same(f"may {address} connect", options.is_allowed(address, allowed), good)
         self.true("the library's faults have names", FrameFault.SUM.name == "SUM")
+
+    def test_written_addresses(self):
+        """An address of IPv4 and the same one written in IPv6 are counted together."""
+        host, port = unittest.mock.Mock(stopping=False), serve.Port(options.listen_of("0,name=one"))
+        host.asked.networks = options.networks_of(["192.0.2.0/24", "2001:db8::/32"])
+        for given, wanted in (
+            ("192.0.2.7", "192.0.2.7"),
+            ("::ffff:192.0.2.7", "192.0.2.7"),
+            ("::ffff:c000:207", "192.0.2.7"),
+            ("2001:db8::7", "2001:db8::7"),
+        ):
+            transport = unittest.mock.Mock(spec=asyncio.Transport)
+            transport.get_extra_info.side_effect = {"peername": (given, 4000), "socket": unittest.mock.Mock()}.get
+            serve.TcpWire(host, port).connection_made(transport)
+            self.same(f"{given} is counted as", host.has_room.call_args[0][1], wanted)
+            self.same(f"{given} is shown as", host.add.call_args[0][2], wanted)

@@ -137,9 +137,10 @@ class Serial(HostTest):
             return into
 
         async def serve_it():
-            asked = serve.Asked([], [], [], options.Limits(), None, None)
+            device = options.serial_of("/dev/ttyUSB0:9600")
+            asked = serve.Asked([], [device], [], options.Limits(), None, None)
             host = serve.Host(asked, open_store(self.path("gone.db")))
-            task = asyncio.ensure_future(host._serve_serial(options.serial_of("/dev/ttyUSB0:9600")))
+            task = asyncio.ensure_future(host._serve_serial(device))
             await asyncio.sleep(1.5)
             task.cancel()
             await host.stop()

@@ -3,7 +3,6 @@ import argparse
 import codecs
 import os
 import re
-import stat
 import sys
 from typing import List, Optional, Set, Tuple
 
@@ -11,12 +10,15 @@ from . import __version__
 from ._library import LibraryMissing
 from .capture import Capture, CaptureError, looks_like_capture, read_capture, write_lines
 from .field import normalize, sniffers, table
-from .field.log import LogError, find_time, time_text
+from .field.log import LogError, time_text, times_beside
 from .host import commands as host_commands
 from .host.deliver import WrongStore
+from .host.files import write_whole
 from .host.options import OptionError
 from .host.store import StoreError
 from .link import FRAME_TEXT, LONG_FRAME_TEXT
+from .orders import commands as order_commands
+from .play import command as play_command
 
 #: Exit statuses: as those of lislink.
 GOOD, LOOKS_WRONG, USAGE, STOPPED = 0, 1, 2, 3
@@ -35,22 +37,13 @@ def read_input(path: str) -> bytes:
         return file.read()
 
 
-def write_private(path: str, data: bytes) -> None:
-    """Writes a file that only its owner can read, since it may hold patients' data."""
-    descriptor = os.open(path, os.O_WRONLY | os.O_CREAT | os.O_TRUNC, 0o600)
-    with os.fdopen(descriptor, "wb") as file:
-        if stat.S_ISREG(os.fstat(descriptor).st_mode):
-            os.fchmod(descriptor, 0o600)
-        file.write(data)
-
-
 def write_output(path: Optional[str], data: bytes) -> None:
     """Writes to a file, or to standard output."""
     if path is None or path == "-":
         sys.stdout.buffer.write(data)
         sys.stdout.buffer.flush()
     else:
-        write_private(path, data)
+        write_whole(path, data)
 
 
 def _import_options(parser: argparse.ArgumentParser) -> None:
@@ -98,7 +91,7 @@ def load(path: str, ask: argparse.Namespace) -> Tuple[Capture, List[str]]:
         capture = read_capture(data)
         beside = getattr(ask, "times", None) or (path + ".times" if path != "-" else "")
         if beside and os.path.exists(beside):
-            capture = _with_times(capture, beside)
+            capture = capture._replace(times=times_beside([number for number, _ in capture.lines], beside))
         return (sniffers.swapped(capture) if ask.swap else capture), []
     if ask.form is None and _looks_like_records(data):
         raise LogError("these are records, and no line: see lislab normalize --explain, and lislab table")
@@ -108,13 +101,6 @@ def load(path: str, ask: argparse.Namespace) -> Tuple[Capture, List[str]]:
 def _looks_like_records(data: bytes) -> bool:
     """Whether a file begins with a header: H and punctuation."""
     return re.match(rb"(?:\xef\xbb\xbf)?[\r\n ]*[Hh][!-/:-@\[-`{-~]{3}", data[:40]) is not None
-
-
-def _with_times(capture: Capture, path: str) -> Capture:
-    with open(path, encoding="utf-8") as file:
-        rows = file.read().splitlines()
-    times = [find_time(rows[number - 1]) if number <= len(rows) else None for number, _ in capture.lines]
-    return capture._replace(times=times)
 
 
 def times_text(capture: Capture) -> str:
@@ -141,7 +127,7 @@ def run_capture(ask: argparse.Namespace) -> int:
     write_output(ask.output, write_lines(line for _, line in capture.lines).encode())
     times = ask.times or (ask.output + ".times" if ask.output not in (None, "-") else None)
     if times and any(time is not None for time in capture.times):
-        write_private(times, times_text(capture).encode())
+        write_whole(times, times_text(capture).encode())
         remarks.append(f"times: {times}")
     for remark in remarks:
         say(remark)
@@ -176,6 +162,20 @@ def run_ladder(ask: argparse.Namespace) -> int:
     else:
         write_output(None, text_of(ladder, ask.wrong).encode("utf-8"))
     return LOOKS_WRONG if any(look.level == "bad" for look in looks_of(ladder)) else GOOD
+
+
+def run_replay(ask: argparse.Namespace) -> int:
+    """Compares a capture with a station of the computer, in both directions."""
+    from .field.replay import replayed
+
+    capture, remarks = load(ask.capture, ask)
+    for remark in remarks:
+        say(remark)
+    told, last = replayed(capture, _frame_limit(ask))
+    for one in told:
+        print(one)
+    print(last, flush=True)
+    return LOOKS_WRONG if any(one.text is None for one in told) else GOOD
 
 
 def run_normalize(ask: argparse.Namespace) -> int:
@@ -217,16 +217,17 @@ def records_of(path: str, ask: argparse.Namespace) -> bytes:
 
 def run_table(ask: argparse.Namespace) -> int:
     """Writes results as a table."""
-    names = [name.strip() for name in ask.fields.split(",")] if ask.fields else list(table.USUAL)
+    usual = table.OF_ORDERS if ask.orders else table.USUAL
+    names = [name.strip() for name in ask.fields.split(",")] if ask.fields else list(usual)
     if ask.nested and ask.format != "jsonl":
         raise table.TableError("--nested is for --format jsonl")
-    columns = table.columns_of(names, ask.sample_from, ask.nested)
+    columns = table.columns_of(names, ask.sample_from, ask.nested, ask.orders)
     line = table.line_writer(ask.format, columns)
     out: List[str] = [] if ask.no_header else [line(None)]
     status, odd = GOOD, 0
     for path in ask.records or ["-"]:
         where = f"{path}: " if len(ask.records) > 1 else ""
-        for row, why in table.rows_of(records_of(path, ask), columns, ask.encoding):
+        for row, why in table.rows_of(records_of(path, ask), columns, ask.encoding, ask.orders):
             if row is None:
                 say(where + why)
                 status = LOOKS_WRONG
@@ -235,7 +236,8 @@ def run_table(ask: argparse.Namespace) -> int:
                 out.append(line(row))
     write_output(ask.output, "".join(out).encode("utf-8"))
     if odd:
-        say(f"{odd} results hold bytes that aren't {ask.encoding}: name the encoding, as --encoding latin-1 or gbk")
+        what = "orders" if ask.orders else "results"
+        say(f"{odd} {what} hold bytes that aren't {ask.encoding}: name the encoding, as --encoding latin-1 or gbk")
         status = LOOKS_WRONG
     return status
 
@@ -256,6 +258,13 @@ def _add_ladder(one: argparse.ArgumentParser) -> None:
     one.add_argument("--encoding", type=_encoding, default="utf-8", help="of the records' text (utf-8)")
     _import_options(one)
     one.set_defaults(run=run_ladder)
+
+
+def _add_replay(one: argparse.ArgumentParser) -> None:
+    one.add_argument("capture", help="a capture, or a log of a sniffer (pcap, socat, ..); - is standard input")
+    _add_long(one)
+    _import_options(one)
+    one.set_defaults(run=run_replay)
 
 
 def _add_capture(one: argparse.ArgumentParser) -> None:
@@ -296,6 +305,7 @@ def _add_table(one: argparse.ArgumentParser) -> None:
     )
     one.add_argument("--encoding", type=_encoding, default="utf-8", help="of the records' text (utf-8)")
     one.add_argument("--no-header", action="store_true", help="no line of names")
+    one.add_argument("--orders", action="store_true", help="a row for each order, and not for each result")
     nested = "in JSON lines: lists where a field has components or repeats"
     one.add_argument("--nested", action="store_true", help=nested)
     _add_long(one)
@@ -312,10 +322,14 @@ def parser() -> argparse.ArgumentParser:
     commands = top.add_subparsers(dest="command", required=True, metavar="COMMAND")
     _add_ladder(commands.add_parser("ladder", help="show a capture or a log as a ladder, and what looks wrong"))
     _add_capture(commands.add_parser("capture", help="make a capture of a sniffer's log"))
+    both = "compare a capture in which both sides send with what a computer must answer"
+    _add_replay(commands.add_parser("replay", help=both))
     changes = "make record files of dialects readable, each change by its option"
     _add_normalize(commands.add_parser("normalize", help=changes))
     _add_table(commands.add_parser("table", help="write results as CSV, TSV or JSON lines"))
     host_commands.add_commands(commands)
+    order_commands.add_commands(commands)
+    play_command.add_command(commands)
     return top
 
 

@@ -1,18 +1,22 @@
-"""The commands of the host: `lislab serve`, `send`, `status`, `export` and `deliver`."""
+"""The commands of the host: `lislab serve`, `lines`, `send`, `status`, `export` and `deliver`."""
 import argparse
 import asyncio
 import contextlib
 import functools
 import math
 import os
+import re
+import shlex
 import socket
 import sys
-from typing import Any, Callable, ContextManager, Iterator, List, Optional
+from typing import Any, Callable, ContextManager, Iterator, List, Optional, Sequence, Union
 
 from .._library import calls
-from . import deliver, export, options, send, serve, status
+from ..orders.book import open_book
+from . import asker, deliver, export, lines, options, send, serve, status
+from .outbox import Outbox
 from .files import Output, writing
-from .options import Limits, OptionError
+from .options import Limits, Network, OptionError, Place
 from .said import say
 from .store import UNFINISHED, UNREADABLE, WHOLE, Store, open_store
 
@@ -23,6 +27,7 @@ GOOD, WRONG, USAGE = 0, 1, 2
 def add_commands(commands: Any) -> None:
     """Adds the commands to those of lislab."""
     _add_serve(commands.add_parser("serve", help="a host: keeps what analyzers send, and then acknowledges it"))
+    _add_lines(commands.add_parser("lines", help="checks a file of lines: each line, its settings, and each fault"))
     _add_send(commands.add_parser("send", help="an analyzer: sends a file of records to a host"))
     _add_status(commands.add_parser("status", help="the lines of a host, and what its store has"))
     _add_export(commands.add_parser("export", help="messages out of a store"))
@@ -59,6 +64,17 @@ _COUNT, _PLACE = _number(int, 1), _number(int, 0)
 _SECONDS, _FACTOR, _CHANCE = _number(float, 0), _number(float, 0.001), _number(float, 0, 1)
 
 
+def _limit_or_file(word: str) -> Union[float, str]:
+    """The value of `--lines`: a number is the most lines at once, any other word a file of lines."""
+    return _COUNT(word) if re.match(r"[-+]?\d+$", word) else word
+
+
+def _allow(parser: argparse.ArgumentParser) -> None:
+    parser.add_argument(
+        "--allow", action="append", default=[], metavar="NETWORK", help="who may connect besides this machine"
+    )
+
+
 def _scale(parser: argparse.ArgumentParser) -> None:
     parser.add_argument(
         "--scale", type=_FACTOR, default=1.0, metavar="S", help="for tests: each timer S times as long"
@@ -71,23 +87,38 @@ def _add_serve(one: argparse.ArgumentParser) -> None:
         "--listen",
         action="append",
         default=[],
-        metavar="HOST:PORT[,name=..][,frame=..][,encoding=..]",
+        metavar="HOST:PORT[,name=..][,frame=..][,encoding=..][,orders=ask|send][,none=..]",
         help="a TCP port; HOST is 127.0.0.1 if it isn't named",
+    )
+    one.add_argument(
+        "--connect",
+        action="append",
+        default=[],
+        metavar="HOST:PORT[,name=..][,frame=..][,encoding=..][,orders=ask|send][,none=..]",
+        help="a TCP port of an analyzer or a terminal server that listens: the host connects to it",
     )
     one.add_argument(
         "--serial",
         action="append",
         default=[],
-        metavar="DEVICE:SPEED[,name=..][,mode=8N1][,flow=..][,frame=..][,encoding=..]",
+        metavar="DEVICE:SPEED[,name=..][,mode=8N1][,flow=..][,frame=..][,encoding=..][,orders=..][,none=..]",
         help="a serial line",
     )
+    _allow(one)
     one.add_argument(
-        "--allow", action="append", default=[], metavar="NETWORK", help="who may connect besides this machine"
+        "--lines",
+        type=_limit_or_file,
+        action="append",
+        default=[],
+        metavar="FILE|N",
+        help=f"a file of lines, read again at SIGHUP; a number: the most TCP lines at once ({Limits().lines})",
     )
     one.add_argument(
         "--host-name", default=socket.gethostname(), metavar="NAME", help="this host's name in the store"
     )
     _add_limits(one, Limits())
+    one.add_argument("--ask", metavar="COMMAND", help="answers queries: reads one, prints the answer's records")
+    one.add_argument("--tries", type=_PLACE, default=10, help="sessions for an order, 0 for no end (%(default)s)")
     one.add_argument("--capture", metavar="PREFIX", help="write what goes over each line to PREFIX-NAME-..capture")
     one.add_argument("--status", metavar="FILE", help="where the state for lislab status is (STORE.status)")
     _scale(one)
@@ -96,7 +127,6 @@ def _add_serve(one: argparse.ArgumentParser) -> None:
 
 def _add_limits(one: argparse.ArgumentParser, usual: Limits) -> None:
     number = functools.partial(one.add_argument, metavar="N")
-    number("--lines", type=_COUNT, default=usual.lines, help="the most TCP lines at once (%(default)s)")
     number("--address-lines", type=_COUNT, default=usual.address, help="the most of one address (%(default)s)")
     number("--message-bytes", type=_COUNT, default=usual.message, help="of one message (%(default)s)")
     seconds = functools.partial(one.add_argument, metavar="SECONDS")
@@ -113,28 +143,87 @@ def _state_file(store: str, named: Optional[str]) -> Optional[str]:
 
 def run_serve(ask: argparse.Namespace) -> int:
     """Serves until it is stopped."""
-    listens = [options.listen_of(word) for word in ask.listen]
-    serials = [options.serial_of(word) for word in ask.serial]
-    networks = options.networks_of(ask.allow)
-    if not listens and not serials:
-        raise OptionError("name a line by --listen or --serial")
-    options.check_allowed(listens, networks)
+    asked = _asked_of(ask)
     if ask.reply_within >= 15:
         raise OptionError("--reply-within is below the analyzer's timer of 15 seconds")
     calls()  # without the library no line could be answered
-    limits = Limits(ask.lines, ask.message_bytes, ask.idle, ask.reply_within, ask.grace, ask.scale, ask.address_lines)
     os.umask(0o077)
     store = open_store(ask.store)
     try:
         left = store.start(ask.host_name)
         if left:
             say(f"{left} messages were open when the host stopped: they are unfinished")
-        state = _state_file(ask.store, ask.status)
-        asked = serve.Asked(listens, serials, networks, limits, ask.capture, state, ask.host_name)
         asyncio.run(serve.serve(asked, store))
     finally:
         store.close()
     return GOOD
+
+
+def _asked_of(ask: argparse.Namespace) -> serve.Asked:
+    """What the words of serve ask for, and its file of lines as that is now."""
+    files = [one for one in ask.lines if isinstance(one, str)]
+    most = [Limits().lines, *(one for one in ask.lines if not isinstance(one, str))][-1]
+    if len(files) > 1:
+        raise OptionError(f"one file of lines is read, not {' and '.join(files)}")
+    networks = options.networks_of(ask.allow)
+    places = _places_of(ask, files, networks)
+    listens = [one for one in places if isinstance(one, options.Listen)]
+    connects = [one for one in places if isinstance(one, options.Connect)]
+    serials = [one for one in places if isinstance(one, options.Serial)]
+    limits = Limits(most, ask.message_bytes, ask.idle, ask.reply_within, ask.grace, ask.scale, ask.address_lines)
+    state, outbox = _state_file(ask.store, ask.status), _outbox_of(ask, places)
+    asked = serve.Asked(listens, serials, networks, limits, ask.capture, state, ask.host_name, outbox, connects)
+    return asked._replace(again=functools.partial(_asked_of, ask)) if files else asked
+
+
+def _places_of(ask: argparse.Namespace, files: Sequence[str], networks: Sequence[Network]) -> List[Place]:
+    """The lines of the words, and those of the file."""
+    listens = [options.listen_of(word) for word in ask.listen]
+    options.check_allowed(listens, networks)
+    named: List[Place] = [
+        *listens,
+        *map(options.connect_of, ask.connect),
+        *map(options.serial_of, ask.serial),
+    ]
+    read = [place for path in files for place in lines.places_of(path, networks)]
+    if not named and not read:
+        raise OptionError("name a line by --listen, --connect or --serial, or a file of lines by --lines")
+    twice = {place.name for place in named} & {place.name for place in read}
+    if twice:
+        raise OptionError(f"{files[0]}: {min(twice)} is the name of a line that an option names too")
+    return [*named, *read]
+
+
+def _add_lines(one: argparse.ArgumentParser) -> None:
+    one.add_argument("file", metavar="FILE", help="lines: [NAME], then listen, connect or serial, and settings")
+    _allow(one)
+    one.set_defaults(run=run_lines)
+
+
+def run_lines(ask: argparse.Namespace) -> int:
+    """Prints the lines of a file and its faults; status 1 if it has some."""
+    found = lines.read_lines(ask.file, options.networks_of(ask.allow))
+    for row in [*map(lines.text_of, found.places), *found.faults]:
+        print(row)
+    print(f"lines {len(found.places)} faults {len(found.faults)}")
+    return WRONG if found.faults else GOOD
+
+
+def _outbox_of(
+    ask: argparse.Namespace, places: Sequence[Place]
+) -> Optional[Callable[[Callable[[str], None]], Outbox]]:
+    """What makes the orders of a host, if a line sends some."""
+    command = shlex.split(ask.ask or "")
+    if not any(place.orders for place in places):
+        if command:
+            raise OptionError("--ask answers on lines with orders=ask")
+        return None
+    if command and any(place.orders == "send" for place in places):
+        raise OptionError("a line with orders=send sends those of the store, and --ask has none to send unasked")
+    if not command and ask.store.startswith("spool:"):
+        raise OptionError("orders are kept in SQLite or PostgreSQL; with spool: name a command by --ask")
+    book = functools.partial(open_book, ask.store, ask.host_name)
+    return functools.partial(Outbox, book, command, ask.tries, ask.scale)
 
 
 def _add_send(one: argparse.ArgumentParser) -> None:
@@ -159,6 +248,10 @@ def _add_send(one: argparse.ArgumentParser) -> None:
     one.add_argument("--cut", action="store_true", help="cut units at random places")
     one.add_argument("--seed", type=int, default=1, help="of what happens by chance (%(default)s)")
     one.add_argument("--log", metavar="FILE", help="a line of JSON for each message that is done")
+    one.add_argument(
+        "--ask", action="append", default=[], metavar="SAMPLE", help="ask for the orders of a sample, or of ALL"
+    )
+    one.add_argument("--results", metavar="FILE", help="send results for them: lines of TEST,VALUE,UNIT")
     one.add_argument("--quiet", action="store_true", help="no line for each message")
     _scale(one)
     one.set_defaults(run=run_send)
@@ -184,6 +277,8 @@ def run_send(ask: argparse.Namespace) -> int:
     target: send.Target = options.split_address(ask.to) if ask.to else options.serial_of(ask.serial)
     if ask.serial and ask.analyzers != 1:
         raise OptionError("a serial line has one analyzer")
+    if ask.ask:
+        return _run_ask(ask, target)
     bad: List[str] = []
     texts = _texts_of(ask, bad)
     for why in bad:
@@ -200,6 +295,31 @@ def run_send(ask: argparse.Namespace) -> int:
     summary = asyncio.run(send.send_all(plan, report))
     send.print_summary(summary)
     return WRONG if bad or summary.failed else GOOD
+
+
+def _run_ask(ask: argparse.Namespace, target: send.Target) -> int:
+    """Asks for orders, prints the records that came, and sends results for them."""
+    values = None
+    if ask.results:
+        with open(ask.results, "rb") as file:
+            values = asker.values_of(file.read())
+    samples = [] if ask.ask == ["ALL"] else ask.ask
+
+    async def run() -> asker.Round:
+        channel = await asker.connected(target, ask.tries, ask.scale)
+        try:
+            return await asker.ask(channel, samples, values, ask.scale)
+        except EOFError as error:
+            return asker.Round([], str(error))
+        finally:
+            channel.close()
+
+    told = asyncio.run(run())
+    sys.stdout.buffer.write(b"".join(told.texts).replace(b"\r", b"\n"))
+    sys.stdout.buffer.flush()
+    if told.why:
+        say(told.why)
+    return WRONG if told.why else GOOD
 
 
 def _add_status(one: argparse.ArgumentParser) -> None:

@@ -36,6 +36,10 @@ _COUNTED = {
 }
 
 
+def _is_over(at: Optional[float], now: float) -> bool:
+    return at is not None and now >= at
+
+
 def _join(part: List[Change], changes: List[Change]) -> None:
     """Puts changes after others. Bytes of one message that follow each other are kept together."""
     if part and changes:
@@ -97,7 +101,7 @@ class Line:
         self._counts, self._tape, self._say, self._turns = counts, tape, say, turns
         self._watch = Watch(say)
         self._loop = asyncio.get_running_loop()
-        self._receiver = Receiver(frame_limit=frame)
+        self._begin(frame)
         self._pieces: Deque[Tuple[float, bytes]] = deque()
         self._size, self._paused_at = 0, None  # type: int, Optional[float]
         self._due: Optional[float] = None
@@ -110,6 +114,48 @@ class Line:
         self._waiter: "Optional[asyncio.Future[None]]" = None
         #: When its last message was kept, by the clock on the wall.
         self.last: Optional[float] = None
+
+    # ---- what is other on a line on which the host sends too
+
+    def _begin(self, frame: int) -> None:
+        """Makes the end that hears the line."""
+        self._receiver = Receiver(frame_limit=frame)
+
+    def _is_busy(self) -> bool:
+        """Whether a session goes on."""
+        return self._receiver.is_open
+
+    def _begin_anew(self) -> None:
+        """Drops what is held: the analyzer is heard again when it asks for the line."""
+        self._receiver.restart()
+
+    def _seconds(self) -> Optional[float]:
+        """How long the timer runs that runs now."""
+        return RECEIVER if self._receiver.is_open else None
+
+    def _end(self) -> None:
+        self._receiver.close()
+
+    async def _timed(self, now: float) -> None:
+        """The timer's time is over."""
+        step = self._receiver.timer()
+        self._watch.step(0, step)
+        await self._step(step, now)
+
+    async def _heard(self, data: bytes, arrived: float) -> None:
+        for place, step in self._receiver.hear_placed(data):
+            self._watch.step(place, step)
+            await self._step(step, arrived)
+            await self._take_turns()
+
+    def _start_at(self) -> Optional[float]:
+        """When a session of the host's own may start, if it has something to send."""
+        return None
+
+    async def _start(self) -> None:
+        """Starts it."""
+
+    # ---- what is the same on each line
 
     def data(self, data: bytes, arrived: float) -> None:
         """Bytes came, at the latest at this time of the loop's clock."""
@@ -166,6 +212,8 @@ class Line:
                     await self._hear(data, arrived)
                 elif self._due is not None and now >= self._due:
                     await self._timer(now)
+                elif _is_over(self._start_at(), now):
+                    await self._start()
                 elif now - self.last_byte >= self._limits.idle:
                     self._counts["idle"] += 1
                     break
@@ -175,7 +223,7 @@ class Line:
         finally:
             self._drop(why)
             self._watch.over()
-            self._receiver.close()
+            self._end()
             self._wire.close()
             if self._tape is not None:
                 self._tape.close()
@@ -187,10 +235,10 @@ class Line:
         if self._paused_at is not None:
             self._paused_at = None
             self._wire.resume()
-        if self._lost or (self._stopping and not self._receiver.is_open):
+        if self._lost or (self._stopping and not self._is_busy()):
             return True
-        due = self.last_byte + self._limits.idle
-        due = due if self._due is None else min(due, self._due)
+        others = [at for at in (self._due, self._start_at()) if at is not None]
+        due = min([self.last_byte + self._limits.idle, *others])
         self._waiter = self._loop.create_future()
         alarm = self._loop.call_at(due, self._wake)
         try:
@@ -203,19 +251,14 @@ class Line:
     async def _timer(self, now: float) -> None:
         if self._tape is not None:
             self._tape.event("T")
-        step = self._receiver.timer()
-        self._watch.step(0, step)
-        await self._step(step, now)
+        await self._timed(now)
 
     async def _hear(self, data: bytes, arrived: float) -> None:
         if self._tape is not None:
             self._tape.bytes(">", data)
         self._watch.hears(data)
         self._over = self._loop.time() + TURN
-        for place, step in self._receiver.hear_placed(data):
-            self._watch.step(place, step)
-            await self._step(step, arrived)
-            await self._take_turns()
+        await self._heard(data, arrived)
 
     async def _take_turns(self) -> None:
         """Lets the others have their turn, if this line has had its own."""
@@ -233,7 +276,11 @@ class Line:
             return
         if step.reply and not self._answer(step.reply, arrived):
             return
-        self._due = self._loop.time() + RECEIVER * self._limits.scale if self._receiver.is_open else None
+        self._set_timer()
+
+    def _set_timer(self) -> None:
+        seconds = self._seconds()
+        self._due = None if seconds is None else self._loop.time() + seconds * self._limits.scale
 
     def _answer(self, reply: bytes, arrived: float) -> bool:
         """Sends a reply, if its sender may still be waiting for it."""
@@ -241,10 +288,13 @@ class Line:
             self._counts["late"] += 1
             self._restart("the reply would have been late")
             return False
-        if self._tape is not None:
-            self._tape.bytes("<", reply)
-        self._wire.write(reply)
+        self._send(reply)
         return True
+
+    def _send(self, data: bytes) -> None:
+        if self._tape is not None:
+            self._tape.bytes("<", data)
+        self._wire.write(data)
 
     async def _keep(self, text: bytes) -> bool:
         """Keeps a text; if it can't be kept there is no reply, and the receiver begins anew."""
@@ -294,8 +344,8 @@ class Line:
                 self._say(f"message {change.key} is {change.state}: {change.reason}")
 
     def _restart(self, reason: str) -> None:
-        self._receiver.restart()
-        self._due = None
+        self._begin_anew()
+        self._set_timer()
         self._counts["restarts"] += 1
         if self._tape is not None:
             self._tape.event("R")

@@ -104,6 +104,10 @@ class Watch:
             if self._empty == EMPTY:
                 self._say(f"{EMPTY} sessions in a row had no byte after their ENQ: are the replies heard?")
 
+    def answered(self) -> None:
+        """A session of the host's own was answered."""
+        self._sessions += 1
+
     def over(self) -> None:
         """The connection is over."""
         self.session_over()

@@ -2,12 +2,17 @@
 import codecs
 import ipaddress
 import re
-from typing import Dict, List, NamedTuple, Sequence, Tuple, Union
+from typing import Any, Callable, Dict, List, NamedTuple, Sequence, Tuple, Union
 
 from ..link import FRAME_TEXT, LONG_FRAME_TEXT
 
 Network = Union[ipaddress.IPv4Network, ipaddress.IPv6Network]
 _MODES = re.compile(r"[5-8][NEO][12]$")
+#: When orders are sent: to an analyzer that asks, or also unasked. How one is told that there is no order: the message
+#: ends with I, its query comes back with X, or nothing.
+ORDERS, NOTHINGS = ("ask", "send"), ("L-I", "Q-X", "silence")
+#: The flow controls of a serial line, and the encoding of a line that names none.
+FLOWS, LATIN = ("none", "rtscts", "xonxoff"), codecs.lookup("latin-1").name
 
 
 class OptionError(Exception):
@@ -15,13 +20,28 @@ class OptionError(Exception):
 
 
 class Listen(NamedTuple):
-    """A TCP port that is listened on."""
+    """A TCP port that is listened on, and the networks that may connect to it alone."""
 
     host: str
     port: int
     name: str
-    frame: int
-    encoding: str
+    frame: int = FRAME_TEXT
+    encoding: str = LATIN
+    orders: str = ""
+    none: str = NOTHINGS[0]
+    allow: Tuple[Network, ...] = ()
+
+
+class Connect(NamedTuple):
+    """A TCP port of an analyzer or a terminal server that listens: the host connects to it."""
+
+    host: str
+    port: int
+    name: str
+    frame: int = FRAME_TEXT
+    encoding: str = LATIN
+    orders: str = ""
+    none: str = NOTHINGS[0]
 
 
 class Serial(NamedTuple):
@@ -29,11 +49,16 @@ class Serial(NamedTuple):
 
     device: str
     speed: int
-    mode: str
-    flow: str
     name: str
-    frame: int
-    encoding: str
+    mode: str = "8N1"
+    flow: str = FLOWS[0]
+    frame: int = FRAME_TEXT
+    encoding: str = LATIN
+    orders: str = ""
+    none: str = NOTHINGS[0]
+
+
+Place = Union[Listen, Connect, Serial]
 
 
 class Limits(NamedTuple):
@@ -59,19 +84,64 @@ def _split(word: str, known: Sequence[str]) -> Tuple[str, Dict[str, str]]:
     return where, given
 
 
-def _frame(given: Dict[str, str]) -> int:
+def _frame(word: str) -> int:
     limits = {str(one): one for one in (FRAME_TEXT, LONG_FRAME_TEXT)}
-    word = given.get("frame", str(FRAME_TEXT))
     if word not in limits:
         raise OptionError(f"a frame has at most {' or '.join(limits)} bytes of text, not {word}")
     return limits[word]
 
 
-def _encoding(given: Dict[str, str]) -> str:
+def _encoding(word: str) -> str:
     try:
-        return codecs.lookup(given.get("encoding", "latin-1")).name
-    except LookupError:
-        raise OptionError(f"there is no encoding {given['encoding']}") from None
+        return codecs.lookup(word).name
+    except (LookupError, ValueError):
+        raise OptionError(f"there is no encoding {word}: name one as latin-1, utf-8 or gbk") from None
+
+
+def _orders(word: str) -> str:
+    if word not in ORDERS:
+        raise OptionError(f"orders are sent {' or '.join(ORDERS)}, not {word}")
+    return word
+
+
+def _none(word: str) -> str:
+    if word not in NOTHINGS:
+        raise OptionError(f"none is {', '.join(NOTHINGS)}, not {word}")
+    return word
+
+
+def _mode(word: str) -> str:
+    if not _MODES.match(word):
+        raise OptionError(f"{word}: a mode is data bits, parity and stop bits, as 8N1 or 7E1")
+    return word
+
+
+def _flow(word: str) -> str:
+    if word not in FLOWS:
+        raise OptionError(f"{word}: flow control is {', '.join(FLOWS[:-1])} or {FLOWS[-1]}")
+    return word
+
+
+def _allow(words: str) -> Tuple[Network, ...]:
+    return tuple(networks_of(words.replace(",", " ").split(), "allow"))
+
+
+#: What reads each setting of a line; those that its words may have, on TCP and on a serial line.
+READS: Dict[str, Callable[[str], Any]] = {
+    "mode": _mode,
+    "flow": _flow,
+    "frame": _frame,
+    "encoding": _encoding,
+    "allow": _allow,
+    "orders": _orders,
+    "none": _none,
+}
+TCP_WORDS = ("frame", "encoding", "orders", "none")
+SERIAL_WORDS = ("mode", "flow", *TCP_WORDS)
+
+
+def _read(given: Dict[str, str]) -> Dict[str, Any]:
+    return {key: READS[key](word) for key, word in given.items()}
 
 
 def split_address(word: str) -> Tuple[str, int]:
@@ -82,40 +152,56 @@ def split_address(word: str) -> Tuple[str, int]:
     return found[1] or found[2] or "127.0.0.1", int(found[3])
 
 
+def split_peer(word: str) -> Tuple[str, int]:
+    """The host and the port of an address that is connected to."""
+    host, port = split_address(word)
+    if not port:
+        raise OptionError(f"{word}: a port from 1 to 65535 is wanted")
+    return host, port
+
+
+def split_device(word: str) -> Tuple[str, int]:
+    """The device and the speed of `DEVICE:SPEED`."""
+    device, _, speed = word.rpartition(":")
+    if not device or not re.match(r"[0-9]+$", speed):
+        raise OptionError(f"{word}: DEVICE:SPEED is wanted, as /dev/ttyUSB0:9600")
+    return device, int(speed)
+
+
 def listen_of(word: str) -> Listen:
-    """`HOST:PORT[,name=..][,frame=240|63993][,encoding=..]`."""
-    where, given = _split(word, ("name", "frame", "encoding"))
+    """`HOST:PORT[,name=..][,frame=240|63993][,encoding=..][,orders=ask|send][,none=..]`."""
+    where, given = _split(word, ("name", *TCP_WORDS))
     host, port = split_address(where)
-    return Listen(host, port, given.get("name", f"{host}:{port}"), _frame(given), _encoding(given))
+    return Listen(host, port, given.pop("name", f"{host}:{port}"), **_read(given))
+
+
+def connect_of(word: str) -> Connect:
+    """`HOST:PORT[,name=..][,frame=240|63993][,encoding=..][,orders=ask|send][,none=..]`."""
+    where, given = _split(word, ("name", *TCP_WORDS))
+    host, port = split_peer(where)
+    return Connect(host, port, given.pop("name", f"{host}:{port}"), **_read(given))
 
 
 def serial_of(word: str) -> Serial:
-    """`DEVICE:SPEED[,name=..][,mode=8N1][,flow=none|rtscts|xonxoff][,frame=..][,encoding=..]`."""
-    where, given = _split(word, ("name", "mode", "flow", "frame", "encoding"))
-    device, _, speed = where.rpartition(":")
-    if not device or not speed.isdigit():
-        raise OptionError(f"{word}: DEVICE:SPEED is wanted, as /dev/ttyUSB0:9600")
-    mode, flow = given.get("mode", "8N1"), given.get("flow", "none")
-    if not _MODES.match(mode):
-        raise OptionError(f"{mode}: a mode is data bits, parity and stop bits, as 8N1 or 7E1")
-    if flow not in ("none", "rtscts", "xonxoff"):
-        raise OptionError(f"{flow}: flow control is none, rtscts or xonxoff")
-    return Serial(device, int(speed), mode, flow, given.get("name", device), _frame(given), _encoding(given))
+    """`DEVICE:SPEED[,name=..][,mode=8N1][,flow=none|rtscts|xonxoff][,frame=..][,encoding=..][,orders=..][,none=..]`."""
+    where, given = _split(word, ("name", *SERIAL_WORDS))
+    device, speed = split_device(where)
+    return Serial(device, speed, given.pop("name", device), **_read(given))
 
 
-def networks_of(words: Sequence[str]) -> List[Network]:
-    """The networks of `--allow`."""
+def networks_of(words: Sequence[str], setting: str = "--allow") -> List[Network]:
+    """The networks of `--allow`, or of another setting."""
     try:
         return [ipaddress.ip_network(word, strict=False) for word in words]
     except ValueError as error:
-        raise OptionError(f"--allow: {error}") from None
+        raise OptionError(f"{setting}: {error}; a network is wanted, as 10.0.5.0/24") from None
 
 
 def check_allowed(listens: Sequence[Listen], networks: Sequence[Network]) -> None:
     """Whoever listens beyond this machine says to whom."""
     for one in listens:
-        if not is_loopback(one.host) and not networks:
-            raise OptionError(f"--listen {one.host}:{one.port}: name the networks that may connect by --allow")
+        if not is_loopback(one.host) and not networks and not one.allow:
+            raise OptionError(f"{one.host}:{one.port} isn't loopback: name the networks that may connect by --allow")
 
 
 def is_loopback(host: str) -> bool:
@@ -126,12 +212,19 @@ def is_loopback(host: str) -> bool:
         return host == "localhost"
 
 
+def plain_address(address: str) -> str:
+    """An address as it is counted: that of IPv4 if it is written as one of IPv6 (`::ffff:192.0.2.7`)."""
+    try:
+        mapped = getattr(ipaddress.ip_address(address.split("%")[0]), "ipv4_mapped", None)
+    except ValueError:
+        return address
+    return address if mapped is None else str(mapped)
+
+
 def is_allowed(address: str, networks: Sequence[Network]) -> bool:
     """Whether an address may connect: this machine's own, or one of the networks."""
     try:
-        one = ipaddress.ip_address(address.split("%")[0])
+        one = ipaddress.ip_address(plain_address(address).split("%")[0])
     except ValueError:
         return False
-    mapped = getattr(one, "ipv4_mapped", None)
-    one = mapped or one
     return one.is_loopback or any(one.version == network.version and one in network for network in networks)

@@ -2,12 +2,13 @@
 
 It needs psycopg 3 or psycopg2 (Debian: python3-psycopg, python3-psycopg2).
 """
+import contextlib
 import importlib
 import time
-from typing import Any, Optional, Sequence
+from typing import Any, Iterator, Optional, Sequence
 
 from .sql import SqlStore
-from .store import StoreError, Unit
+from .store import StoreError
 
 #: The advisory locks: one for the numbers of messages and the tables, one for each host by its name.
 _NUMBERS, _HOSTS = 5401, 5402
@@ -38,7 +39,7 @@ def _driver() -> Any:
 class PostgresStore(SqlStore):
     """A store in a database. A connection that fails is given up, and the next commit makes a new one."""
 
-    blob, held_to_the_end = "BYTEA", False
+    blob, held_to_the_end, skip_locked = "BYTEA", False, " FOR UPDATE SKIP LOCKED"
 
     def __init__(self, address: str) -> None:
         super().__init__()
@@ -47,17 +48,15 @@ class PostgresStore(SqlStore):
 
     def start(self, host: str) -> int:
         self.host = host
-        try:
-            self._connect()
-            self.run("BEGIN")
+        with self.changing():
             self.lock_numbers()
             self.make_tables()
-            left = self.end_open()
-            self._committed()
-            return left
-        except (self._driver.Error, StoreError) as error:
-            self._give_up()
-            raise StoreError(f"PostgreSQL: {_first_line(error)}") from None
+            return self.end_open()
+
+    def join(self) -> None:
+        with self.changing():
+            self.lock_numbers()
+            self.make_tables()
 
     def _connect(self) -> None:
         self._db = self._driver.connect(self.address, **_CONNECTION)
@@ -109,16 +108,20 @@ class PostgresStore(SqlStore):
     def has_tables(self) -> bool:
         """Whether they are there: to ask for an index again would lock its table, and wait for a host that commits
         while that host waits for the numbers, which this one has."""
-        return self.run("SELECT to_regclass('message_not_whole')").fetchone()[0] is not None
+        return self.has("message_not_whole")
+
+    def has(self, name: str) -> bool:
+        return self.read("SELECT to_regclass(?)::text", (name,))[0][0] is not None
 
     def lock_numbers(self) -> None:
         """Numbers are given one host after another, so that they follow the order of the commits."""
         self.run("SELECT pg_advisory_xact_lock(?, 0)", (_NUMBERS,))
 
-    def commit(self, units: Sequence[Unit]) -> None:
+    @contextlib.contextmanager
+    def changing(self) -> Iterator[None]:
         try:
             self.run("BEGIN")
-            self.apply(units)
+            yield
             self._committed()
         except Exception as error:  # whatever it is, nothing of it may stay in the transaction
             self._give_up()

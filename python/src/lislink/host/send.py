@@ -186,6 +186,20 @@ async def session(channel: Channel, texts: Sequence[bytes], scale: float, waits:
                 out = sender.reply(reply)
 
 
+async def connect(target: Target, trouble: Trouble, rng: random.Random, scale: float) -> Channel:
+    """A line to a host; OSError."""
+
+    def made() -> Channel:
+        return Channel(trouble, rng, scale)
+
+    if isinstance(target, Serial):
+        channel = made()
+        channel.begin(open_serial(target))
+        return channel
+    _, found = await asyncio.get_running_loop().create_connection(made, *target)
+    return found
+
+
 class Sent(NamedTuple):
     """How a message went: its outcome, how many sessions it took, and how long in seconds."""
 
@@ -230,15 +244,7 @@ class Analyzer:
         return Sent(False, why, tried, time.monotonic() - begun)
 
     async def _connect(self) -> Channel:
-        def made() -> Channel:
-            return Channel(self._trouble, self._rng, self._scale)
-
-        if isinstance(self._target, Serial):
-            channel = made()
-            channel.begin(open_serial(self._target))
-            return channel
-        _, found = await asyncio.get_running_loop().create_connection(made, *self._target)
-        return found
+        return await connect(self._target, self._trouble, self._rng, self._scale)
 
     async def _give_up(self) -> None:
         """After a session that failed: nothing of it may reach the next one."""

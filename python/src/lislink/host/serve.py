@@ -1,5 +1,6 @@
 """`lislab serve`: a host for many analyzers. Each text is kept before it is acknowledged."""
 import asyncio
+import contextlib
 import functools
 import json
 import os
@@ -10,21 +11,25 @@ import sys
 import time
 from collections import Counter
 from concurrent.futures import ThreadPoolExecutor
-from typing import Any, Dict, List, NamedTuple, Optional, Sequence, Set
+from typing import Any, Callable, Dict, List, NamedTuple, Optional, Sequence, Set, Union
 
 from .commits import Committer
+from .outbox import Outbox, Site
+from .duplex import TwoWayLine
 from .files import write_whole
 from .intake import Intake
 from .line import Line, Ticks, Turns, Wire
 from .notices import Notices
-from .options import Limits, Listen, Network, OptionError, Serial, is_allowed
+from .options import Connect, Limits, Listen, Network, OptionError, Place, Serial, is_allowed, plain_address
 from .said import announce, say
-from .store import Store
+from .store import Store, StoreError
 from .tape import Tape
 from .tty import SerialWire, Unusable, open_serial
 
 #: How often the state is written for `lislab status`, and a serial device that is gone is looked for, in seconds.
 STATUS, REOPEN = 2.0, 1.0
+#: How long the host waits until it connects to an address anew: at first, and at most; and how long for an answer.
+FIRST, MOST, ANSWER = 1.0, 60.0, 10.0
 #: How long the thread that commits waits for its turn while a line is busy: it needs one after each statement.
 SWITCH = 0.0005
 
@@ -39,6 +44,49 @@ class Asked(NamedTuple):
     capture: Optional[str]
     status: Optional[str]
     name: str = ""
+    #: What makes the orders that are sent, if any line sends some.
+    outbox: Optional[Callable[[Callable[[str], None]], Outbox]] = None
+    connects: Sequence[Connect] = ()
+    #: What reads the file of lines again, if there is one: the same with its lines. OptionError if it has faults.
+    again: Optional[Callable[[], "Asked"]] = None
+
+
+class Port:
+    """A port that is listened on, and the line of those who connect from now on."""
+
+    server: asyncio.AbstractServer
+
+    def __init__(self, place: Listen) -> None:
+        self.place, self.is_closed = place, False
+
+    def is_of(self, place: Listen) -> bool:
+        """Whether a line is at this port. One that the system chose is that of its name."""
+        return self.place[:2] == place[:2] and (place.port > 0 or self.place.name == place.name)
+
+    def lets_in(self, host: "Host", peer: str) -> bool:
+        """Whether an address may connect now. One that may not is counted."""
+        place = self.place
+        networks, is_over = [*host.asked.networks, *place.allow], host.stopping or self.is_closed
+        if is_over or not is_allowed(peer, networks) or not host.has_room(place, peer):
+            host.refused += 1
+            return False
+        return True
+
+    def close(self) -> None:
+        """Nobody can connect any more. Who is connected isn't touched."""
+        self.is_closed = True
+        self.server.close()
+
+
+class Call:
+    """An address that the host connects to by itself: no limit and no network is about it."""
+
+    def __init__(self, place: Connect) -> None:
+        self.place = place
+
+    def lets_in(self, host: "Host", _: str) -> bool:
+        """Whether the connection is still asked for."""
+        return host.asks_for(self.place)
 
 
 class Host:
@@ -48,40 +96,54 @@ class Host:
         self.asked, self.limits = asked, asked.limits
         self.notices = Notices(say)
         self.committer = Committer(store, functools.partial(self.notices.say, "store"))
+        self.outbox: Optional[Outbox] = None
         self.turns = Turns()
         self.ticks = Ticks(max(0.02, self.limits.reply * self.limits.scale / 40))
         self.counts: Dict[str, "Counter[str]"] = {}
         self.last: Dict[str, float] = {}
         self.lines: "Dict[Line, asyncio.Task[None]]" = {}
-        self._names: Dict[Line, str] = {}
-        self.refused, self.captures, self.begun = 0, 0, time.time()
+        self._places: Dict[Line, Place] = {}
+        self.refused, self.captures, self.seats, self.begun = 0, 0, 0, time.time()
         self.stopping = False
         #: The serial lines whose devices can't be what is asked for, and whether it was said that the host is ready.
-        self._unusable: Set[str] = set()
+        self._unusable: Set[Serial] = set()
         #: What was said last of a device or a file, so that it is said once.
         self._said: Dict[str, str] = {}
         self._ready: Optional[bool] = None
         self._writer = ThreadPoolExecutor(1, "state")
-        self._servers: List[asyncio.AbstractServer] = []
+        self._ports: List[Port] = []
+        #: What serves each device, and each address that the host connects to.
+        self._devices: "Dict[Any, asyncio.Task[None]]" = {}
+        #: Set for a moment when the file of lines was read again.
+        self._changed = asyncio.Event()
         self._others: "Set[asyncio.Task[None]]" = set()
 
-    def add(self, wire: Wire, place: "Listen | Serial", peer: str) -> Line:
+    def add(self, wire: Wire, place: Place, peer: str) -> Line:
         """A line that is connected, heard from now on."""
         counts = self.counts.setdefault(place.name, Counter())
         counts["connections"] += 1
         intake = Intake(place.name, peer, place.encoding, self.limits.message, time.time)
         notice = functools.partial(self._notice, place.name, peer)
         tape = self._tape(place.name)
-        line = Line(wire, intake, self.committer, self.limits, counts, tape, place.frame, notice, self.turns)
+        given = (wire, intake, self.committer, self.limits, counts, tape, place.frame, notice, self.turns)
+        line = self._line(place, peer, given)
         task = asyncio.ensure_future(line.run())
-        self.lines[line], self._names[line] = task, place.name
+        self.lines[line], self._places[line] = task, place
         task.add_done_callback(lambda done: self._over(line, done))
         return line
 
+    def _line(self, place: Place, peer: str, given: Any) -> Line:
+        if self.outbox is None or not place.orders:
+            return Line(*given)
+        self.seats += 1
+        site = Site(place.name, peer, place.encoding, place.orders == "send", place.none, str(self.seats))
+        return TwoWayLine(self.outbox, site, *given)
+
     def has_room(self, place: Listen, peer: str) -> bool:
         """Whether an address may have another line. If there are too many, of it or of all, the one that is silent for
-        the longest and never had a session gives way."""
-        lines = [line for line in self.lines if line.is_tcp and not line.gives_way]
+        the longest and never had a session gives way. A line that the host connected itself isn't counted."""
+        listens = [line for line, one in self._places.items() if isinstance(one, Listen)]
+        lines = [line for line in listens if not line.gives_way]
         same = [line for line in lines if line.peer == peer]
         if len(same) < self.limits.address:
             if len(lines) < self.limits.lines:
@@ -92,7 +154,8 @@ class Host:
             self.notices.say(place.name, f"{peer}: a connection is refused, there are {len(same)} with a session")
             return False
         one = min(idle, key=lambda line: line.last_byte)
-        self.notices.say(self._names[one], f"{one.peer}: a connection without a session gives way to one of {peer}")
+        text = f"{one.peer}: a connection without a session gives way to one of {peer}"
+        self.notices.say(self._places[one].name, text)
         one.give_way()
         return True
 
@@ -100,7 +163,7 @@ class Host:
         self.notices.say(name, text if peer == name else f"{peer}: {text}")
 
     def _over(self, line: Line, done: "asyncio.Task[None]") -> None:
-        name = self._names.pop(line)
+        name = self._places.pop(line).name
         self._note_last(line, name)
         del self.lines[line]
         if not done.cancelled() and done.exception() is not None:
@@ -120,19 +183,149 @@ class Host:
 
     async def start(self) -> None:
         """Opens the ports and the devices."""
+        await self._start_outbox(self.asked)
         for place in self.asked.listens:
-            server = await asyncio.get_running_loop().create_server(
-                functools.partial(TcpWire, self, place), place.host, place.port, backlog=100, reuse_address=True
-            )
-            self._servers.append(server)
-            for one in server.sockets or ():
-                announce(f"listening {one.getsockname()[0]}:{one.getsockname()[1]} {place.name}")
+            await self._listen(place)
         for serial in self.asked.serials:
-            self._task(self._serve_serial(serial, self._open(serial)))
+            self._devices[serial.device] = self._task(self._serve_serial(serial, self._open(serial)))
+        for connect in self.asked.connects:
+            self._devices[connect[:2]] = self._task(self._serve_connect(connect))
         if self.asked.status is not None:
             self._task(self._write_status(self.asked.status))
         self._ready = False
         self._say_ready()
+
+    async def _start_outbox(self, asked: Asked) -> None:
+        """Starts what sends orders, if a line sends some for the first time."""
+        if self.outbox is None and asked.outbox is not None:
+            outbox = asked.outbox(functools.partial(self.notices.say, "orders"))
+            await outbox.start()
+            self.outbox = outbox
+
+    async def _listen(self, place: Listen) -> None:
+        port = Port(place)
+        port.server = await asyncio.get_running_loop().create_server(
+            functools.partial(TcpWire, self, port), place.host, place.port, backlog=100, reuse_address=True
+        )
+        self._ports.append(port)
+        for one in port.server.sockets or ():
+            announce(f"listening {one.getsockname()[0]}:{one.getsockname()[1]} {place.name}")
+
+    # ---- the file of lines
+
+    def reads_again(self, wanted: asyncio.Event) -> None:
+        """Reads the file of lines again, each time that it is wanted."""
+        self._task(self._read_each_time(wanted))
+
+    async def _read_each_time(self, wanted: asyncio.Event) -> None:
+        while True:
+            await wanted.wait()
+            wanted.clear()
+            await self._read_again()
+
+    async def _read_again(self) -> None:
+        """Reads the file of lines. What changed or is gone is closed between sessions, and all else goes on. A file
+        with a fault changes nothing."""
+        assert self.asked.again is not None
+        try:
+            asked = await asyncio.get_running_loop().run_in_executor(None, self.asked.again)
+            await self._start_outbox(asked)
+        except (OptionError, StoreError, OSError) as error:
+            for row in str(error).splitlines():
+                say(row)
+            say("the file of lines is not taken: all lines stay as they were")
+            return
+        if not self.stopping:
+            await self._take(asked)
+
+    async def _take(self, asked: Asked) -> None:
+        """Takes the lines of a file that was read again."""
+        before, now = ({*one.listens, *one.serials, *one.connects} for one in (self.asked, asked))
+        self.asked = asked
+        self._changed.set()  # whoever waits goes on, even if it is cleared at once
+        self._changed.clear()
+        new = self._change_ports()
+        for line, place in self._places.items():
+            if place not in now:
+                line.stop()
+        for serial in asked.serials:
+            if serial not in before:
+                task = self._task(self._serve_serial(serial, None, self._devices.get(serial.device)))
+                self._devices[serial.device] = task
+        for connect in asked.connects:
+            if connect not in before:
+                task = self._task(self._serve_connect(connect, self._devices.get(connect[:2])))
+                self._devices[connect[:2]] = task
+        for listen in new:
+            try:
+                await self._listen(listen)
+            except (OSError, ValueError) as error:
+                say(f"{listen.name}: {error}")
+        same = len(now & before)
+        say(f"the lines are read again: {len(before) - same} closed, {len(now) - same} opened, {same} as they were")
+
+    def _change_ports(self) -> List[Listen]:
+        """Closes the ports that no line has now, and gives all others their lines. The lines that have no port yet."""
+        new = list(self.asked.listens)
+        for port in list(self._ports):
+            found = next((place for place in self.asked.listens if port.is_of(place)), None)
+            if found is None:
+                port.close()
+                self._ports.remove(port)
+            else:
+                port.place = found
+                new = [place for place in new if not port.is_of(place)]
+        return new
+
+    # ---- lines that the host connects
+
+    def asks_for(self, place: Connect) -> bool:
+        """Whether a line to this address is asked for."""
+        return not self.stopping and place in self.asked.connects
+
+    async def _serve_connect(self, place: Connect, before: "Optional[asyncio.Task[None]]" = None) -> None:
+        """Connects to an address as long as it is asked for, after the line that had it before."""
+        if before is not None:
+            await asyncio.wait([before])
+        pause, scale = FIRST, self.limits.scale
+        while self.asks_for(place):
+            line = await self._connect(place)
+            begun = time.monotonic()
+            if line in self.lines:
+                await asyncio.wait([self.lines[line]])
+            if line is not None and (line.had_session or time.monotonic() >= begun + FIRST * scale):
+                pause = FIRST
+            await self._pause((pause if self.asks_for(place) else FIRST) * scale)
+            pause = min(2 * pause, MOST)
+        self._said.pop(place.name, None)
+
+    async def _connect(self, place: Connect) -> Optional[Line]:
+        """The line to an address, connected; if that can't be had, it is said once."""
+        wire = TcpWire(self, Call(place))
+        loop, seconds, why = asyncio.get_running_loop(), ANSWER * self.limits.scale, ""
+        try:
+            await asyncio.wait_for(loop.create_connection(lambda: wire, place.host, place.port), seconds)
+        except (OSError, ValueError, asyncio.TimeoutError) as error:
+            number = getattr(error, "errno", None) or 0
+            why = os.strerror(number) if number > 0 else str(error) or "no answer"
+        if wire.line is None and why:
+            self._say_once(place.name, f"{place.host}:{place.port}: {why}")
+        elif wire.line is not None:
+            self._said.pop(place.name, None)
+        return wire.line
+
+    async def _pause(self, seconds: float) -> None:
+        """Waits so long, or until the file of lines was read again."""
+        with contextlib.suppress(asyncio.TimeoutError):
+            await asyncio.wait_for(self._changed.wait(), seconds)
+
+    def _say_once(self, name: str, why: str) -> None:
+        """Says why a line can't be had, unless that was said of it last."""
+        if self._said.get(name) != why:
+            self._said[name] = why
+            say(f"{name}: {why}")
+
+    # ---- serial lines, and what goes on beside the lines
 
     def _say_ready(self) -> None:
         """Says once that all lines can be heard. It waits for no device that isn't there."""
@@ -140,10 +333,11 @@ class Host:
             self._ready = True
             announce("ready")
 
-    def _task(self, work: Any) -> None:
+    def _task(self, work: Any) -> "asyncio.Task[None]":
         task: "asyncio.Task[None]" = asyncio.ensure_future(work)
         self._others.add(task)
         task.add_done_callback(self._other_over)
+        return task
 
     def _other_over(self, done: "asyncio.Task[None]") -> None:
         self._others.discard(done)
@@ -157,19 +351,22 @@ class Host:
             wire = SerialWire(open_serial(serial), lambda: self.ticks.before, late)
         except (OSError, OptionError) as error:
             if isinstance(error, Unusable):
-                self._unusable.add(serial.name)
-            if self._said.get(serial.name) != str(error):
-                self._said[serial.name] = str(error)
-                say(f"{serial.name}: {error}")
+                self._unusable.add(serial)
+            self._say_once(serial.name, str(error))
             return None
         self._said.pop(serial.name, None)
-        self._unusable.discard(serial.name)
+        self._unusable.discard(serial)
         self._say_ready()
         return wire
 
-    async def _serve_serial(self, serial: Serial, first: Optional[SerialWire] = None) -> None:
+    async def _serve_serial(
+        self, serial: Serial, first: Optional[SerialWire] = None, before: "Optional[asyncio.Task[None]]" = None
+    ) -> None:
+        """Serves a device as long as it is asked for, after the line that had it before."""
+        if before is not None:
+            await asyncio.wait([before])
         wire = first
-        while not self.stopping:
+        while not self.stopping and serial in self.asked.serials:
             wire = wire or self._open(serial)
             if wire is None:
                 await asyncio.sleep(REOPEN)
@@ -181,12 +378,15 @@ class Host:
             wire = None
             if time.monotonic() < opened + REOPEN:  # a device that opens and is gone at once
                 await asyncio.sleep(REOPEN)
+        self._unusable.discard(serial)
+        self._said.pop(serial.name, None)
+        self._say_ready()
 
     async def stop(self) -> None:
         """Takes no new line, lets the sessions that go on end for a while, and keeps what came."""
         self.stopping = True
-        for server in self._servers:
-            server.close()
+        for port in self._ports:
+            port.close()
         for line in list(self.lines):
             line.stop()
         if self.lines:
@@ -195,6 +395,8 @@ class Host:
             task.cancel()
         await asyncio.gather(*self.lines.values(), *self._others, return_exceptions=True)
         self.ticks.stop()
+        if self.outbox is not None:
+            await self.outbox.stop()
         await self.committer.stop()
         if self.asked.status is not None:
             await self._write_state(self.asked.status)
@@ -202,9 +404,9 @@ class Host:
 
     def state(self) -> Dict[str, Any]:
         """What `lislab status` shows of a host that runs."""
-        for line, name in self._names.items():
-            self._note_last(line, name)
-        open_now = Counter(self._names.values())
+        for line, place in self._places.items():
+            self._note_last(line, place.name)
+        open_now = Counter(place.name for place in self._places.values())
         lines = {
             name: {"connected": open_now[name], "last": self.last.get(name), **counts}
             for name, counts in sorted(self.counts.items())
@@ -249,20 +451,21 @@ class TcpWire(asyncio.BufferedProtocol, Wire):
 
     is_tcp, _buffer = True, bytearray(1 << 16)
 
-    def __init__(self, host: Host, place: Listen) -> None:
-        self._host, self._place = host, place
+    def __init__(self, host: Host, end: Union[Port, Call]) -> None:
+        self._host, self._end = host, end
         self._transport: Optional[asyncio.Transport] = None
-        self._line: Optional[Line] = None
+        self.line: Optional[Line] = None
 
     def connection_made(self, transport: asyncio.BaseTransport) -> None:
-        """An analyzer connects, or somebody who may not."""
+        """An analyzer is connected, or somebody who may not be."""
         assert isinstance(transport, asyncio.Transport)
-        host, peer = self._host, transport.get_extra_info("peername")
-        if peer is None:  # it is gone already
+        host, name = self._host, transport.get_extra_info("peername")
+        if name is None:  # it is gone already
             transport.abort()
             return
-        if host.stopping or not is_allowed(peer[0], host.asked.networks) or not host.has_room(self._place, peer[0]):
-            host.refused += 1
+        peer = plain_address(name[0])
+        # If nobody listens at the port that the host calls, the system may choose that port, and the call reach itself.
+        if name == transport.get_extra_info("sockname") or not self._end.lets_in(host, peer):
             transport.abort()
             return
         one: socket.socket = transport.get_extra_info("socket")
@@ -273,7 +476,7 @@ class TcpWire(asyncio.BufferedProtocol, Wire):
                 one.setsockopt(socket.IPPROTO_TCP, getattr(socket, option), seconds)
         transport.set_write_buffer_limits(high=1024)
         self._transport = transport
-        self._line = host.add(self, self._place, peer[0])
+        self.line = host.add(self, self._end.place, peer)
 
     def get_buffer(self, sizehint: int) -> bytearray:
         """Where bytes are read to."""
@@ -281,8 +484,8 @@ class TcpWire(asyncio.BufferedProtocol, Wire):
 
     def buffer_updated(self, nbytes: int) -> None:
         """Bytes came."""
-        if self._line is not None:
-            self._line.data(bytes(self._buffer[:nbytes]), self._host.ticks.before)
+        if self.line is not None:
+            self.line.data(bytes(self._buffer[:nbytes]), self._host.ticks.before)
 
     def eof_received(self) -> bool:
         """The peer sends no more: the connection is closed."""
@@ -290,8 +493,8 @@ class TcpWire(asyncio.BufferedProtocol, Wire):
 
     def connection_lost(self, exc: Optional[Exception]) -> None:
         """The connection is gone, by whatever end."""
-        if self._line is not None:
-            self._line.lost()
+        if self.line is not None:
+            self.line.lost()
 
     def pause_writing(self) -> None:
         """A peer that doesn't read its replies is no analyzer."""
@@ -316,15 +519,18 @@ class TcpWire(asyncio.BufferedProtocol, Wire):
 
 
 async def serve(asked: Asked, store: Store) -> None:
-    """Serves until SIGTERM or SIGINT comes."""
+    """Serves until SIGTERM or SIGINT comes. At SIGHUP it reads its file of lines again, if it has one."""
     sys.setswitchinterval(SWITCH)
-    stop = asyncio.Event()
+    stop, again = asyncio.Event(), asyncio.Event()
     loop = asyncio.get_running_loop()
     for name in (signal.SIGTERM, signal.SIGINT):
         loop.add_signal_handler(name, stop.set)
+    if asked.again is not None:
+        loop.add_signal_handler(signal.SIGHUP, again.set)
     host = Host(asked, store)
     try:
         await host.start()
+        host.reads_again(again)
         await stop.wait()
     finally:
         await host.stop()

@@ -1,7 +1,7 @@
 """What the stores in databases share: the tables and the statements. A text, or a part of a long one, is one row; a
 message's bytes are those of its texts in order. So nothing is copied when a message becomes whole."""
 import abc
-from typing import Any, Iterator, List, Optional, Sequence, Tuple
+from typing import Any, ContextManager, Iterator, List, Optional, Sequence, Tuple
 
 from .store import (
     LEFT,
@@ -44,8 +44,8 @@ _COLUMNS = "number, key, line, peer, encoding, began, ended, state, reason, agai
 class SqlStore(Store):
     """A store in a database. A subclass has the connection, and what differs in the words of SQL."""
 
-    #: The type of bytes; what a subclass adds to the table of texts.
-    blob, tail = "BLOB", ""
+    #: The type of bytes; what a subclass adds to the table of texts, and to a choice of rows that others may have.
+    blob, tail, skip_locked = "BLOB", "", ""
 
     def __init__(self) -> None:
         self.host = ""
@@ -55,8 +55,24 @@ class SqlStore(Store):
         """Runs a statement with `?` for its values: a cursor."""
 
     @abc.abstractmethod
+    def changing(self) -> ContextManager[None]:
+        """A transaction: all of it is on the disk when it is over; on a StoreError none of it is."""
+
+    @abc.abstractmethod
+    def join(self) -> None:
+        """Opens the store to change it beside the host that has it, if one has."""
+
+    def commit(self, units: Sequence[Unit]) -> None:
+        with self.changing():
+            self.apply(units)
+
+    @abc.abstractmethod
     def lock_numbers(self) -> None:
         """Makes the numbering of whole messages this transaction's own until it ends."""
+
+    @abc.abstractmethod
+    def has(self, name: str) -> bool:
+        """Whether there is a table or an index of this name."""
 
     def has_tables(self) -> bool:
         """Whether the tables are known to be there."""

@@ -1,11 +1,12 @@
 """The store in an SQLite file: one host, on a local disk. A write-ahead log, and a sync at every commit."""
+import contextlib
 import os
 import sqlite3
-from typing import Any, List, Optional, Sequence, Tuple
+from typing import Any, Iterator, List, Optional, Sequence, Tuple
 
 from .files import is_locked, take_lock
 from .sql import SqlStore
-from .store import StoreError, Unit
+from .store import StoreError
 
 #: How long another program's short transaction is waited for, in seconds.
 PATIENCE = 5.0
@@ -25,20 +26,31 @@ class SqliteStore(SqlStore):
     def start(self, host: str) -> int:
         self.host = host
         self._take()
+        self._open()
+        with self.changing():
+            self.make_tables()
+            return self.end_open()
+
+    def join(self) -> None:
+        self._open()
+        with self.changing():
+            self.make_tables()
+
+    def _open(self) -> None:
         try:
             private(self.path)
             self._db = self._connect()
             if self._db.execute("PRAGMA journal_mode=WAL").fetchone()[0] != "wal":
                 raise StoreError(f"{self.path}: SQLite can't keep a write-ahead log here")
-            self._db.execute("PRAGMA synchronous=FULL")
-            self._db.execute("PRAGMA foreign_keys=ON")
-            self._db.execute("BEGIN IMMEDIATE")
-            self.make_tables()
-            left = self.end_open()
-            self._db.execute("COMMIT")
-            return left
+            self._prepare(self._db)
         except (sqlite3.Error, OSError) as error:
             raise StoreError(f"{self.path}: {error}") from None
+
+    @staticmethod
+    def _prepare(db: sqlite3.Connection) -> None:
+        """Makes a connection one that keeps what it commits."""
+        db.execute("PRAGMA synchronous=FULL")
+        db.execute("PRAGMA foreign_keys=ON")
 
     def _take(self) -> None:
         """Takes the host's lock: it goes with the process, however that ends."""
@@ -66,13 +78,17 @@ class SqliteStore(SqlStore):
         except sqlite3.Error as error:
             raise StoreError(f"{self.path}: {error}") from None
 
+    def has(self, name: str) -> bool:
+        return bool(self.read("SELECT count(*) FROM sqlite_master WHERE name = ?", (name,))[0][0])
+
     def lock_numbers(self) -> None:
         """A transaction that writes is alone."""
 
-    def commit(self, units: Sequence[Unit]) -> None:
+    @contextlib.contextmanager
+    def changing(self) -> Iterator[None]:
         try:
             self.run("BEGIN IMMEDIATE")
-            self.apply(units)
+            yield
             self.run("COMMIT")
         except Exception as error:  # whatever it is, nothing of it may stay in the transaction
             self._undo()
@@ -86,8 +102,7 @@ class SqliteStore(SqlStore):
         except sqlite3.Error:  # a connection that can't undo is made anew
             self._db.close()
             self._db = self._connect()
-            self._db.execute("PRAGMA synchronous=FULL")
-            self._db.execute("PRAGMA foreign_keys=ON")
+            self._prepare(self._db)
 
     def is_gone(self, host: str) -> bool:
         """A store in a file has one host, which is this one."""
@@ -109,9 +124,10 @@ class SqliteStore(SqlStore):
 
 
 def private(path: str) -> None:
-    """Makes a file that only its owner can read, or makes it so; its log and index get the same mode from SQLite."""
-    descriptor = os.open(path, os.O_RDWR | os.O_CREAT | os.O_CLOEXEC, 0o600)
-    try:
-        os.fchmod(descriptor, 0o600)
-    finally:
-        os.close(descriptor)
+    """Makes a file that only its owner can read, or makes it so; its log and index get the same mode from SQLite.
+
+    A file that is there is not opened: to close it would give up the locks that this process has on it, and with them
+    the log into which it commits."""
+    with contextlib.suppress(FileExistsError):
+        os.close(os.open(path, os.O_RDWR | os.O_CREAT | os.O_EXCL | os.O_CLOEXEC, 0o600))
+    os.chmod(path, 0o600)

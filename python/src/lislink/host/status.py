@@ -3,8 +3,10 @@ import json
 import time
 from typing import Any, Dict, List, NamedTuple, Optional
 
+from ..orders.book import OrderBook
 from .deliver import read_cursor
 from .export import time_text
+from .sql import SqlStore
 from .store import Store
 
 #: A state that was written longer ago than this, in seconds, is old.
@@ -95,6 +97,7 @@ def rows_of(store: Store, state: Dict[str, Any]) -> List[Dict[str, Any]]:
 def data_of(store: Store, state: Dict[str, Any], cursors: List[str]) -> Dict[str, Any]:
     """All of it as data."""
     waiting = [waiting_of(store, path) for path in cursors]
+    orders = OrderBook(store).counts() if isinstance(store, SqlStore) else {}
     return {
         "running": runs(store, state),
         "state_age": age_of(state),
@@ -105,6 +108,7 @@ def data_of(store: Store, state: Dict[str, Any], cursors: List[str]) -> Dict[str
         "refused_connections": state.get("refused_connections", 0),
         "lines": rows_of(store, state),
         "undelivered": [{**one._asdict(), "oldest": time_text(one.oldest)} for one in waiting],
+        "orders": orders,
     }
 
 
@@ -132,4 +136,6 @@ def text_of(data: Dict[str, Any]) -> str:
     for one in data["undelivered"]:
         oldest = f", the oldest of {one['oldest']}" if one["messages"] else ""
         rows.append(f"{one['cursor']}: {one['messages']} messages not delivered{oldest}")
+    if data["orders"]:
+        rows.append("orders: " + ", ".join(f"{count} {state}" for state, count in data["orders"].items()))
     return "\n".join([head, *rows]) + "\n"

@@ -1,0 +1,285 @@
+"""One file for all lines: what it may say, each fault with its row, and what changes when it is read again."""
+import contextlib
+import json
+import os
+import pty
+import select
+import signal
+import socket
+import termios
+import tty
+import unittest.mock
+
+from lislink import frame_bytes
+from lislink.host import lines, options, serve
+from lislink.link import LONG_FRAME_TEXT
+from tests.host.hosts import ENV, Found, Host, HostTest, acknowledged, lislab, process, sending, wait_for
+from tests.host.test_lines import ACK, ENQ, EOT, NAK, TEXTS, Client, frames
+
+#: What is said after the file was read again, and after one that has a fault.
+TAKEN, LEFT = "the lines are read again: ", "the file of lines is not taken"
+#: Timers that don't run out on a busy machine.
+SLOW = 0.3
+GOOD = """\
+# Lines of a laboratory.
+[chemistry]
+listen = 10.0.5.2:4001
+allow = 10.0.5.0/24, 10.0.6.7
+    10.0.7.0/24
+orders = ask
+
+; a blank row and a comment end no section
+[haematology 2]
+listen = [2001:db8::7]:4001
+allow = 2001:db8::/32
+encoding = gbk
+frame = 63993
+[coagulation]
+serial = /dev/ttyUSB0:9600
+mode = 7E1
+flow = xonxoff
+"""
+SHOWN = """\
+chemistry: listen=10.0.5.2:4001 frame=240 encoding=iso8859-1 allow=10.0.5.0/24,10.0.6.7/32,10.0.7.0/24 orders=ask \
+none=L-I
+haematology 2: listen=[2001:db8::7]:4001 frame=63993 encoding=gbk allow=2001:db8::/32
+coagulation: serial=/dev/ttyUSB0:9600 mode=7E1 flow=xonxoff frame=240 encoding=iso8859-1
+lines 3 faults 0
+"""
+#: Files with faults: the row of each, and what is said of it.
+FAULTS = (
+    ("", [(1, "there is no line: [NAME], and below it listen or connect = HOST:PORT, or serial = DEVICE:SPEED")]),
+    ("\n# no line\n", [(1, "there is no line")]),
+    ("listen = 1\n[a]\nlisten = 2\n", [(1, "a line's name is wanted first, as [chemistry]")]),
+    ("[a]\nlisten = 1\n[b]\nlisten = 2\n[a]\nlisten = 3\n", [(5, "the name a is in row 1 too")]),
+    ("[a]\nlisten = 1\n\nlisten = 2\n", [(4, "listen is there twice")]),
+    ("[a]\nlisten = 1\nx = 2\n", [(3, "no setting x: a line with listen has allow, frame, encoding, orders, none")]),
+    ("[a]\nserial = /dev/x:9600\nallow = 10.0.0.0/8\n", [(3, "a line with serial has mode, flow, frame, encoding,")]),
+    ("[a]\nframe = 240\n", [(1, "a has no place: it is at one listen, connect or serial")]),
+    ("[a]\nlisten = 1\nserial = /dev/x:1\n", [(1, "a has listen and serial: it is at one listen, connect or serial")]),
+    ("[a]\nlisten = x\n", [(2, "x: HOST:PORT is wanted")]),
+    ("[a]\nlisten =\n", [(2, "HOST:PORT is wanted")]),
+    ("[a]\nserial = /dev/x\n", [(2, "DEVICE:SPEED is wanted, as /dev/ttyUSB0:9600")]),
+    ("[a]\nlisten = 1\nframe = 241\n", [(3, "at most 240 or 63993 bytes of text, not 241")]),
+    ("[a]\nlisten = 1\nencoding = latin-77\n", [(3, "no encoding latin-77: name one as latin-1, utf-8 or gbk")]),
+    ("[a]\nlisten = 1\norders = yes\n", [(3, "orders are sent ask or send, not yes")]),
+    ("[a]\nlisten = 1\nnone = x\n", [(3, "none is L-I, Q-X, silence, not x")]),
+    ("[a]\nlisten = 1\nallow = 10.0.0.0/99\n", [(3, "a network is wanted, as 10.0.5.0/24")]),
+    ("[a]\nserial = /dev/x:9600\nmode = 9\n", [(3, "data bits, parity and stop bits, as 8N1 or 7E1")]),
+    ("[a]\nserial = /dev/x:9600\nflow = x\n", [(3, "flow control is none, rtscts or xonxoff")]),
+    ("[a]\nlisten = 1\n  frame = 240\n", [(2, "takes one word, and a row that begins with a blank belongs to it")]),
+    ("[a]\nlisten = 1\nframe\n", [(3, "a row is KEY = VALUE, [NAME], or a comment after #")]),
+    ("[a]\nlisten = 10.0.0.1:4001\n", [(2, "10.0.0.1:4001 isn't loopback: name the networks that may connect")]),
+    ("[a]\nlisten = 1\n[b]\nlisten = 127.0.0.1:1\n", [(4, "the port 127.0.0.1:1 is in row 2 too")]),
+    ("[a]\nserial = /dev/x:1\n[b]\nserial = /dev/x:2\n", [(4, "the device /dev/x is in row 2 too")]),
+    ("[ ]\nlisten = 1\n", [(1, "the name of a line is wanted")]),
+    (
+        "[a]\nlisten = 1\nname\nframe = 0\n[b]\nframe = 1\nlisten = y\n[c]\n",
+        [(3, "a row is"), (6, "240"), (7, "y: HOST:PORT"), (8, "c has no place")],
+    ),
+)
+
+
+def sections(**places):
+    """A file of lines: the rows of each line by its name."""
+    return "".join(f"[{name}]\n{rows}\n" for name, rows in places.items())
+
+
+class LinesFile(HostTest):
+    """Files of lines."""
+
+    def written(self, name, text):
+        """A file of this test."""
+        with open(self.path(name), "wb") as file:
+            file.write(text if isinstance(text, bytes) else text.encode())
+        return self.path(name)
+
+    def begun(self, name, text, *words):
+        """A host whose lines are in a file, and the file."""
+        file = self.written(f"{name}.lines", text)
+        return Host(self.path(f"{name}.db"), "--lines", file, *words, scale=SLOW, listen=False), file
+
+    def reload(self, host, file, text, said=TAKEN):
+        """Has a host read the file again, in which this is now."""
+        before = host.says().count(said)
+        self.written(os.path.basename(file), text)
+        os.kill(host.process.pid, signal.SIGHUP)
+        self.true(f"it says {said}", wait_for(lambda: host.says().count(said) > before), host.says()[-500:])
+
+    def port(self, host, name):
+        """The port of a line, as the host announced it at its start."""
+        return next(int(row.split()[1].rsplit(":", 1)[1]) for row in host.rows if row.endswith(f" {name}\n"))
+
+    def states(self, host):
+        """What a host that was stopped has counted of each line."""
+        with open(host.store + ".status", encoding="utf-8") as file:
+            return json.load(file)["lines"]
+
+    def test_command(self):
+        """`lislab lines` prints each line and its settings, or each fault with its row. It needs no library."""
+        env = {**ENV, "LISLINK_LIBRARY": self.path("none.so")}
+        file, usual = self.path("command.lines"), "frame=240 encoding=iso8859-1\n"
+        fault = f"{file}:4: a frame has at most 240 or 63993 bytes of text, not 1\n"
+        networks = ["--allow", "10.0.0.0/8"]
+        for text, words, status, shown in (
+            (GOOD, [], 0, SHOWN),
+            ("\ufeff[a]\r\nlisten = 4001\r\n", [], 0, f"a: listen=127.0.0.1:4001 {usual}lines 1 faults 0\n"),
+            ("[a]\nlisten = 0.0.0.0:1\n", networks, 0, f"a: listen=0.0.0.0:1 {usual}lines 1 faults 0\n"),
+            (
+                "[a]\nlisten = 1\n[b]\nframe = 1\nlisten = 2\n",
+                [],
+                1,
+                f"a: listen=127.0.0.1:1 {usual}{fault}lines 1 faults 1\n",
+            ),
+        ):
+            self.written("command.lines", text)
+            one = process(["-m", "lislink", "lines", file, *words], stdout=-1, stderr=-1, env=env)
+            said = (*one.communicate(), one.returncode)
+            self.same(f"{text!r}", said, (shown, "", status))
+
+    def test_faults(self):
+        """Each kind of fault, with its row and what is right."""
+        for text, wanted in FAULTS:
+            file = self.written("faults.lines", text)
+            found = lines.read_lines(file, []).faults
+            rows = [one.startswith(f"{file}:{row}: ") and why in one for one, (row, why) in zip(found, wanted)]
+            self.same(f"{text!r}: {found}", rows, [True] * len(wanted))
+            self.same(f"{text!r}: so many faults", len(found), len(wanted))
+        file = self.written("faults.lines", b"[a]\nlisten = 1\n# \xff\n")
+        wanted = [f"{file}:3: a file of lines is written in UTF-8"]
+        self.same("bytes of another encoding", lines.read_lines(file, []).faults, wanted)
+
+    def test_start(self):
+        """A host doesn't start with a fault, with a name that is there twice, or with two files."""
+        good = self.written("good.lines", "[a]\nlisten = 0\n")
+        bad = self.written("bad.lines", "[a]\nlisten = 0\nframe = 1\n")
+        for words, status, why in (
+            (["--lines", bad], 2, f"{bad}:3: a frame has at most 240"),
+            (["--lines", good, "--listen", "0,name=a"], 2, "a is the name of a line that an option names too"),
+            (["--lines", good, "--lines", bad], 2, "one file of lines is read"),
+            (["--lines", self.path("none.lines")], 3, "No such file"),
+            (["--lines", "5"], 2, "name a line by --listen, --connect or --serial, or a file of lines by --lines"),
+        ):
+            done = lislab("serve", "--store", self.path("start.db"), *words, timeout=20)
+            self.true(f"{words}", done.returncode == status and why in done.stderr, done.stderr)
+
+    def test_allow(self):
+        """The networks of a line are those of --allow and its own; other lines have none of them."""
+        for given, wanted in (("10.0.5.0/24", True), ("10.0.6.0/24 10.0.5.7/32", True), ("10.0.6.0/24", False)):
+            transport = unittest.mock.create_autospec(serve.asyncio.Transport, instance=True)
+            transport.get_extra_info.side_effect = {"peername": ("10.0.5.7", 1), "socket": unittest.mock.Mock()}.get
+            host = unittest.mock.Mock(stopping=False, refused=0)
+            host.asked.networks = options.networks_of(["192.0.2.0/24"])
+            text = f"[a]\nlisten = 10.0.5.2:4001\nallow = {given}\n"
+            (place,) = lines.places_of(self.written("allow.lines", text), [])
+            serve.TcpWire(host, serve.Port(place)).connection_made(transport)
+            self.same(f"{given}: 10.0.5.7 is let in", host.add.call_count == 1, wanted)
+
+    def test_reloads(self):
+        """Read again 20 times while five analyzers send: no acknowledged message is lost, no session is cut, and no
+        connection of the line that stays is closed."""
+        stays = "listen = 127.0.0.1:0"
+        host, file = self.begun("load", sections(stays=stays, changes=stays))
+        log = self.path("load.log")
+        words = ["--made", "1000000", "--rate", "8", "--tries", "0", "--log", log]
+        senders = [
+            sending(self.port(host, name), *words, "--analyzers", count, "--name", name, scale=SLOW)
+            for name, count in (("stays", "3"), ("changes", "2"))
+        ]
+
+        def done(name):
+            """How many messages of this line are acknowledged."""
+            return sum(one[0].startswith(name) for one in acknowledged(log))
+
+        self.true("they send", wait_for(lambda: done("stays") and done("changes"), 20))
+        for turn in range(20):
+            before, encoding = done("changes"), ("gbk", "latin-1")[turn % 2]
+            self.reload(host, file, sections(stays=stays, changes=f"{stays}\nencoding = {encoding}"))
+            if turn % 2:
+                self.true(f"the other line goes on, {turn}", wait_for(lambda: done("changes") > before, 20))
+        before = done("stays")
+        self.true("the line that stays goes on", wait_for(lambda: done("stays") > before, 20))
+        self.same("messages of sessions that were cut", Found(host.store).others, [])
+        for one in senders:
+            one.kill()
+            one.wait()
+        self.same("the host's status", host.stop(), 0)
+        self.same("acknowledged messages that are lost", Found(host.store).lost(log), [])
+        states = self.states(host)
+        self.same("connections of the line that stays", states["stays"]["connections"], 3)
+        self.true("those of the other one were closed", states["changes"]["connections"] > 4, repr(states["changes"]))
+
+    def test_changes(self):
+        """A session that goes on ends as it began; then the new settings are in force. Lines come and go."""
+        rows = "listen = 127.0.0.1:0"
+        host, file = self.begun("changes", sections(long=rows, goes=rows, stays=rows), "--listen", "0,name=named")
+        ports = {name: self.port(host, name) for name in ("long", "goes", "stays", "named")}
+        texts = [TEXTS[0], b"C|1|I|" + b"x" * 500 + b"\r", TEXTS[-1]]
+        long = [frame_bytes(place, True, text, frame_limit=LONG_FRAME_TEXT) for place, text in enumerate(texts, 1)]
+        with contextlib.ExitStack() as stack:
+            open_, goes, idle, named = (stack.enter_context(Client(port)) for port in ports.values())
+            self.same("they are heard", [one.asks(ENQ) for one in (open_, named)], [ACK] * 2)
+            taken = stack.enter_context(socket.create_server(("127.0.0.1", 0)))
+            new = sections(
+                long=f"{rows}\nframe = 63993\norders = ask",
+                stays=rows,
+                blocked=f"listen = {taken.getsockname()[1]}",
+                comes=f"listen = {ports['goes']}",
+            )
+            self.reload(host, file, new.replace("63993", "63994"), LEFT)
+            self.has("the fault is said", host.says(), f"lislab: {file}:3: a frame has at most 240 or 63993 bytes")
+            self.same("nothing is closed", [one.asks(ENQ + EOT) for one in (goes, idle)], [ACK] * 2)
+            self.reload(host, file, new)
+            self.has("what it did", host.says(), "2 closed, 3 opened, 2 as they were")
+            self.true("a port that is taken is said", "blocked: " in host.says(), host.says())
+            self.true("a line that is gone is closed", goes.is_closed())
+            self.same("the others go on", [idle.asks(ENQ), named.asks(frames(TEXTS)[0])], [ACK] * 2)
+            self.same("an open session goes on as it was", [open_.asks(one) for one in long[:2]], [ACK, NAK])
+            open_.send(EOT)
+            self.true("and is closed at its end", open_.is_closed())
+            after = stack.enter_context(Client(ports["long"]))
+            self.same("the new setting", [after.asks(one) for one in (ENQ, *long)], [ACK] * 4)
+            after.send(EOT)
+            self.true("a new line", stack.enter_context(Client(ports["goes"])).whole(TEXTS))
+        order = self.written("order.csv", "sample,tests\nS7,GLU\n")
+        self.same("an order", lislab("order", "add", "--store", host.store, order).returncode, 0)
+        asked = lislab("send", "--to", f"127.0.0.1:{ports['long']}", "--scale", str(SLOW), "--ask", "S7")
+        self.has("a line that sends orders now", asked.stdout, "O|1|S7||^^^GLU")
+        self.same("the host's status", host.stop(), 0)
+        self.true("the new line's name", "comes" in [one.line for one in Found(host.store).whole])
+
+    def test_serial(self):
+        """A serial line that changed is closed between sessions, and its device opened again."""
+        master, slave = pty.openpty()
+        self.addCleanup(os.close, master)
+        self.addCleanup(os.close, slave)
+        tty.setraw(slave, termios.TCSANOW)
+        rows = f"serial = {os.ttyname(slave)}:9600"
+        host, file = self.begun("serial", sections(old=rows))
+
+        def asks(data):
+            os.write(master, data)
+            ready, _, _ = select.select([master], [], [], 10)
+            return os.read(master, 1) if ready else b""
+
+        for unit in (ENQ, *frames(TEXTS)[:2]):
+            self.same(f"{unit!r}", asks(unit), ACK)
+        self.reload(host, file, sections(new=rows))
+        for unit in frames(TEXTS)[2:]:
+            self.same(f"the open session goes on: {unit!r}", asks(unit), ACK)
+        os.write(master, EOT)
+
+        def is_new():
+            """Whether the line has its new name."""
+            return all(asks(unit) == ACK for unit in (ENQ, *frames(TEXTS))) and os.write(master, EOT)
+
+        self.true("the device is open again", wait_for(lambda: self.is_open(host, "new")))
+        self.true("a session", is_new())
+        self.true("it is kept", wait_for(lambda: len(Found(host.store).whole) == 2))
+        self.same("the host's status", host.stop(), 0)
+        self.same("the lines of its messages", [one.line for one in Found(host.store).whole], ["old", "new"])
+        self.same("what is said", host.errors[-1], f"lislab: {TAKEN}1 closed, 1 opened, 0 as they were\n")
+
+    def is_open(self, host, name):
+        """Whether a line of a host that runs is connected, as its state says."""
+        return self.states(host).get(name, {}).get("connected") == 1

@@ -1,0 +1,435 @@
+"""Orders: their files, their store, and a host that answers queries and sends worklists. The analyzer of these tests is
+written from the standard, over no code of the repository."""
+import json
+import os
+import random
+import statistics
+import threading
+import time
+
+from lislink.host.store import open_store
+from lislink.orders.book import Wanted, open_book
+from lislink.orders.order import ANSWERED, QUERIED, Order, OrderError, nothing_of, orders_of, texts_of
+from lislink.orders.query import query_of
+from lislink.records import messages
+from tests.host import hosts
+from tests.host.hosts import SCALE, Host, HostTest, lislab, wait_for
+from tests.host.plain import ACK, ENQ, NAK, Gone, Plain, query, samples_of
+
+GOOD = "sample,tests,line,patient,name,birth,sex,priority\nS7,GLU K,fire,P1,Doe^Jane,19700101,F,S\nS8;x,,,,,,,\n"
+#: What a file holds, and the orders and faults that are in it by line.
+FILES = {
+    "CSV": (b"sample,tests\nS1,GLU K\nS2,NA;CL\n", {2: ("S1", ("GLU", "K")), 3: ("S2", ("NA", "CL"))}),
+    "CSV with semicolons": (b"\xef\xbb\xbfTests;Sample\r\nGLU,K;S1\r\n", {2: ("S1", ("GLU", "K"))}),
+    "JSON lines": (b'{"sample": "S1", "tests": ["A B"]}\n', {1: ("S1", ("A B",))}),
+    "records": (b"H|\\^&\nP|1\nO|1|S1||^^^GLU\\^^^K|R\nL|1\n", {3: ("S1", ("GLU", "K"))}),
+    "no test": (b"sample,tests\nS1,\nS2,K\n", {2: None, 3: ("S2", ("K",))}),
+    "no sample": (b"sample,tests\n,K\n", {2: None}),
+    "a priority": (b"sample,tests,priority\nS1,K,Z\n", {2: None}),
+    "a date": (b"sample,tests,birth\nS1,K,1.1.1970\n", {2: None}),
+    "no names": (b"S1,K\nS2,K\n", {1: None}),
+    "too many cells": (b"sample,tests\nS1,K,x\n", {2: None}),
+    "another column": (b'{"sample": "S1", "tests": "K", "colour": "red"}\n', {1: None}),
+    "no JSON": (b'{"sample": \n', {1: None}),
+    "no object": (b'{"sample": "S1", "tests": "K"}\n[1]\n', {1: ("S1", ("K",)), 2: None}),
+    "a control byte": (b'{"sample": "S\\u0005", "tests": "K"}\n', {1: None}),
+    "cut records": (b"H|\\^&\nP|1\nO|1|S1", {3: None}),
+    "nothing": (b"", {}),
+}
+
+
+def tests_of(row):
+    """The samples and tests of a row of `orders_of`; None if it is no order."""
+    return None if isinstance(row, str) else (row.sample, row.tests)
+
+
+class Files(HostTest):
+    """Files of orders, and the records of orders."""
+
+    def test_files(self):
+        """Each form of a file, with what is wrong in it."""
+        for name, (data, wanted) in FILES.items():
+            self.same(name, {line: tests_of(found) for line, found in orders_of(data)}, wanted)
+
+    def test_records(self):
+        """The records of orders, worked by hand."""
+        one = Order("S7", ("GLU", "K|X^"), patient="P1", name="Doe^Jane", birth="19700101", sex="F", priority="S")
+        rows = texts_of([one, Order("S8", ("NA",))], "latin-1", report=QUERIED, end=ANSWERED, clock=0)
+        self.same("header", rows[0].split(b"|")[:5], [b"H", b"\\^&", b"", b"", b"lislab"])
+        self.same("patient", rows[1], b"P|1|P1|||Doe^Jane||19700101|F\r")
+        self.same("order", rows[2], b"O|1|S7||^^^GLU\\^^^K&F&X&S&|S||||||N||||||||||||||Q\r")
+        self.same("others", rows[3:], [b"P|2\r", b"O|1|S8||^^^NA|R||||||N||||||||||||||Q\r", b"L|1|F\r"])
+        for wrong in (Order("S\u0416", ("K",)), Order("S" * 70000, ("K",))):
+            with self.assertRaises(OrderError):
+                texts_of([wrong], "latin-1")
+            self.true("can't be written", True)
+
+    def test_nothing(self):
+        """The answer if there is no order."""
+        self.same("L-I", [row[:5] for row in nothing_of(b"Q|1|^S9", "L-I")], [b"H|\\^&", b"L|1|I"])
+        rows = nothing_of(b"Q|1|^S9||^^^ALL", "Q-X")
+        self.same("Q-X", rows[1:], [b"Q|1|^S9||^^^ALL||||||||X\r", b"L|1|N\r"])
+        self.same("silence", nothing_of(b"Q|1|^S9", "silence"), [])
+
+    def test_queries(self):
+        """What a query asks for."""
+        rows = {
+            b"Q|1|^S7||^^^ALL||||||||O": (["S7"], "", "", False),
+            b"Q|1|S7": (["S7"], "", "", False),
+            b"Q|1|P1^S7\\P2^S8": (["S7", "S8"], "", "", False),
+            b"Q|1|^^S7": (["S7"], "", "", False),
+            b"Q|1|^S1|^S5": ([], "S1", "S5", False),
+            b"Q|1|ALL": ([], "", "", False),
+            b"Q|1|^S7||||||||||A": (["S7"], "", "", True),
+            b"Q|1|^S7||||||||||X": (["S7"], "", "", True),
+        }
+        for text, wanted in rows.items():
+            row = next(messages([b"H|\\^&\r" + text + b"\rL|1\r"]))[1]
+            found = query_of(row, "latin-1")
+            told = (list(found.wanted.samples), found.wanted.first, found.wanted.last, found.cancels)
+            self.same(text.decode(), told, wanted)
+
+
+class Books:
+    """What each store of orders does; a subclass has the store."""
+
+    def new(self):
+        """A new store's address."""
+        raise NotImplementedError
+
+    def test_states(self):
+        """An order waits, is taken by one host, sent, tried in vain, cancelled, and waits again."""
+        where = self.new()
+        one = open_book(where, "one")
+        self.addCleanup(one.close)
+        numbers = [placed.number for placed in one.add([Order(f"S{at}", ("K",)) for at in range(1, 6)])]
+        self.same("numbers", numbers, [1, 2, 3, 4, 5])
+        self.same("none asked", one.take("fire x", "1", "fire", 9, []), [])
+        self.same("asked", one.ask("fire x", "1", "fire", Wanted(["S1", "S3"]), 9), 2)
+        self.same("taken", [placed.number for placed in one.take("fire x", "1", "fire", 9, [])], [1, 3])
+        self.same("taken once", one.take("fire x", "1", "fire", 9, []), [])
+        self.same("not while it is sent", one.cancel(1), False)
+        one.sent([1])
+        self.same("the last try", one.tried([3], "why", 1, 0), [3])
+        self.same("a try", one.tried([2], "why", 2, 60), [])
+        self.same("states", [placed.state for placed in one.listed()], [
+            "sent", "waiting", "failed", "waiting", "waiting"])
+        self.same("cancel", (one.cancel(4), one.cancel(1), one.cancel(99)), (True, False, False))
+        self.same("again", (one.again(1), one.again(5)), (True, False))
+        self.same("range", one.ask("fire x", "1", "fire", Wanted((), "S4", "S5"), 9), 1)
+        self.same("later", [placed.number for placed in one.take("", "1", "fire", 9, [])], [1])
+
+    def test_two_hosts(self):
+        """Each order is taken by one of two hosts."""
+        where = self.new()
+        books = [open_book(where, name) for name in ("one", "two")]
+        books[0].add(Order(f"S{at}", ("K",)) for at in range(40))
+        taken = [[], []]
+
+        def take(place):
+            while True:
+                found = books[place].take("", "1", "fire", 3, [])
+                taken[place] += [placed.number for placed in found]
+                if not found or len(taken[place]) > 40:
+                    return
+
+        work = [threading.Thread(target=take, args=(place,)) for place in (0, 1)]
+        for one in work:
+            one.start()
+        for one in work:
+            one.join()
+        self.same("each once", sorted(taken[0] + taken[1]), list(range(1, 41)))
+        for one in books:
+            one.close()
+
+    def test_given_back(self):
+        """What a host held when it died waits again when it starts."""
+        where = self.new()
+        one = open_book(where, "one")
+        one.add([Order("S1", ("K",))])
+        self.same("taken", len(one.take("", "1", "fire", 9, [])), 1)
+        one.close()
+        one = open_book(where, "one")
+        self.same("taken again", len(one.take("", "1", "fire", 9, [])), 1)
+        one.close()
+
+
+class SqliteBooks(Books, HostTest):
+    """Orders in SQLite."""
+
+    _count = 0
+
+    def test_two_connections_of_one_process(self):
+        """A host that opens its store for the orders too keeps what it commits after others have read the file."""
+        where = self.new()
+        store = open_store(where)
+        store.start("one")
+        self.addCleanup(store.close)
+        book = open_book(where, "one")
+        self.addCleanup(book.close)
+        code = "import sqlite3, sys; print(sqlite3.connect(sys.argv[1]).execute('SELECT count(*) FROM orders').fetchone()[0])"
+
+        def seen():
+            words = [hosts.sys.executable, "-c", code, where]
+            return int(hosts.subprocess.run(words, capture_output=True, text=True, check=True).stdout)
+
+        for count in range(4):
+            self.same(f"{count} orders", seen(), count)
+            book.add([Order("S1", ("K",))])
+
+    def new(self):
+        type(self)._count += 1
+        return self.path(f"{self._count}.db")
+
+
+class Commands(HostTest):
+    """`lislab order`."""
+
+    def test_commands(self):
+        """Orders are added, listed, cancelled and wait again; a file with a fault adds nothing unless some are asked."""
+        store, file = self.path("commands.db"), self.path("orders.csv")
+        with open(file, "w", encoding="utf-8") as out:
+            out.write("sample,tests,line\nS7,GLU K,chemistry\nS8,NA,\n")
+        done = lislab("order", "add", "--store", store, file)
+        self.same("add", done.stdout, "order 1 S7 chemistry GLU,K\norder 2 S8 - NA\norders 2 rejected 0\n")
+        wrong = "sample,tests\nS9,\nS10,K\n"
+        done = lislab("order", "add", "--store", store, input=wrong)
+        self.same("nothing", (done.stdout, done.returncode), ("orders 0 rejected 1\n", 1))
+        self.same("why", done.stderr, "lislab: line 2: it has no test\n")
+        done = lislab("order", "add", "--store", store, "--some", "--line", "x", input=wrong)
+        self.same("some", done.stdout, "order 3 S10 x K\norders 1 rejected 1\n")
+        self.same("cancel", lislab("order", "cancel", "--store", store, "2").stdout, "order 2 cancelled\n")
+        self.same("not twice", lislab("order", "cancel", "--store", store, "2").returncode, 1)
+        told = lislab("order", "list", "--store", store, "--state", "cancelled").stdout
+        self.true("list", told.startswith("order 2 S8 - NA cancelled "), told)
+        self.same("again", lislab("order", "again", "--store", store, "2").stdout, "order 2 waiting\n")
+        told = lislab("order", "list", "--store", store, "--sample", "S7").stdout
+        self.same("sample", told, "order 1 S7 chemistry GLU,K\n")
+        self.same("mode", os.stat(store).st_mode & 0o777, 0o600)
+        self.same("spool", lislab("order", "list", "--store", "spool:" + self.path("spool")).returncode, 3)
+
+
+#: Each timer is so many times as long where a session must not fail: 15 seconds are 1.5, for a machine that is busy.
+SLOW = 0.1
+
+
+def states(store):
+    """The states of the orders of a store, by sample."""
+    book = open_book(store, reading=True)
+    try:
+        return {placed.order.sample: placed.state for placed in book.listed()}
+    finally:
+        book.close()
+
+
+class Answers(HostTest):
+    """A host that answers queries, over a real line."""
+
+    def started(self, *words, orders=("S7", "S8"), line="orders=ask", **how):
+        """A host with orders, and its port."""
+        store = self.path(f"{time.monotonic_ns()}.db")
+        book = open_book(store)
+        book.add(Order(sample, ("GLU", "K")) for sample in orders)
+        book.close()
+        host = Host(store, "--listen", f"127.0.0.1:0,name=asks,{line}", *words, listen=False, scale=SLOW, **how)
+        port = next(int(row.split()[1].rsplit(":", 1)[1]) for row in host.rows if row.endswith(" asks\n"))
+        self.addCleanup(host.kill)
+        return host, port
+
+    def test_query(self):
+        """What waits for a sample is answered, and sent once it is acknowledged; a sample without orders is told so."""
+        host, port = self.started()
+        one = Plain(port, SLOW)
+        one.send(query("S7"))
+        rows = one.take()
+        self.same("records", [row[:1] for row in rows], [b"H", b"P", b"O", b"L"])
+        self.same("order", rows[2].split(b"|")[:5], [b"O", b"1", b"S7", b"", b"^^^GLU\\^^^K"])
+        self.true("sent", wait_for(lambda: states(host.store) == {"S7": "sent", "S8": "waiting"}), states(host.store))
+        one.send(query("S7"))
+        self.true("status", "orders: 1 waiting, 1 sent" in lislab("status", "--store", host.store).stdout)
+        self.same("no order any more", [row[:5] for row in one.take()], [b"H|\\^&", b"L|1|I"])
+        one.send(query("S7", "S8", "S9"))
+        self.same("several", samples_of(one.take()), ["S8"])
+        one.close()
+
+    def test_ways_to_say_nothing(self):
+        """`none=Q-X` gives the query back, `none=silence` nothing."""
+        _, port = self.started(line="orders=ask,none=Q-X")
+        one = Plain(port, SLOW)
+        one.send(query("S9"))
+        self.same("Q-X", one.take()[1][:30], b"Q|1|^S9||^^^ALL||||||||X\r")
+        _, port = self.started(line="orders=ask,none=silence")
+        one = Plain(port, SLOW)
+        one.send(query("S9"))
+        with self.assertRaises(Gone):
+            one.take(20)
+        self.true("silence", True)
+
+    def test_worklists(self):
+        """`orders=send` sends what waits for the line unasked, also what is added later."""
+        host, port = self.started(line="orders=send")
+        one = Plain(port, SLOW)
+        self.same("at once", sorted(samples_of(one.take())), ["S7", "S8"])
+        done = lislab("order", "add", "--store", host.store, "--line", "asks", input="sample,tests\nS1,K\n")
+        self.same("added", done.returncode, 0)
+        self.same("later", samples_of(one.take(300)), ["S1"])
+        self.true("sent", wait_for(lambda: set(states(host.store).values()) == {"sent"}), states(host.store))
+
+    def test_command(self):
+        """`--ask` answers; if it fails, is late, or writes no message, that is said and there is no order."""
+        answer = "H|\\^&\nP|1\nO|1|S7||^^^X\nL|1\n"
+        rows = {
+            "answers": (f"import sys; sys.stdin.read(); print({answer!r}, end='')", [b"H", b"P", b"O", b"L"]),
+            "fails": ("raise SystemExit(3)", [b"H", b"L"]),
+            "no message": ("print('hello')", [b"H", b"L"]),
+        }
+        for name, (code, wanted) in rows.items():
+            file = self.path(f"{name[:2]}.py")
+            with open(file, "w", encoding="utf-8") as out:
+                out.write(code)
+            host, port = self.started("--ask", f"{hosts.sys.executable} {file}")
+            one = Plain(port, SLOW)
+            one.send(query("S7"))
+            self.same(name, [row[:1] for row in one.take(400)], wanted)
+            if name != "answers":
+                self.true(f"{name} is said", "gives no orders" in host.says(), host.says())
+
+    def test_contention(self):
+        """Both ask for the line at once: the analyzer's session comes first, the host's after it."""
+        _, port = self.started(line="orders=send")
+        one = Plain(port, SLOW)
+        self.same("the host asks", one.byte(30), ENQ)
+        one.put(ENQ)  # the reply to the host's
+        time.sleep(1.0 * SLOW)
+        one.send(query("S7"))
+        self.true("the host's session", samples_of(one.take()) in (["S7"], ["S7", "S8"], ["S8", "S7"]))
+
+    def test_a_busy_analyzer(self):
+        """NAK to the host's ENQ: it asks again after the standard's ten seconds, and what the analyzer sends is heard
+        meanwhile."""
+        host, port = self.started(line="orders=send")
+        one = Plain(port, SLOW)
+        self.same("asks", one.byte(30), ENQ)
+        one.put(NAK)
+        began = time.monotonic()
+        one.send([b"H|\\^&\r", b"L|1\r"])
+        self.same("sent in the end", samples_of(one.take()), ["S7", "S8"])
+        self.true("after the wait", time.monotonic() - began > 5 * SLOW)
+        self.true("sent", wait_for(lambda: set(states(host.store).values()) == {"sent"}), states(host.store))
+
+    def test_a_line_that_is_pulled(self):
+        """The line goes in mid-session: the order waits, and is sent on the next line."""
+        host, port = self.started(orders=("S7",), line="orders=send")
+        one = Plain(port, SLOW)
+        self.same("asks", one.byte(30), ENQ)
+        one.put(ACK)
+        while one.byte(15) != b"\n":
+            pass
+        one.close()
+        self.true("it waits", wait_for(lambda: "not sent: S7" in host.says()), host.says())
+        self.same("waiting", states(host.store), {"S7": "waiting"})
+        one = Plain(port, SLOW)
+        self.same("sent", samples_of(one.take(400)), ["S7"])
+
+    def test_last_try(self):
+        """After `--tries` an order has failed, with its reason."""
+        host, port = self.started("--tries", "1", orders=("S7",), line="orders=send")
+        one = Plain(port, SLOW)
+        self.same("asks", one.byte(30), ENQ)
+        one.close()
+        self.true("failed", wait_for(lambda: states(host.store) == {"S7": "failed"}), states(host.store))
+        self.true("said", "order 1 has failed: the line was closed" in host.says(), host.says())
+
+    def test_a_whole_round(self):
+        """`lislab send --ask`: the orders are printed, and results sent for them."""
+        host, port = self.started()
+        file = self.path("values.csv")
+        with open(file, "w", encoding="utf-8") as out:
+            out.write("GLU,5.5,mmol/L\nK,4.1,mmol/L\n")
+        to = ["--to", f"127.0.0.1:{port}", "--scale", str(SLOW)]
+        done = lislab("send", *to, "--ask", "S7", "--results", file)
+        self.same("status", done.returncode, 0)
+        self.true("orders", "O|1|S7||^^^GLU\\^^^K|" in done.stdout, done.stdout)
+        rows = [json.loads(row) for row in lislab("export", "--store", host.store).stdout.splitlines()]
+        self.same("messages", len(rows), 2)
+        self.true("results", "5.5" in json.dumps(rows[1]), rows[1])
+
+
+
+class Fire(HostTest):
+    """Hosts are killed, lines pulled, replies late: no order is sent that the analyzer did not take, and none is lost."""
+
+    def rounds(self, count, kill, late=0.0, noise=0.0, seed=7):
+        """Sends so many orders to an analyzer while the host is killed and the line pulled by chance; the samples that
+        were taken whole."""
+        rng = random.Random(seed)
+        store = self.path(f"{time.monotonic_ns()}.db")
+        book = open_book(store)
+        book.add(Order(f"S{at:05}", ("GLU", "K")) for at in range(count))
+        book.close()
+        host = Host(store, "--listen", "127.0.0.1:0,name=asks,orders=send", "--tries", "0", listen=False)
+        port = next(int(row.split()[1].rsplit(":", 1)[1]) for row in host.rows if row.endswith(" asks\n"))
+        host.words = tuple(word.replace("127.0.0.1:0,", f"127.0.0.1:{port},") for word in host.words)
+        taken, kills, over = [], 0, time.monotonic() + 60 + 4 * kill
+        while len(set(taken)) < count and time.monotonic() < over:
+            try:
+                one = Plain(port, SCALE, rng.random(), late, noise, 0.01 if kill else 0.0)
+                while len(set(taken)) < count:
+                    if kills < kill and rng.random() < 0.7:
+                        kills += 1
+                        threading.Timer(rng.random() * 0.3, host.process.kill).start()
+                    taken += samples_of(one.take(60))
+            except (Gone, OSError):
+                pass
+            if host.process.poll() is not None:
+                host.kill()
+                host.start()
+        self.true("all taken", wait_for(lambda: set(states(store).values()) == {"sent"}, 20), states(store))
+        found = states(store)
+        host.stop()
+        return found, taken, kills
+
+    def judge(self, found, taken, name):
+        """What is sent was taken, and all is sent."""
+        self.same(f"{name}: sent and not taken", sorted(set(found) - set(taken)), [])
+        hosts.say(f"orders, {name}: {len(found)} sent, {len(taken) - len(set(taken))} taken twice")
+
+    def test_kills(self):
+        """The host is killed at random."""
+        wanted = hosts.size("orders")
+        found, taken, kills = self.rounds(20 * wanted, wanted)
+        self.true("kills", kills > 0, kills)
+        self.judge(found, taken, f"{kills} kills")
+
+    def test_late_and_noisy(self):
+        """Replies up to 40 seconds late, and damaged ones: none is sent wrongly."""
+        found, taken, _ = self.rounds(12, 0, late=0.1, noise=0.1)
+        self.judge(found, taken, "late and damaged replies")
+
+    def test_fifty_lines(self):
+        """Fifty analyzers ask at once: the first byte of the answer comes within a second at the median."""
+        store = self.path("fifty.db")
+        book = open_book(store)
+        book.add(Order(f"S{at}", ("K",)) for at in range(50))
+        book.close()
+        host = Host(store, "--listen", "127.0.0.1:0,name=asks,orders=ask", listen=False, scale=1.0)
+        port = next(int(row.split()[1].rsplit(":", 1)[1]) for row in host.rows if row.endswith(" asks\n"))
+        waits, wrong = [], []
+
+        def asks(at):
+            one = Plain(port, 1.0)
+            one.send(query(f"S{at}"))
+            began = time.monotonic()
+            first = one.byte(15)
+            waits.append(time.monotonic() - began)
+            one.left = first + one.left
+            wrong.extend([] if samples_of(one.take()) == [f"S{at}"] else [at])
+
+        work = [threading.Thread(target=asks, args=(at,)) for at in range(50)]
+        for one in work:
+            one.start()
+        for one in work:
+            one.join()
+        self.same("each its own", (len(waits), wrong), (50, []))
+        self.true("median", statistics.median(waits) < 1.0, waits)
+        hosts.say(f"orders, 50 lines: first byte after {statistics.median(waits) * 1000:.0f} ms at the median")
