@@ -225,6 +225,7 @@ impl<const N: usize> ReceiverOf<N> {
     ///
     /// Whatever state the receiver represents, this is what the definition says, and memory may run out as for
     /// `byte`; but for the bytes heard the state is then as before.
+    #[inline(always)]
     pub fn bytes(&mut self, bytes: &[u8]) -> Hearing
         ensures count { (r : ReceiverState) → IsIn N self.old r → result.count ≡ (on_bytes N bytes.now r).count }
         ensures step { (r : ReceiverState) → IsIn N self.old r → result.step.note ≢ Notes.OutOfMemory →
