@@ -1,5 +1,6 @@
 """What the tests of the host share: hosts as processes of their own, analyzers, and what a store has against what was
 acknowledged."""
+import contextlib
 import hashlib
 import json
 import os
@@ -7,6 +8,7 @@ import signal
 import subprocess
 import sys
 import tempfile
+import threading
 import time
 from typing import NamedTuple
 
@@ -118,8 +120,10 @@ class Host:
         if self.listen:
             words += ["--listen", f"127.0.0.1:{self.port},name=fire"]
         self.said = tempfile.TemporaryFile("w+", encoding="utf-8")
-        errors = self.said if self.errors_to is None else self.errors_to
+        errors = subprocess.PIPE if self.errors_to is None else self.errors_to
         self.process = process([*words, *self.words], stdout=subprocess.PIPE, stderr=errors, **self.how)
+        self.hears = threading.Thread(target=self._hear, args=(self.process.stderr, self.said), daemon=True)
+        self.hears.start()
         self.rows = []
         for row in self.process.stdout:
             self.rows.append(row)
@@ -130,6 +134,14 @@ class Host:
         self.process.wait()
         self._close()
         raise RuntimeError(f"the host didn't start: {self.errors[-1]}")
+
+    @staticmethod
+    def _hear(errors, said):
+        """Takes what it says on standard error. A pipe has no size that a limit on its files could cut."""
+        with contextlib.suppress(ValueError):  # closed with the host, whose programs may still have its pipe
+            for row in errors or ():
+                said.write(row)
+                said.flush()
 
     def kill(self):
         """Kills it, as a machine dies that loses its power."""
@@ -149,9 +161,12 @@ class Host:
         return status
 
     def _close(self):
+        self.hears.join(10)
         self.said.seek(0)
         self.errors.append(self.said.read())
         self.process.stdout.close()
+        if self.process.stderr and not self.hears.is_alive():
+            self.process.stderr.close()
         self.said.close()
 
     def says(self):

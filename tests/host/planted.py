@@ -222,6 +222,15 @@ FAULTS = {
         'if self._sending is not None:\n            self._over_in_vain("the line was closed")',
         "if self._sending is not None:\n            self._outbox.sent(self._sending)",
     ),
+    "test_orders.Answers.test_asked_before_the_line_went": Edit(
+        "host/outbox.py", "            self._later(self._left(site))", "            pass"
+    ),
+    "test_orders.Answers.test_a_query_that_is_taken_back": Edit(
+        "host/duplex.py", "            back.append(self._sending)\n            self._sending = None", "            pass"
+    ),
+    "test_orders.OnSerial.test_a_new_host": Edit("host/duplex.py", "if not self.is_tcp:", "if self.is_tcp:"),
+    "test_orders.Unheard.test_long_text": Edit("host/duplex.py", "PIECE = 1024", "PIECE = 1 << 20"),
+    "test_orders.Unheard.test_heard_first": Edit("host/duplex.py", "if self._pieces:", "if self._pieces is None:"),
     "test_orders.Answers.test_last_try": Edit(
         "host/outbox.py", "self._in_vain(batch.placed, why, self._tries)", "self._in_vain(batch.placed, why, 0)"
     ),

@@ -1,12 +1,20 @@
 """Orders: their files, their store, and a host that answers queries and sends worklists. The analyzer of these tests is
 written from the standard, over no code of the repository."""
+import asyncio
 import json
 import os
 import random
+import select
 import statistics
 import threading
 import time
+import unittest.mock
+from collections import Counter
 
+from lislink.host.duplex import TwoWayLine
+from lislink.host.line import Turns
+from lislink.host.options import Limits
+from lislink.host.outbox import Batch, Site
 from lislink.host.store import open_store
 from lislink.orders.book import Wanted, open_book
 from lislink.orders.order import ANSWERED, QUERIED, Order, OrderError, nothing_of, orders_of, texts_of
@@ -15,6 +23,7 @@ from lislink.records import messages
 from tests.host import hosts
 from tests.host.hosts import SCALE, Host, HostTest, lislab, wait_for
 from tests.host.plain import ACK, ENQ, NAK, Gone, Plain, query, samples_of
+from tests.host.test_serial import Cable
 
 GOOD = "sample,tests,line,patient,name,birth,sex,priority\nS7,GLU K,fire,P1,Doe^Jane,19700101,F,S\nS8;x,,,,,,,\n"
 #: What a file holds, and the orders and faults that are in it by line.
@@ -282,6 +291,7 @@ class Answers(HostTest):
             "answers": (f"import sys; sys.stdin.read(); print({answer!r}, end='')", [b"H", b"P", b"O", b"L"]),
             "fails": ("raise SystemExit(3)", [b"H", b"L"]),
             "no message": ("print('hello')", [b"H", b"L"]),
+            "is late": ("import time; time.sleep(120)", [b"H", b"L"]),
         }
         for name, (code, wanted) in rows.items():
             file = self.path(f"{name[:2]}.py")
@@ -293,6 +303,7 @@ class Answers(HostTest):
             self.same(name, [row[:1] for row in one.take(400)], wanted)
             if name != "answers":
                 self.true(f"{name} is said", "gives no orders" in host.says(), host.says())
+        self.true("why", "it took over 5 s" in host.says(), host.says())
 
     def test_contention(self):
         """Both ask for the line at once: the analyzer's session comes first, the host's after it."""
@@ -331,6 +342,31 @@ class Answers(HostTest):
         one = Plain(port, SLOW)
         self.same("sent", samples_of(one.take(400)), ["S7"])
 
+    def test_asked_before_the_line_went(self):
+        """The line goes after a query: its answer comes on the next line from there."""
+        host, port = self.started()
+        one = Plain(port, SLOW)
+        one.send(query("S7"))
+        self.same("asks", one.byte(30), ENQ)
+        one.close()
+        self.true("it waits", wait_for(lambda: "not sent: S7" in host.says()), host.says())
+        one = Plain(port, SLOW)
+        self.same("answered", samples_of(one.take(400)), ["S7"])
+
+    def test_a_query_that_is_taken_back(self):
+        """A query with status A takes the last one back: it isn't answered any more, and its orders wait as before."""
+        host, port = self.started()
+        one = Plain(port, SLOW)
+        one.send(query("S7"))
+        self.same("asks", one.byte(30), ENQ)
+        one.put(NAK)
+        one.send([b"H|\\^&\r", b"Q|1|^S7||||||||||A\r", b"L|1|N\r"])
+        with self.assertRaises(Gone):
+            one.take(25)
+        self.same("it waits", states(host.store), {"S7": "waiting", "S8": "waiting"})
+        one.send(query("S7"))
+        self.same("asked for anew", samples_of(one.take()), ["S7"])
+
     def test_last_try(self):
         """After `--tries` an order has failed, with its reason."""
         host, port = self.started("--tries", "1", orders=("S7",), line="orders=send")
@@ -354,6 +390,83 @@ class Answers(HostTest):
         self.same("messages", len(rows), 2)
         self.true("results", "5.5" in json.dumps(rows[1]), rows[1])
 
+
+class OnSerial(HostTest):
+    """Orders on a serial line."""
+
+    def test_a_new_host(self):
+        """A host that is new on a serial line lets 16 seconds go by before it asks for the line: a reply to the host
+        that was there before has come by then."""
+        cable = Cable()
+        self.addCleanup(cable.close)
+        store = self.path("serial.db")
+        book = open_book(store)
+        book.add([Order("S7", ("K",))])
+        book.close()
+        scale, began = 0.3, time.monotonic()
+        host = Host(store, "--serial", f"{cable.names[0]}:9600,name=wire,orders=send", listen=False, scale=scale)
+        self.addCleanup(host.kill)
+        ready, _, _ = select.select([cable.slaves[1]], [], [], 60)
+        self.same("asks", os.read(cable.slaves[1], 1) if ready else b"", ENQ)
+        self.true("not at once", time.monotonic() - began > 16 * scale)
+
+
+class Unheard(HostTest):
+    """What comes while the store is asked for orders, or a long text is searched for queries."""
+
+    def line(self, outbox, sent):
+        """A line with orders, over a wire that takes what is sent."""
+        wire = unittest.mock.Mock(is_tcp=True, write=sent.append)
+        given = (wire, unittest.mock.Mock(), unittest.mock.Mock(), Limits(), Counter(), None, 240, print, Turns())
+        line = TwoWayLine(outbox, Site("asks", "x", "latin-1", True, "L-I", "1"), *given)
+        line._intake.drop.return_value = line._intake.take.return_value = []
+        return line
+
+    def test_long_text(self):
+        """A text of 1 MiB is searched in pieces of 1 KiB, and the other lines may have their turn after each."""
+        text, done = b"H|\\^&\rL|1|N\r" * 75000, []
+
+        async def runs():
+            line = self.line(unittest.mock.Mock(), [])
+
+            async def turn():
+                done.append("turn")
+
+            line._take_turns = turn
+            line._asking.take = lambda piece: done.append(piece) or []
+            self.same("kept", await line._keep(text), True)
+
+        asyncio.run(runs())
+        self.same("a turn after each", done[1::2], ["turn"] * (len(done) // 2))
+        self.same("all of it", b"".join(done[::2]), text)
+        self.true("at most 1 KiB", max(map(len, done[::2])) <= 1024)
+
+    def test_heard_first(self):
+        """ENQ comes while the store is asked for orders: it is answered, and the host's own session comes later."""
+        sent, batch = [], Batch([b"H|\\^&\r"])
+        outbox = unittest.mock.Mock()
+
+        async def nothing(_):
+            return None
+
+        async def runs():
+            line = self.line(outbox, sent)
+
+            async def take(_):
+                line.data(ENQ, asyncio.get_running_loop().time())
+                outbox.take = nothing
+                return batch
+
+            outbox.take = take
+            task = asyncio.ensure_future(line.run())
+            while not sent:
+                await asyncio.sleep(0.01)
+            line.lost()
+            await task
+
+        asyncio.run(asyncio.wait_for(runs(), 60))
+        self.same("the first reply", sent, [ACK])
+        self.same("given back", [call.args[1] for call in outbox.failed.call_args_list], [batch])
 
 
 class Fire(HostTest):

@@ -62,6 +62,8 @@ class TwoWayLine(Line):
         self._sending: Optional[Batch] = None
         self._has_work, self._free_at, self._busy = True, self._loop.time(), 0
         self._answers: "set[asyncio.Task[None]]" = set()
+        if not self.is_tcp:  # a reply to the host that was here before may still be on its way
+            self._quiet()
         outbox.wakes(self._woken)
 
     def _begin(self, frame: int) -> None:
@@ -83,6 +85,8 @@ class TwoWayLine(Line):
             task.cancel()
         if self._sending is not None:
             self._over_in_vain("the line was closed")
+        for batch in self._ready:
+            self._outbox.failed(self._site, batch, "the line was closed")
         self._station.close()
         self._asking.over()
 
@@ -145,13 +149,27 @@ class TwoWayLine(Line):
 
         queries = [query_of(row, self._site.encoding) for row in rows if row.letter == "Q"]
         if any(one.cancels for one in queries):
-            self._ready.clear()
+            await self._take_back()
             return
         batch = await self._outbox.answer(self._site, queries, b"".join(row.text + b"\r" for row in rows))
         if batch is not None:
             self._ready.append(batch)
         self._has_work = True
         self._wake()
+
+    async def _take_back(self) -> None:
+        """The analyzer takes its query back: no answer is sent that hasn't begun."""
+        for task in self._answers - {asyncio.current_task()}:
+            task.cancel()
+        back = [batch for batch in self._ready if batch.is_answer]
+        self._ready = deque(batch for batch in self._ready if not batch.is_answer)
+        waits = self._station.phase in (Phase.BUSY, Phase.CONTENTION)
+        if self._sending is not None and self._sending.is_answer and waits:
+            self._station.give_up()
+            back.append(self._sending)
+            self._sending = None
+            self._set_timer()
+        await self._outbox.take_back(self._site, back)
 
     # ---- what goes out
 
@@ -170,6 +188,9 @@ class TwoWayLine(Line):
         batch = self._ready.popleft() if self._ready else await self._outbox.take(self._site)
         if batch is None:
             self._has_work = False
+            return
+        if self._pieces:  # what came while the store was asked is heard first
+            self._ready.appendleft(batch)
             return
         try:
             out = self._station.start(batch.texts)

@@ -41,6 +41,11 @@ class Batch(NamedTuple):
     placed: Sequence[Placed] = ()
 
     @property
+    def is_answer(self) -> bool:
+        """Whether an analyzer asked for it."""
+        return not self.placed or self.placed[0].asked
+
+    @property
     def told(self) -> str:
         """It in a few words."""
         return told_of(one.order for one in self.placed) or "the answer to a query"
@@ -156,6 +161,18 @@ class Outbox:
         if found or site.none == "silence":
             return None
         return Batch(self._nothing(site, queries[0]))
+
+    async def take_back(self, site: Site, batches: Sequence[Batch]) -> None:
+        """The analyzer takes its query back: what it asked for waits as if it hadn't, also these batches, which are not
+        sent."""
+        if self._book is None:
+            return
+        numbers = [one.number for batch in batches for one in batch.placed]
+        try:
+            await self._run(self._book.take_back, site.place, numbers)
+        except StoreError as error:
+            self._say(f"{site.line}: a query can't be taken back: {error}")
+        self._in_hand.difference_update(numbers)
 
     @staticmethod
     def _nothing(site: Site, query: Query) -> List[bytes]:

@@ -147,6 +147,16 @@ class OrderBook:
     def _seat(self, seat: str) -> str:
         return f"{self._host}/{seat}"
 
+    def take_back(self, place: str, numbers: Sequence[int] = ()) -> None:
+        """What was asked for at a place is asked for no more, but for what is being sent. Orders with these numbers are
+        in this host's hands and are not sent."""
+        ours = f" OR number IN ({', '.join('?' * len(numbers))})" if numbers else ""
+        with self._store.changing():
+            self._store.run(
+                f"UPDATE orders SET asked = '', seat = '', holder = '' WHERE asked = ? AND (holder = ''{ours})",
+                (place, *numbers),
+            )
+
     def leave(self, seat: str) -> None:
         """A connection is over: what was asked for over it is sent over the next one from there."""
         with self._store.changing():
