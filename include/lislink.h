@@ -645,9 +645,12 @@ lis_status lis_writer_start(lis_writer *s, const lis_delimiters *delimiters);
 /* Begins a record by the letter of its kind: LIS_STATUS_OK, or LIS_STATUS_BAD_LETTER and nothing has changed. A record
  * that was begun and not put is dropped. */
 lis_status lis_writer_record(lis_writer *s, uint8_t letter);
-/* A component of the record's next field that isn't its last, and the last one, which ends the field: LIS_STATUS_OK,
- * LIS_STATUS_NO_RECORD, or LIS_STATUS_OUT_OF_MEMORY, and then the record is dropped: begin it again. */
+/* A component of the record's next field: one that more components of its repeat follow, the last one of a repeat that
+ * another repeat follows, and the last one of all, which ends the field: LIS_STATUS_OK, LIS_STATUS_NO_RECORD, or
+ * LIS_STATUS_OUT_OF_MEMORY, and then the record is dropped: begin it again. Most fields are one call of
+ * lis_writer_field. */
 lis_status lis_writer_component(lis_writer *s, const uint8_t *bytes, size_t bytes_len);
+lis_status lis_writer_repeat(lis_writer *s, const uint8_t *bytes, size_t bytes_len);
 lis_status lis_writer_field(lis_writer *s, const uint8_t *bytes, size_t bytes_len);
 /* Puts the record's text after the others: LIS_STATUS_OK, else nothing has changed: LIS_STATUS_NO_RECORD,
  * LIS_STATUS_UNFINISHED, LIS_STATUS_PUT_NOT_HEADER, LIS_STATUS_PUT_SECOND_HEADER, LIS_STATUS_PUT_NO_PARENT,

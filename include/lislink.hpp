@@ -668,7 +668,8 @@ public:
     }
 };
 
-// Writes records: writer.record('P').field("1").put(). Delimiters in a field are escaped.
+// Writes records: writer.record('P').field("1").put(). Delimiters in a field are escaped. A field of two repeats is
+// repeat("first").field("second"); each may have components before its last one.
 class writer {
     detail::owner<lis_writer, lis_writer_size, lis_writer_align, lis_writer_init, lis_writer_end> own_;
     std::size_t field_ = 0;
@@ -687,6 +688,9 @@ public:
     lis_status try_component(std::string_view bytes) noexcept {
         return lis_writer_component(get(), detail::at(bytes), bytes.size());
     }
+    lis_status try_repeat(std::string_view bytes) noexcept {
+        return lis_writer_repeat(get(), detail::at(bytes), bytes.size());
+    }
     lis_status try_field(std::string_view bytes) noexcept {
         return lis_writer_field(get(), detail::at(bytes), bytes.size());
     }
@@ -697,6 +701,7 @@ public:
     writer &start(const lis_delimiters &delimiters) { return detail::check(try_start(delimiters)), *this; }
     writer &record(char letter) { return detail::check(try_record(letter)), *this; }
     writer &component(std::string_view bytes) { return detail::check(try_component(bytes)), *this; }
+    writer &repeat(std::string_view bytes) { return detail::check(try_repeat(bytes)), *this; }
     writer &field(std::string_view bytes) { return detail::check(try_field(bytes)), *this; }
     writer &put() {
         lis_status status = try_put();

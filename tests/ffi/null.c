@@ -137,11 +137,12 @@ static void of_writer(void) {
     lis_writer_init(writer.at);
     SAME(lis_writer_record(&writer, 'H'), LIS_STATUS_OK);
     SAME(lis_writer_component(&writer, NULL, 0), LIS_STATUS_OK);
+    SAME(lis_writer_repeat(&writer, NULL, 0), LIS_STATUS_OK);
     SAME(lis_writer_field(&writer, NULL, 0), LIS_STATUS_OK);
     SAME(lis_writer_put(&writer, &size), LIS_STATUS_OK);
     SAME(lis_writer_text(&writer, 0, NULL, 0, &size), LIS_STATUS_TOO_SHORT);
     SAME(lis_writer_text(&writer, 0, text, sizeof text, &size), LIS_STATUS_OK);
-    SAME(size, 8);
+    SAME(size, 9);
     lis_writer_end(writer);
     free(writer.at);
 }

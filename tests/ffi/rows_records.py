@@ -16,7 +16,7 @@ PUT_FAULTS = {"NotHeader": Status.PUT_NOT_HEADER, "NoParent": Status.PUT_NO_PARE
 PARENTS = {"H": "", "O": "HP", "R": "HPO"}
 MESSAGE = re.compile(r" message delimiters=\S+ records=(\d+) tree=(\S+) ")
 RECORD_OF_TREE = re.compile(r"[A-Z][^][*A-Z]*")
-NOT_SAID = re.compile("[;~+!]")
+NOT_SAID = re.compile("[~+!]")
 
 
 # Records
@@ -118,9 +118,9 @@ def are_told(told, error, wanted):
 # Writing
 
 def said(record):
-    """The fields of a row's record as a writer is told them; None where it can't be told: a field is one repeat of
-    characters, without hexadecimal escapes and highlighting."""
-    return None if NOT_SAID.search(record) else [repeats[0] for repeats in content(record)[1]]
+    """The fields of a row's record as a writer is told them, each as its repeats; None where it can't be told: a
+    component is characters, without hexadecimal escapes and highlighting."""
+    return None if NOT_SAID.search(record) else content(record)[1]
 
 
 def put(writer, letter, fields):

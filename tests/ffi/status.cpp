@@ -66,6 +66,14 @@ static bool of_records() {
     int count = 0;
     if (!is(writer.try_record('H') == LIS_STATUS_OK && writer.try_put() == LIS_STATUS_OK))
         return false;
+    if (!is(writer.try_record('P') == LIS_STATUS_OK && writer.try_repeat("a") == LIS_STATUS_OK))
+        return false;
+    if (!is(writer.try_put() == LIS_STATUS_UNFINISHED && writer.try_component("b") == LIS_STATUS_OK))
+        return false;
+    if (!is(writer.try_field("\\") == LIS_STATUS_OK && writer.try_put() == LIS_STATUS_OK))
+        return false;
+    if (!is(writer.text(1) == std::optional<std::string>("P|a\\b^&R&\r")))
+        return false;
     if (!is(writer.try_record('P') == LIS_STATUS_OK && writer.try_field("a\x02") == LIS_STATUS_OK))
         return false;
     if (!is(writer.try_put() == LIS_STATUS_FORBIDDEN && writer.field_at_fault() == 2))

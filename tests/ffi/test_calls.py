@@ -205,6 +205,21 @@ class Calls(kit.Test):
             writer.record("H", [])
             self.gives(writer.texts(), [b"H|\\^&\r"])
 
+    def test_repeats(self):
+        """Fields with repeats, and what is no field."""
+        with Writer() as writer:
+            writer.record("H", [])
+            writer.record("P", [b"1"])
+            writer.record("O", [b"1", b"S7", b"", [[b"", b"", b"", b"GLU"], [b"", b"", b"", b"K\\"]], [b"a", [b"b"]]])
+            self.gives(writer.texts()[2], b"O|1|S7||^^^GLU\\^^^K&R&|a\\b\r")
+            for wrong in ("S7", [["S7"]], [b"a", ["b"]], None, 7):
+                with self.assertRaises(TypeError):
+                    writer.record("O", [wrong])
+                self.check(len(writer.texts()) == 3, f"{wrong!r} is no field")
+            with self.assertRaises(ValueError):
+                writer.record("O", [[]])
+            self.check(len(writer.texts()) == 3, "a field has a component")
+
     def test_receiver(self):
         with Receiver() as receiver:
             receiver.reserve(1000)

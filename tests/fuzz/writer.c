@@ -3,10 +3,12 @@
 
 enum { ROOM = LIS_LIMIT_RECORD_BYTES + 1 };
 
-static void part(lis_writer *writer, input *from, bool last) {
-    size_t len = last ? one(from) % 40u : one(from);
+typedef lis_status putting(lis_writer *, const uint8_t *, size_t);
+
+static void part(lis_writer *writer, input *from, putting *put, size_t most) {
+    size_t len = one(from) % most;
     uint8_t *bytes = some(from, &len);
-    lis_status status = last ? lis_writer_field(writer, bytes, len) : lis_writer_component(writer, bytes, len);
+    lis_status status = put(writer, bytes, len);
     CHECK(status == LIS_STATUS_OK || status == LIS_STATUS_NO_RECORD);
     free(bytes);
 }
@@ -36,12 +38,12 @@ static void call(lis_writer *writer, input *from, uint8_t *room) {
         CHECK(status == LIS_STATUS_OK || status == LIS_STATUS_BAD_LETTER);
         break;
     case 3:
-        part(writer, from, false);
+        part(writer, from, op > 200 ? lis_writer_repeat : lis_writer_component, 256);
         break;
     case 4:
     case 5:
     case 6:
-        part(writer, from, true);
+        part(writer, from, lis_writer_field, 40);
         break;
     case 7:
     case 8:

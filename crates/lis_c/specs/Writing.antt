@@ -1,8 +1,8 @@
 -- What C gets of the message that it writes.
-use Rattle.std.specs.Prelude.{◌≡◌, ℕ, ◌⊎◌, Bool, true, false, List, [], ◌∷◌, ◌++◌, Option, None, Some, length}
+use Rattle.std.specs.Prelude.{◌≡◌, ℕ, ◌⊎◌, List, [], ◌∷◌, ◌++◌, Option, None, Some, length}
 use Rattle.lis_record_values.specs.Delimiters.{DelimiterBytes}
 use Rattle.lis_record_values.specs.declared.kinds.Kind.{Kind}
-use Rattle.lis_record_values.specs.Shape.{Components, plain_component}
+use Rattle.lis_record_values.specs.Shape.{Components, Repeats, plain_component}
 use Rattle.lis_record_write.specs.declared.faults.WriteFault.{WriteFault}
 use Rattle.lis_record_write.specs.declared.faults.WriteFault.TheVariants as WriteFaults
 use Rattle.lis_record_write.specs.WriteFaults.{check_fault}
@@ -15,6 +15,8 @@ use Rattle.lis_tree.specs.Level.{Level, outside, closed, misplaced, next_level}
 use Rattle.lis_c.specs.Records.{IsTextCopied}
 use Rattle.lis_c.specs.Status.{ABSENT, AddStatus, BAD_LETTER, FORBIDDEN, NO_RECORD, OK, OUT_OF_MEMORY, PUT_NOT_HEADER}
 use Rattle.lis_c.specs.Status.{PUT_NO_PARENT, PUT_SECOND_HEADER, TOO_LONG, UNFINISHED}
+use Rattle.lis_c.specs.declared.record_builder.Ended.{Ended}
+use Rattle.lis_c.specs.declared.record_builder.Ended.TheVariants as Ends
 use Rattle.lis_c.specs.declared.record_builder.RecordBuilder.{RecordBuilder}
 use Rattle.lis_c.specs.declared.record_builder.PutFault.{PutFault}
 use Rattle.lis_c.specs.declared.record_builder.WriterHandleState.{WriterHandleState}
@@ -31,15 +33,31 @@ reopened level = level
 abbrev pub after_kind : Level → Kind → Level
 after_kind level kind = reopened (next_level level kind)
 
--- the components of a field that isn't ended, one more of these bytes, and the field ended by it
+-- the components of a repeat that isn't ended, and the repeats of a field that isn't
 abbrev pub parts_so_far : Option Components → Components
 parts_so_far None = []
 parts_so_far (Some parts) = parts
 
+abbrev pub repeats_so_far : Option Repeats → Repeats
+repeats_so_far None = []
+repeats_so_far (Some repeats) = repeats
+
+-- the repeats of the field once these bytes are the last component of the next one
+abbrev pub repeats_with : RecordBuilder → List ℕ → Repeats
+repeats_with record_builder bytes =
+    repeats_so_far record_builder.repeats ++ (parts_so_far record_builder.parts ++ plain_component bytes ∷ []) ∷ []
+
+-- one more component of these bytes, one that ends a repeat, and one that ends the field
 abbrev pub with_parts : RecordBuilder → List ℕ → RecordBuilder
 with_parts record_builder bytes = record record_builder {
   parts = Some
       (parts_so_far record_builder.parts ++ plain_component bytes ∷ []);
+}
+
+abbrev pub with_repeat : RecordBuilder → List ℕ → RecordBuilder
+with_repeat record_builder bytes = record record_builder {
+  repeats = Some (repeats_with record_builder bytes);
+  parts = None;
 }
 
 abbrev pub with_field : RecordBuilder → List ℕ → RecordBuilder
@@ -47,15 +65,16 @@ with_field record_builder bytes =
     record {
       entry = record {
         kind = record_builder.entry.kind;
-        fields = record_builder.entry.fields ++ ((parts_so_far record_builder.parts ++ plain_component bytes ∷ []) ∷ [])
-            ∷ [];
+        fields = record_builder.entry.fields ++ repeats_with record_builder bytes ∷ [];
       };
+      repeats = None;
       parts = None;
     }
 
-abbrev pub with_component : RecordBuilder → Bool → List ℕ → RecordBuilder
-with_component record_builder true bytes = with_field record_builder bytes
-with_component record_builder false bytes = with_parts record_builder bytes
+abbrev pub with_component : RecordBuilder → Ended → List ℕ → RecordBuilder
+with_component record_builder Ends.Component bytes = with_parts record_builder bytes
+with_component record_builder Ends.Repeat bytes = with_repeat record_builder bytes
+with_component record_builder Ends.Field bytes = with_field record_builder bytes
 
 -- a record is begun, or the letter is invalid
 abbrev pub BeginStatus : Option Kind → WriterHandleState → ℕ → WriterHandleState → Type 0
@@ -63,14 +82,14 @@ BeginStatus None old status new = (status ≡ BAD_LETTER) × (new ≡ old)
 BeginStatus (Some kind) old status new =
     (status ≡ OK)
     × (new ≡ record old {
-      record_builder = Some (record { entry = record { kind = kind; fields = [] }; parts = None });
+      record_builder = Some (record { entry = record { kind = kind; fields = [] }; repeats = None; parts = None });
     })
 
 -- a component is put to a record: there is none, or it was put, or memory ran out and the record is released
-abbrev pub PartStatus : Option RecordBuilder → Bool → List ℕ → WriterHandleState → ℕ → WriterHandleState → Type 0
-PartStatus None last bytes old status new = (status ≡ NO_RECORD) × (new ≡ old)
-PartStatus (Some record_builder) last bytes old status new =
-    ((status ≡ OK) × (new ≡ record old { record_builder = Some (with_component record_builder last bytes) }))
+abbrev pub PartStatus : Option RecordBuilder → Ended → List ℕ → WriterHandleState → ℕ → WriterHandleState → Type 0
+PartStatus None ended bytes old status new = (status ≡ NO_RECORD) × (new ≡ old)
+PartStatus (Some record_builder) ended bytes old status new =
+    ((status ≡ OK) × (new ≡ record old { record_builder = Some (with_component record_builder ended bytes) }))
     ⊎ ((status ≡ OUT_OF_MEMORY) × (new ≡ record old { record_builder = None }))
 
 -- ---- why a record can't be put, the first of these
@@ -95,15 +114,16 @@ refused_at (Some reason) fault = Some (record { status = misplaced_status reason
 refused_at None fault = unwritable fault
 
 -- it has a field that isn't ended
-abbrev pub refused_with : Option Components → Option PutFault → Option PutFault
-refused_with (Some parts) fault = Some (record { status = UNFINISHED; field = 0 })
-refused_with None fault = fault
+abbrev pub refused_with : Option Repeats → Option Components → Option PutFault → Option PutFault
+refused_with (Some repeats) parts fault = Some (record { status = UNFINISHED; field = 0 })
+refused_with None (Some parts) fault = Some (record { status = UNFINISHED; field = 0 })
+refused_with None None fault = fault
 
 -- there is none
 abbrev pub put_fault : DelimiterBytes → Option Position → Option RecordBuilder → Option PutFault
 put_fault d position None = Some (record { status = NO_RECORD; field = 0 })
 put_fault d position (Some record_builder) =
-    refused_with record_builder.parts (refused_at (misplaced (level_at position) record_builder.entry.kind)
+    refused_with record_builder.repeats record_builder.parts (refused_at (misplaced (level_at position) record_builder.entry.kind)
     (check_fault d record_builder.entry))
 
 -- a record that can be put after so many texts: they are as many as a session has, or it was, or memory ran out

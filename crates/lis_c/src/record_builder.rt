@@ -3,8 +3,8 @@
 ghost use Rattle.std.specs.Prelude.{◌≡◌, ◌≢◌, ◌++◌, ◌∷◌, [], IfOk, None, Option, Some, length};
 ghost use Rattle.lis_c.specs.Status.{OK};
 ghost use Rattle.lis_c.specs.Writing.{IsPut, PartStatus, PutStatus, after_kind, level_at, misplaced_status};
-ghost use Rattle.lis_c.specs.Writing.{parts_so_far};
-ghost use Rattle.lis_c.specs.Writing.{put_fault, with_parts, with_field, write_fault};
+ghost use Rattle.lis_c.specs.Writing.{parts_so_far, put_fault, repeats_so_far, with_component, with_field};
+ghost use Rattle.lis_c.specs.Writing.{with_parts, with_repeat, write_fault};
 ghost use Rattle.lis_record_values.specs.Delimiters.{usual};
 ghost use Rattle.lis_record_values.specs.Shape.{plain_component};
 ghost use Rattle.lis_tree.specs.Level.{misplaced};
@@ -18,10 +18,19 @@ use lis_tree::{Position, Reason};
 use std::alloc::{AllocError, Global};
 use std::mem::{self, drop};
 
-/// A record that isn't put yet, and the components of a field that isn't ended.
+/// What a component ends.
+#[derive(Clone, Copy)]
+pub enum Ended {
+    Component,
+    Repeat,
+    Field,
+}
+
+/// A record that isn't put yet; of a field that isn't ended, the repeats that are, and the components of the next one.
 #[derive(Drop)]
 pub struct RecordBuilder {
     pub entry: Record,
+    pub repeats: Option<Field>,
     pub parts: Option<Repeat>,
 }
 
@@ -75,42 +84,115 @@ fn with_part(alloc: Global, parts: Option<Repeat>, bytes: &[u8]) -> Result<Repea
     }
 }
 
+/// The repeats with one more, whose last component has these bytes.
+fn with_repeat(
+    alloc: Global,
+    repeats: Option<Field>,
+    parts: Option<Repeat>,
+    bytes: &[u8],
+) -> Result<Field, AllocError>
+    ensures { IfOk result (λ field.
+        field ≡ repeats_so_far repeats ++ (parts_so_far parts ++ plain_component bytes.now ∷ []) ∷ []) }
+{
+    let Ok(repeat) = with_part(alloc, parts, bytes) else {
+        drop(repeats);
+        return Err(AllocError);
+    };
+    match repeats {
+        None => match Field::new(alloc, repeat) {
+            Ok(field) => Ok(field),
+            Err(_) => Err(AllocError),
+        },
+        Some(field) => {
+            let mut field = field;
+            match field.push(repeat) {
+                Ok(()) => Ok(field),
+                Err(_) => {
+                    drop(field);
+                    Err(AllocError)
+                }
+            }
+        }
+    }
+}
+
 impl RecordBuilder {
-    /// The record builder with one more component of the field that isn't ended.
+    /// The record builder with one more component of the repeat that isn't ended.
     fn with_part(self, alloc: Global, bytes: &[u8]) -> Result<RecordBuilder, AllocError>
         ensures { IfOk result (λ record_builder. record_builder ≡ with_parts self bytes.now) }
     {
-        let RecordBuilder { entry, parts } = self;
+        let RecordBuilder {
+            entry,
+            repeats,
+            parts,
+        } = self;
         let Ok(parts) = with_part(alloc, parts, bytes) else {
+            drop(repeats);
             drop(entry);
             return Err(AllocError);
         };
         Ok(RecordBuilder {
             entry,
+            repeats,
             parts: Some(parts),
         })
     }
 
-    /// The record builder with the field ended by its last component.
-    fn with_field(self, alloc: Global, bytes: &[u8]) -> Result<RecordBuilder, AllocError>
-        ensures { IfOk result (λ record_builder. record_builder ≡ with_field self bytes.now) }
+    /// The record builder with a repeat of the field ended by its last component.
+    fn with_repeat(self, alloc: Global, bytes: &[u8]) -> Result<RecordBuilder, AllocError>
+        ensures { IfOk result (λ record_builder. record_builder ≡ with_repeat self bytes.now) }
     {
-        let RecordBuilder { entry, parts } = self;
-        let mut entry = entry;
-        let Ok(parts) = with_part(alloc, parts, bytes) else {
+        let RecordBuilder {
+            entry,
+            repeats,
+            parts,
+        } = self;
+        let Ok(repeats) = with_repeat(alloc, repeats, parts, bytes) else {
             drop(entry);
             return Err(AllocError);
         };
-        let Ok(field) = Field::new(alloc, parts) else {
+        Ok(RecordBuilder {
+            entry,
+            repeats: Some(repeats),
+            parts: None,
+        })
+    }
+
+    /// The record builder with the field ended by the last component of its last repeat.
+    fn with_field(self, alloc: Global, bytes: &[u8]) -> Result<RecordBuilder, AllocError>
+        ensures { IfOk result (λ record_builder. record_builder ≡ with_field self bytes.now) }
+    {
+        let RecordBuilder {
+            entry,
+            repeats,
+            parts,
+        } = self;
+        let mut entry = entry;
+        let Ok(field) = with_repeat(alloc, repeats, parts, bytes) else {
             drop(entry);
             return Err(AllocError);
         };
         match entry.push(field) {
-            Ok(()) => Ok(RecordBuilder { entry, parts: None }),
+            Ok(()) => Ok(RecordBuilder {
+                entry,
+                repeats: None,
+                parts: None,
+            }),
             Err(_) => {
                 drop(entry);
                 Err(AllocError)
             }
+        }
+    }
+
+    /// The record builder with one more component, and what it ends.
+    fn with(self, alloc: Global, ended: Ended, bytes: &[u8]) -> Result<RecordBuilder, AllocError>
+        ensures { IfOk result (λ record_builder. record_builder ≡ with_component self ended bytes.now) }
+    {
+        match ended {
+            Ended::Component => self.with_part(alloc, bytes),
+            Ended::Repeat => self.with_repeat(alloc, bytes),
+            Ended::Field => self.with_field(alloc, bytes),
         }
     }
 }
@@ -215,29 +297,29 @@ impl WriterHandleState {
     /// Begins a record of this kind; one that isn't put is released.
     pub(crate) fn begin(&mut self, kind: Kind)
         ensures { self.new ≡ record self.old {
-          record_builder = Some (record { entry = record { kind = kind; fields = [] }; parts = None });
+          record_builder = Some (record {
+            entry = record { kind = kind; fields = [] };
+            repeats = None;
+            parts = None;
+          });
         } }
     {
         let record_builder = RecordBuilder {
             entry: Record::new(self.alloc, kind),
+            repeats: None,
             parts: None,
         };
         drop(mem::replace(&mut self.record_builder, Some(record_builder)));
     }
 
-    /// Puts a component to the field, which it ends where it is the last. If memory runs out the record is released.
-    pub(crate) fn add(&mut self, bytes: &[u8], last: bool) -> u8
-        ensures { PartStatus self.old.record_builder last bytes.now self.old result self.new }
+    /// Puts a component to the field, and ends what it is the last of. If memory runs out the record is released.
+    pub(crate) fn add(&mut self, bytes: &[u8], ended: Ended) -> u8
+        ensures { PartStatus self.old.record_builder ended bytes.now self.old result self.new }
     {
         let Some(record_builder) = mem::replace(&mut self.record_builder, None) else {
             return status::NO_RECORD;
         };
-        let made = if last {
-            record_builder.with_field(self.alloc, bytes)
-        } else {
-            record_builder.with_part(self.alloc, bytes)
-        };
-        match made {
+        match record_builder.with(self.alloc, ended, bytes) {
             Ok(record_builder) => {
                 drop(mem::replace(&mut self.record_builder, Some(record_builder)));
                 status::OK
@@ -253,7 +335,7 @@ impl WriterHandleState {
         let Some(record_builder) = &self.record_builder else {
             return plain_fault(status::NO_RECORD);
         };
-        if record_builder.parts.is_some() {
+        if record_builder.repeats.is_some() || record_builder.parts.is_some() {
             return plain_fault(status::UNFINISHED);
         }
         if let Some(reason) = place_fault(self.position, record_builder.entry.kind()) {

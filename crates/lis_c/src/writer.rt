@@ -1,6 +1,7 @@
 //! The writer of a message for programs in C: records by their fields, as link texts (LIS02-A2).
 
-ghost use Rattle.std.specs.Prelude.{◌≡◌, ◌≢◌, [], None, Some, Option, false, length, slice_get, true};
+ghost use Rattle.std.specs.Prelude.{◌≡◌, ◌≢◌, [], None, Some, Option, length, slice_get};
+ghost use Rattle.lis_c.specs.declared.record_builder.Ended.TheVariants as Ends;
 ghost use Rattle.lis_c.specs.declared.record_builder.WriterHandleState.{WriterHandleState};
 ghost use Rattle.lis_c.specs.New.{IsNewWriter, type_align};
 ghost use Rattle.lis_c.specs.Records.{delimiters_in};
@@ -15,7 +16,7 @@ ghost use Rattle.std.specs.Mem.{type_size};
 ghost use Rattle.std.specs.Ptr.{room_at};
 
 use crate::out::copy_text;
-use crate::record_builder::{WriterHandleState, release_writer};
+use crate::record_builder::{Ended, WriterHandleState, release_writer};
 use crate::records::{LisDelimiters, known};
 use crate::status;
 use lis_record_values::Kind;
@@ -116,22 +117,31 @@ pub extern "C" fn lis_writer_record(s: &mut LisWriter, letter: u8) -> u8
     }
 }
 
-/// Puts a component to the record's field that isn't ended, one that isn't its last: `OK`, `NO_RECORD` where none is
-/// begun, or `OUT_OF_MEMORY`, and then the record is released.
+/// Puts a component to the record's field that isn't ended, one that isn't the last of its repeat: `OK`, `NO_RECORD`
+/// where none is begun, or `OUT_OF_MEMORY`, and then the record is released.
 #[unsafe(no_mangle)]
 pub extern "C" fn lis_writer_component(s: &mut LisWriter, bytes: &[u8]) -> u8
-    ensures { PartStatus s.old.state.record_builder false bytes.now s.old.state result s.new.state }
+    ensures { PartStatus s.old.state.record_builder Ends.Component bytes.now s.old.state result s.new.state }
 {
-    s.borrow().add(bytes, false)
+    s.borrow().add(bytes, Ended::Component)
+}
+
+/// Puts the last component of a repeat of the record's field, one that isn't the field's last, and ends it; as
+/// `lis_writer_component`.
+#[unsafe(no_mangle)]
+pub extern "C" fn lis_writer_repeat(s: &mut LisWriter, bytes: &[u8]) -> u8
+    ensures { PartStatus s.old.state.record_builder Ends.Repeat bytes.now s.old.state result s.new.state }
+{
+    s.borrow().add(bytes, Ended::Repeat)
 }
 
 /// Puts the last component of the record's field, for most fields the only one, and ends it; as
 /// `lis_writer_component`. Bytes that are delimiters are escaped.
 #[unsafe(no_mangle)]
 pub extern "C" fn lis_writer_field(s: &mut LisWriter, bytes: &[u8]) -> u8
-    ensures { PartStatus s.old.state.record_builder true bytes.now s.old.state result s.new.state }
+    ensures { PartStatus s.old.state.record_builder Ends.Field bytes.now s.old.state result s.new.state }
 {
-    s.borrow().add(bytes, true)
+    s.borrow().add(bytes, Ended::Field)
 }
 
 /// Puts the record's text, with its CR, after the others: `OK`; else the first of `NO_RECORD`; `UNFINISHED`, where a

@@ -101,6 +101,7 @@ _CALLS: Dict[str, Any] = {
     "writer_start": (_BYTE, _POINTER, _POINTER),
     "writer_record": (_BYTE, _POINTER, _BYTE),
     "writer_component": (_BYTE, _POINTER, _POINTER, _SIZE),
+    "writer_repeat": (_BYTE, _POINTER, _POINTER, _SIZE),
     "writer_field": (_BYTE, _POINTER, _POINTER, _SIZE),
     "writer_put": (_BYTE, _POINTER, _POINTER),
     "writer_texts": (_SIZE, _POINTER),

@@ -218,8 +218,13 @@ class Reader(Owner):
             raise MessageError(out.number, out.reason, out.detail, out.place)
 
 
+#: A field: bytes, its components, or its repeats, each of which is bytes or its components.
+Field = Union[bytes, Sequence[Union[bytes, Sequence[bytes]]]]
+
+
 class Writer(Owner):
-    """Writes records by their fields, each bytes or a list of components, as link texts."""
+    """Writes records by their fields as link texts. A field is bytes, a list of components, or a list of repeats: of
+    these at least one is a list of components itself."""
 
     _kind = "writer"
 
@@ -230,21 +235,25 @@ class Writer(Owner):
             raise ValueError("a message has four delimiters")
         self._check(self._call("start", ctypes.byref(_library.Delimiters(*given))))
 
-    def record(self, letter: str, fields: Iterable[Union[bytes, Sequence[bytes]]]) -> None:
+    def record(self, letter: str, fields: Iterable[Field]) -> None:
         """Puts a record behind the others; LinkError with the status, and the number of a field at fault as place."""
         if not isinstance(letter, str) or len(letter) != 1 or ord(letter) > 255:
             raise TypeError("a record's letter is one character")
         self._check(self._call("record", ord(letter)))
         for field in fields:
-            parts = [field] if isinstance(field, (bytes, bytearray, memoryview)) else field
-            if isinstance(parts, str) or not isinstance(parts, (list, tuple)):
-                raise TypeError(f"a field is bytes or a list of them, not {type(field).__name__}")
-            *others, last = [as_bytes(part) for part in parts]
-            for part in others:
-                self._check(self._call("component", address(part), len(part)))
-            self._check(self._call("field", address(last), len(last)))
+            *others, last = _repeats_of(field)
+            for repeat in others:
+                self._put(repeat, "repeat")
+            self._put(last, "field")
         place = ctypes.c_size_t()
         self._check(self._call("put", ctypes.byref(place)), place)
+
+    def _put(self, repeat: Sequence[bytes], ends: str) -> None:
+        """Puts the components of a repeat, whose last one ends this."""
+        *others, last = [as_bytes(part) for part in repeat]
+        for part in others:
+            self._check(self._call("component", address(part), len(part)))
+        self._check(self._call(ends, address(last), len(last)))
 
     def texts(self) -> List[bytes]:
         """The text of each record, with its CR."""
@@ -258,6 +267,16 @@ class Writer(Owner):
     def _check(status: int, place: Optional[ctypes.c_size_t] = None) -> None:
         if status:
             raise LinkError(Status(status), place=place.value or None if place is not None else None)
+
+
+def _repeats_of(field: Any) -> List[Sequence[bytes]]:
+    """The repeats of a field, each as its components; TypeError if it is none, ValueError if it has no component."""
+    parts = [field] if isinstance(field, (bytes, bytearray, memoryview)) else field
+    if not isinstance(parts, (list, tuple)):
+        raise TypeError(f"a field is bytes or a list of them, not {type(field).__name__}")
+    if not any(isinstance(part, (list, tuple)) for part in parts):
+        return [parts]
+    return [part if isinstance(part, (list, tuple)) else [part] for part in parts]
 
 
 def messages(pieces: Iterable[bytes]) -> Iterator[List[Row]]:

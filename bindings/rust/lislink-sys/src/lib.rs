@@ -538,6 +538,7 @@ extern "C" {
         bytes: *const u8,
         bytes_len: usize,
     ) -> lis_status;
+    pub fn lis_writer_repeat(s: *mut lis_writer, bytes: *const u8, bytes_len: usize) -> lis_status;
     pub fn lis_writer_field(s: *mut lis_writer, bytes: *const u8, bytes_len: usize) -> lis_status;
     pub fn lis_writer_put(s: *mut lis_writer, field: *mut usize) -> lis_status;
     pub fn lis_writer_texts(s: *mut lis_writer) -> usize;

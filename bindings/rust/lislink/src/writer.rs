@@ -59,10 +59,17 @@ impl Writer {
         Ok(self)
     }
 
-    /// A component of the next field that isn't its last.
+    /// A component of the next field that isn't the last of its repeat.
     pub fn component(&mut self, bytes: &[u8]) -> Result<&mut Self, Error> {
         let status =
             unsafe { sys::lis_writer_component(self.0.get(), bytes.as_ptr(), bytes.len()) };
+        Error::of(status, 0, 0)?;
+        Ok(self)
+    }
+
+    /// The last component of a repeat of the next field, which another repeat follows.
+    pub fn repeat(&mut self, bytes: &[u8]) -> Result<&mut Self, Error> {
+        let status = unsafe { sys::lis_writer_repeat(self.0.get(), bytes.as_ptr(), bytes.len()) };
         Error::of(status, 0, 0)?;
         Ok(self)
     }

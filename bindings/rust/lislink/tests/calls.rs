@@ -1,7 +1,7 @@
 //! What the scripted session doesn't show: threads, texts that stay, panics, contention.
 use lislink::{
     long_frame, Connection, FrameLimit, Heard, Note, Outcome, Phase, Reader, Ready, Receiver, Role,
-    Sender, Station, Status, Text,
+    Sender, Station, Status, Text, Writer,
 };
 use std::panic::{catch_unwind, AssertUnwindSafe};
 use std::thread;
@@ -12,10 +12,20 @@ const HEADER: &[u8] = b"\x021H|\\^&\r\x03E5\r\n";
 fn is_send<T: Send>() {}
 
 #[test]
+fn a_field_may_have_repeats() {
+    let mut writer = Writer::new();
+    writer.record(b'H').unwrap().put().unwrap();
+    writer.record(b'P').unwrap().component(b"").unwrap().repeat(b"GLU").unwrap();
+    assert_eq!(writer.put().err().unwrap().status, Status::Unfinished);
+    writer.field(b"K\\").unwrap().put().unwrap();
+    assert_eq!(writer.text(1).unwrap(), b"P|^GLU\\K&R&\r");
+}
+
+#[test]
 fn each_may_move_to_another_thread() {
     is_send::<Sender<'_>>();
     is_send::<lislink::Reader>();
-    is_send::<lislink::Writer>();
+    is_send::<Writer>();
     is_send::<lislink::Scanner>();
     is_send::<Station>();
     let mut receiver = Receiver::new();

@@ -8,7 +8,7 @@ from typing import Any, Dict, Iterable, Iterator, List, NamedTuple, Optional, Se
 
 from ..link import LinkError
 from ..message import Fault, read_all
-from ..records import Writer, messages
+from ..records import Field, Writer, messages
 
 #: The names of an order's columns in a file, and those that must be there.
 COLUMNS = ("sample", "tests", "line", "priority", "patient", "name", "birth", "sex", "collected")
@@ -205,44 +205,27 @@ def _written(
             writer.record("O", _fields(order, placed, encoding, report))
         writer.record("L", [b"1", end.encode()])
         texts: List[bytes] = writer.texts()
-    left = iter(orders)
-    return [_with_repeats(text, next(left).tests, encoding) if text.startswith(b"O") else text for text in texts]
+    return texts
 
 
-def _patient(order: Order, number: int, encoding: str) -> List[Union[bytes, List[bytes]]]:
+def _patient(order: Order, number: int, encoding: str) -> List[Field]:
     name = [one.encode(encoding) for one in order.name.split("^")]
     known = [order.patient, order.birth, order.sex]
     patient, birth, sex = (one.encode(encoding) for one in known)
-    fields: List[Union[bytes, List[bytes]]] = [b"%d" % number, patient, b"", b"", name, b"", birth, sex]
-    return _trimmed(fields)
+    return _trimmed([b"%d" % number, patient, b"", b"", name, b"", birth, sex])
 
 
-def _fields(order: Order, number: int, encoding: str, report: bytes) -> List[Union[bytes, List[bytes]]]:
-    """Those of the order's record with its first test; the others are put in as repeats."""
-    test = [b"", b"", b"", order.tests[0].encode(encoding)]
-    front: List[Union[bytes, List[bytes]]] = [b"%d" % number, order.sample.encode(encoding), b"", test]
+def _fields(order: Order, number: int, encoding: str, report: bytes) -> List[Field]:
+    """Those of the order's record: its tests are repeats of one field."""
+    tests = [[b"", b"", b"", test.encode(encoding)] for test in order.tests]
+    front: List[Field] = [b"%d" % number, order.sample.encode(encoding), b"", tests]
     return [*front, order.priority.encode(), b"", order.collected.encode(), *[b""] * 3, b"N", *[b""] * 13, report]
 
 
-def _trimmed(fields: "List[Union[bytes, List[bytes]]]") -> "List[Union[bytes, List[bytes]]]":
+def _trimmed(fields: List[Field]) -> List[Field]:
     while len(fields) > 1 and not any(fields[-1]):
         fields = fields[:-1]
     return fields
-
-
-def _with_repeats(text: bytes, tests: Sequence[str], encoding: str) -> bytes:
-    """An order's record with all its tests in field 5 as repeats. The proved writer makes each, with its escapes."""
-    fields = text.split(b"|")
-    fields[4] = b"\\".join(_component(test.encode(encoding)) for test in tests)
-    return b"|".join(fields)
-
-
-def _component(code: bytes) -> bytes:
-    with Writer() as writer:
-        writer.record("H", [b""])
-        writer.record("M", [[b"", b"", b"", code]])
-        text: bytes = writer.texts()[1]
-    return text[2:-1]
 
 
 def _compare(orders: Sequence[Order], texts: Sequence[bytes], encoding: str) -> None:
