@@ -32,12 +32,12 @@ class Gone(Exception):
 
 class Plain:
     """An analyzer on a TCP line: one that it connects, or `line`, which it accepted. `late` is the chance that a reply
-    of its own comes after the computer's timer, `noise` that it damages one; `slow` is how long it takes for each, in
-    seconds."""
+    of its own comes after the computer's timer, `noise` that it damages one, `contends` that it asks for the line at
+    the same time as the computer; `slow` is how long it takes for each, in seconds."""
 
-    def __init__(self, port, scale, seed=1, late=0.0, noise=0.0, slow=0.0, line=None):
+    def __init__(self, port, scale, seed=1, late=0.0, noise=0.0, slow=0.0, line=None, contends=0.0):
         self.scale, self.rng, self.late, self.noise = scale, random.Random(seed), late, noise
-        self.slow = slow
+        self.slow, self.contends, self.contended = slow, contends, 0
         self.line = line or socket.create_connection(("127.0.0.1", port), 10)
         self.line.setsockopt(socket.IPPROTO_TCP, socket.TCP_NODELAY, 1)
         self.left = b""
@@ -95,8 +95,15 @@ class Plain:
 
     def take(self, seconds=30.0):
         """Takes a session of the computer, if one begins in this time: its records; Gone if it breaks off."""
-        while self.byte(seconds) != ENQ:
-            pass
+        while True:
+            while self.byte(seconds) != ENQ:
+                pass
+            if self.rng.random() >= self.contends:
+                break
+            self.contended += 1
+            self.put(ENQ)
+            time.sleep(1.0 * self.scale)
+            self.send([b"H|\\^&\r", b"L|1\r"])
         self.reply(ACK)
         rows, number, data = [], 1, b""
         while True:

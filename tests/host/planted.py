@@ -193,6 +193,22 @@ FAULTS = {
     "test_orders.SqliteBooks.test_given_back": Edit(
         "orders/book.py", "SET holder = '' WHERE holder = ?\"", "SET holder = '' WHERE holder <> ?\""
     ),
+    "test_orders.Files.test_dates": Edit("orders/book.py", "over <= self.until", "over < self.until"),
+    "test_orders.SpoolBooks.test_states": Edit(
+        "orders/book.py", "wanted.is_then(date or _local(added))", "wanted.is_then(date)"
+    ),
+    "test_orders.SpoolBooks.test_two_hosts": Edit(
+        "orders/book.py", "return f\"(holder = ''{left})\"", "return f\"(1 = 1{left})\""
+    ),
+    "test_orders.SpoolBooks.test_given_back": Edit(
+        "orders/book.py", "SET holder = '' WHERE holder = ?\"", "SET holder = '' WHERE holder <> ?\""
+    ),
+    "test_orders.SpoolBooks.test_files": Edit(
+        "orders/folder.py", "WHERE file = ?\", (file,)).fetchone():", "WHERE file = ?\", (path,)).fetchone():"
+    ),
+    "test_orders.Answers.test_spool": Edit(
+        "orders/folder.py", "return [self._take_file(name) for name in names]", "return [name for name in names if not name]"
+    ),
     "test_orders.SqliteBooks.test_two_connections_of_one_process": Edit(
         "host/sqlite.py",
         "with contextlib.suppress(FileExistsError):\n        os.close(os.open(path, os.O_RDWR | os.O_CREAT | os.O_EXCL",

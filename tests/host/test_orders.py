@@ -15,7 +15,7 @@ from lislink.host.duplex import TwoWayLine
 from lislink.host.line import Turns
 from lislink.host.options import Limits
 from lislink.host.outbox import Batch, Site
-from lislink.host.store import open_store
+from lislink.host.store import StoreError, open_store
 from lislink.orders.book import Wanted, open_book
 from lislink.orders.order import ANSWERED, QUERIED, Order, OrderError, nothing_of, orders_of, texts_of
 from lislink.orders.query import query_of
@@ -89,6 +89,8 @@ class Files(HostTest):
             b"Q|1|^^S7": (["S7"], "", "", False),
             b"Q|1|^S1|^S5": ([], "S1", "S5", False),
             b"Q|1|ALL": ([], "", "", False),
+            b"Q|1|ALL||||20261101|20261128120000": ([], "", "", False, "20261101", "20261128120000"),
+            b"Q|1|^S7||||2026|x": (["S7"], "", "", False),
             b"Q|1|^S7||||||||||A": (["S7"], "", "", True),
             b"Q|1|^S7||||||||||X": (["S7"], "", "", True),
         }
@@ -96,7 +98,23 @@ class Files(HostTest):
             row = next(messages([b"H|\\^&\r" + text + b"\rL|1\r"]))[1]
             found = query_of(row, "latin-1")
             told = (list(found.wanted.samples), found.wanted.first, found.wanted.last, found.cancels)
-            self.same(text.decode(), told, wanted)
+            dates = (found.wanted.since, found.wanted.until)
+            self.same(text.decode(), (*told, *dates) if any(dates) else told, wanted)
+
+    def test_dates(self):
+        """Dates are compared as far as both are written."""
+        rows = {
+            ("20261128", "20261128", "20261128"): True,
+            ("202611281530", "20261128", "20261128"): True,
+            ("20261128", "202611281200", ""): True,
+            ("202611281100", "202611281200", ""): False,
+            ("202611281300", "", "202611281200"): False,
+            ("20261127", "20261128", ""): False,
+            ("20261129", "", "20261128"): False,
+            ("20261129", "", ""): True,
+        }
+        for (date, since, until), wanted in rows.items():
+            self.same(f"{date} {since}-{until}", Wanted(since=since, until=until).is_then(date), wanted)
 
 
 class Books:
@@ -126,6 +144,7 @@ class Books:
         self.same("cancel", (one.cancel(4), one.cancel(1), one.cancel(99)), (True, False, False))
         self.same("again", (one.again(1), one.again(5)), (True, False))
         self.same("range", one.ask("fire x", "1", "fire", Wanted((), "S4", "S5"), 9), 1)
+        self.same("not then", one.ask("fire x", "1", "fire", Wanted(until="19991231"), 9), 0)
         self.same("later", [placed.number for placed in one.take("", "1", "fire", 9, [])], [1])
 
     def test_two_hosts(self):
@@ -191,6 +210,51 @@ class SqliteBooks(Books, HostTest):
         return self.path(f"{self._count}.db")
 
 
+class SpoolBooks(Books, HostTest):
+    """Orders of a spool."""
+
+    _count = 0
+
+    def new(self):
+        type(self)._count += 1
+        return f"spool:{self.path(str(self._count))}"
+
+    def left(self, where, name, data):
+        """A file of orders that another program leaves."""
+        path = os.path.join(where[len("spool:") :], "orders", name)
+        with open(path + ".new", "wb") as out:
+            out.write(data)
+        os.rename(path + ".new", path)
+
+    def test_files(self):
+        """What is in a file is taken once, also if the host dies before the file is gone; a file with a fault is put
+        aside whole, with why."""
+        where = self.new()
+        one = open_book(where)
+        self.addCleanup(one.close)
+        self.left(where, "b.orders", b"sample,tests\nS2,K\nS3,K\n")
+        self.left(where, "a.orders", b'{"sample": "S1", "tests": "K"}\n')
+        self.left(where, "c.orders", b"sample,tests\nS4,K\nS5,\n")
+        self.left(where, "d.orders", b"")
+        self.left(where, ".hidden.orders", b"sample,tests\nS6,K\n")
+        with unittest.mock.patch("os.unlink", side_effect=OSError("the host dies")):
+            with self.assertRaises(StoreError):
+                one.take_in()
+        self.same("told", one.take_in(), [
+            "orders of a.orders: 1", "orders of b.orders: 2",
+            "orders of c.orders: none is taken, line 3: it has no test", "orders of d.orders: none is taken, it has no order",
+        ])
+        self.same("taken once", [placed.order.sample for placed in one.listed()], ["S1", "S2", "S3"])
+        folder = os.path.join(where[len("spool:") :], "orders")
+        self.same("left", sorted(os.listdir(folder)), [".hidden.orders", "c.rejected", "c.why", "d.rejected", "d.why"])
+        with open(os.path.join(folder, "c.why"), encoding="utf-8") as file:
+            self.same("why", file.read(), "line 3: it has no test\n")
+        self.left(where, "a.orders", b'{"sample": "S1", "tests": "K"}\n')
+        self.same("the same name again", one.take_in(), ["orders of a.orders: 1"])
+        self.same("nothing", one.take_in(), [])
+        self.same("mode", os.stat(os.path.join(folder, "..", "orders.db")).st_mode & 0o777, 0o600)
+
+
 class Commands(HostTest):
     """`lislab order`."""
 
@@ -215,7 +279,8 @@ class Commands(HostTest):
         told = lislab("order", "list", "--store", store, "--sample", "S7").stdout
         self.same("sample", told, "order 1 S7 chemistry GLU,K\n")
         self.same("mode", os.stat(store).st_mode & 0o777, 0o600)
-        self.same("spool", lislab("order", "list", "--store", "spool:" + self.path("spool")).returncode, 3)
+        for where, status in (("spool:" + self.path("none"), 0), (self.path("none.db"), 3)):
+            self.same(f"no store {where[:5]}", lislab("order", "list", "--store", where).returncode, status)
 
 
 #: Each timer is so many times as long where a session must not fail: 15 seconds are 1.5, for a machine that is busy.
@@ -304,6 +369,20 @@ class Answers(HostTest):
             if name != "answers":
                 self.true(f"{name} is said", "gives no orders" in host.says(), host.says())
         self.true("why", "it took over 5 s" in host.says(), host.says())
+
+    def test_spool(self):
+        """A host with a spool sends the orders that another program leaves in its folder; the status counts them."""
+        store = "spool:" + self.path("left")
+        host = Host(store, "--listen", "127.0.0.1:0,name=asks,orders=send", listen=False, scale=SLOW)
+        self.addCleanup(host.kill)
+        port = next(int(row.split()[1].rsplit(":", 1)[1]) for row in host.rows if row.endswith(" asks\n"))
+        with open(self.path("left/orders/x.orders"), "wb") as out:
+            out.write(b"sample,tests\nS7,K\n")
+        one = Plain(port, SLOW)
+        self.same("sent", samples_of(one.take(400)), ["S7"])
+        self.true("said", wait_for(lambda: "orders of x.orders: 1" in host.says()), host.says())
+        told = lislab("status", "--store", store).stdout
+        self.true("status", wait_for(lambda: "1 sent" in lislab("status", "--store", store).stdout), told)
 
     def test_contention(self):
         """Both ask for the line at once: the analyzer's session comes first, the host's after it."""
@@ -473,8 +552,8 @@ class Fire(HostTest):
     """Hosts are killed, lines pulled, replies late: no order is sent that the analyzer did not take, and none is lost."""
 
     def rounds(self, count, kill, late=0.0, noise=0.0, seed=7):
-        """Sends so many orders to an analyzer while the host is killed and the line pulled by chance; the samples that
-        were taken whole."""
+        """Sends so many orders to an analyzer while the host is killed and the line pulled by chance, and both ask at
+        once in one session of three; the samples that were taken whole."""
         rng = random.Random(seed)
         store = self.path(f"{time.monotonic_ns()}.db")
         book = open_book(store)
@@ -483,10 +562,11 @@ class Fire(HostTest):
         host = Host(store, "--listen", "127.0.0.1:0,name=asks,orders=send", "--tries", "0", listen=False)
         port = next(int(row.split()[1].rsplit(":", 1)[1]) for row in host.rows if row.endswith(" asks\n"))
         host.words = tuple(word.replace("127.0.0.1:0,", f"127.0.0.1:{port},") for word in host.words)
-        taken, kills, over = [], 0, time.monotonic() + 60 + 4 * kill
+        taken, kills, over, contended = [], 0, time.monotonic() + 60 + 4 * kill, 0
         while len(set(taken)) < count and time.monotonic() < over:
+            one = None
             try:
-                one = Plain(port, SCALE, rng.random(), late, noise, 0.01 if kill else 0.0)
+                one = Plain(port, SCALE, rng.random(), late, noise, 0.01 if kill else 0.0, contends=1 / 3)
                 while len(set(taken)) < count:
                     if kills < kill and rng.random() < 0.7:
                         kills += 1
@@ -494,9 +574,11 @@ class Fire(HostTest):
                     taken += samples_of(one.take(60))
             except (Gone, OSError):
                 pass
+            contended += one.contended if one else 0
             if host.process.poll() is not None:
                 host.kill()
                 host.start()
+        self.true("both asked at once", contended)
         self.true("all taken", wait_for(lambda: set(states(store).values()) == {"sent"}, 20), states(store))
         found = states(store)
         host.stop()

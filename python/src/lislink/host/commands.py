@@ -220,8 +220,6 @@ def _outbox_of(
         return None
     if command and any(place.orders == "send" for place in places):
         raise OptionError("a line with orders=send sends those of the store, and --ask has none to send unasked")
-    if not command and ask.store.startswith("spool:"):
-        raise OptionError("orders are kept in SQLite or PostgreSQL; with spool: name a command by --ask")
     book = functools.partial(open_book, ask.store, ask.host_name)
     return functools.partial(Outbox, book, command, ask.tries, ask.scale)
 

@@ -128,6 +128,8 @@ class Outbox:
         assert self._book is not None
         while True:
             try:
+                for told in await self._run(self._book.take_in):
+                    self._say(told)
                 due = await self._run(self._book.due)
                 self._said = ""
             except StoreError as error:

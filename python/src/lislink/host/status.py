@@ -3,7 +3,7 @@ import json
 import time
 from typing import Any, Dict, List, NamedTuple, Optional
 
-from ..orders.book import OrderBook
+from ..orders.book import book_of
 from .deliver import read_cursor
 from .export import time_text
 from .sql import SqlStore
@@ -97,7 +97,10 @@ def rows_of(store: Store, state: Dict[str, Any]) -> List[Dict[str, Any]]:
 def data_of(store: Store, state: Dict[str, Any], cursors: List[str]) -> Dict[str, Any]:
     """All of it as data."""
     waiting = [waiting_of(store, path) for path in cursors]
-    orders = OrderBook(store).counts() if isinstance(store, SqlStore) else {}
+    book = book_of(store)
+    orders = book.counts()
+    if not isinstance(store, SqlStore):
+        book.close()
     return {
         "running": runs(store, state),
         "state_age": age_of(state),

@@ -4,8 +4,9 @@ import json
 import time
 from typing import Any, Callable, Dict, Iterable, List, NamedTuple, Optional, Sequence, Tuple
 
+from ..host.spool import SpoolStore
 from ..host.sql import SqlStore
-from ..host.store import StoreError, open_store
+from ..host.store import Store, StoreError, open_store
 from .order import Order
 
 #: The states of an order.
@@ -42,11 +43,14 @@ class Placed(NamedTuple):
 
 
 class Wanted(NamedTuple):
-    """Which samples a query asks for: these, those in a range, or all if there are none."""
+    """Which samples a query asks for: these, those in a range, or all if there are none; and from when to when, as
+    YYYYMMDD, maybe with HHMM or HHMMSS after it."""
 
     samples: Sequence[str] = ()
     first: str = ""
     last: str = ""
+    since: str = ""
+    until: str = ""
 
     def condition(self) -> Tuple[str, List[str]]:
         """The same in SQL, with its values."""
@@ -56,6 +60,11 @@ class Wanted(NamedTuple):
             words = [f"sample {sign} ?" for sign, one in ((">=", self.first), ("<=", self.last)) if one]
             return " AND ".join(words), [one for one in (self.first, self.last) if one]
         return "1 = 1", []
+
+    def is_then(self, date: str) -> bool:
+        """Whether a date is in its time; compared as far as both are written."""
+        begun, over = date[: len(self.since)], date[: len(self.until)]
+        return begun >= self.since[: len(begun)] and over <= self.until
 
 
 class OrderBook:
@@ -76,23 +85,36 @@ class OrderBook:
                 self._store.run(f"UPDATE orders SET seat = '' WHERE substr(seat, 1, {len(self._host) + 1}) = ?",
                                 (self._host + "/",))
 
+    def is_there(self) -> bool:
+        """Whether there is a table of orders."""
+        return self._store.has("orders")
+
     def add(self, orders: Iterable[Order]) -> List[Placed]:
         """Keeps orders: all of them, or none on a StoreError."""
-        placed, at = [], self._clock()
         with self._store.changing():
-            self._store.lock_numbers()
-            number = int(self._store.run("SELECT coalesce(max(number), 0) FROM orders").fetchone()[0])
-            for number, order in enumerate(orders, number + 1):
-                row = (number, order.sample, json.dumps(order.tests), *order[2:], at, at)
-                self._store.run(
-                    f"INSERT INTO orders (number, {_ORDER}, added, changed) VALUES ({', '.join('?' * len(row))})", row
-                )
-                placed.append(Placed(number, WAITING, "", 0, at, at, order))
+            return self._add(orders)
+
+    def _add(self, orders: Iterable[Order]) -> List[Placed]:
+        """The same within a transaction."""
+        placed, at = [], self._clock()
+        self._store.lock_numbers()
+        number = int(self._store.run("SELECT coalesce(max(number), 0) FROM orders").fetchone()[0])
+        for number, order in enumerate(orders, number + 1):
+            row = (number, order.sample, json.dumps(order.tests), *order[2:], at, at)
+            self._store.run(
+                f"INSERT INTO orders (number, {_ORDER}, added, changed) VALUES ({', '.join('?' * len(row))})", row
+            )
+            placed.append(Placed(number, WAITING, "", 0, at, at, order))
         return placed
+
+    def take_in(self) -> List[str]:
+        """Takes in the files of orders that other programs left for the store; what is to be said of each. Only a spool
+        has such files. StoreError."""
+        return []
 
     def listed(self, sample: Optional[str] = None, state: Optional[str] = None) -> List[Placed]:
         """The orders, of a sample or in a state, in the order of their numbers."""
-        if not self._store.has("orders"):
+        if not self.is_there():
             return []
         asked = [(f"{name} = ?", one) for name, one in (("sample", sample), ("state", state)) if one is not None]
         where = " AND ".join(["1 = 1", *(words for words, _ in asked)])
@@ -103,7 +125,7 @@ class OrderBook:
 
     def counts(self) -> Dict[str, int]:
         """How many orders are in each state; none if there are no orders."""
-        if not self._store.has("orders"):
+        if not self.is_there():
             return {}
         rows = self._store.read("SELECT state, count(*) FROM orders GROUP BY state")
         found = {str(state): int(count) for state, count in rows}
@@ -135,14 +157,15 @@ class OrderBook:
         where, values = wanted.condition()
         with self._store.changing():
             rows = self._store.run(
-                f"SELECT number FROM orders WHERE state = '{WAITING}' AND line IN ('', ?) AND {where}"
-                " ORDER BY number LIMIT ?",
-                (line, *values, most),
+                f"SELECT number, collected, added FROM orders WHERE state = '{WAITING}' AND line IN ('', ?) AND {where}"
+                " ORDER BY number",
+                (line, *values),
             ).fetchall()
-            for (number,) in rows:
+            found = [number for number, date, added in rows if wanted.is_then(date or _local(added))][:most]
+            for number in found:
                 marks = (place, self._seat(seat), number)
                 self._store.run("UPDATE orders SET asked = ?, seat = ?, next_try = 0 WHERE number = ?", marks)
-        return len(rows)
+        return len(found)
 
     def _seat(self, seat: str) -> str:
         return f"{self._host}/{seat}"
@@ -230,6 +253,11 @@ class OrderBook:
         self._store.close()
 
 
+def _local(at: float) -> str:
+    """A time of the clock on the wall as a date of the records."""
+    return time.strftime("%Y%m%d%H%M%S", time.localtime(at))
+
+
 def _placed(row: Sequence[Any]) -> Placed:
     number, state, reason, tries, added, changed, sample, tests, *others = row
     order = Order(sample, tuple(json.loads(tests)), *others[:7])
@@ -237,11 +265,18 @@ def _placed(row: Sequence[Any]) -> Placed:
 
 
 def open_book(where: str, host: str = "", reading: bool = False) -> OrderBook:
-    """The orders of a store in a database, to be changed or only read; StoreError if that can't be."""
-    store = open_store(where)
-    if not isinstance(store, SqlStore):
-        raise StoreError(f"{where}: orders are kept in SQLite or PostgreSQL")
-    book = OrderBook(store, host)
+    """The orders of a store, to be changed or only read; StoreError if that can't be."""
+    book = book_of(open_store(where), host)
     if not reading:
         book.start()
     return book
+
+
+def book_of(store: Store, host: str = "") -> OrderBook:
+    """The orders of a store that is not opened, or is opened to be read."""
+    if isinstance(store, SqlStore):
+        return OrderBook(store, host)
+    from .folder import FolderBook
+
+    assert isinstance(store, SpoolStore)
+    return FolderBook(store.folder, host)

@@ -24,7 +24,7 @@ def add_commands(commands: Any) -> None:
 
 
 def _store(parser: argparse.ArgumentParser) -> None:
-    parser.add_argument("--store", required=True, metavar="STORE", help="an SQLite file, or postgresql://..")
+    parser.add_argument("--store", required=True, metavar="STORE", help="an SQLite file, spool:DIRECTORY or postgresql://..")
 
 
 def _add_add(one: argparse.ArgumentParser) -> None:
