@@ -171,7 +171,8 @@ impl<const N: usize, T: SessionTexts> StationOver<N, T> {
             (λ refused. (station_fault (station_at self.old r) (T.texts texts) ≡ Some refused.fault)
             × (refused.texts ≡ texts) × (self.new ≡ self.old)) }
     {
-        if self.receiver.is_open() {
+        let is_theirs = self.receiver.is_open();
+        if is_theirs {
             return Err(StationRefusedOf {
                 texts,
                 fault: StationFault::LineOpen,
@@ -314,10 +315,8 @@ impl<const N: usize, T: SessionTexts> StationOver<N, T> {
     pub fn timer_seconds(&self) -> Option<u32>
         ensures { (r : ReceiverState) → IsIn N self.now.receiver r → result ≡ station_seconds (station_at self.now r) }
     {
-        if self.receiver.is_open() {
-            return Some(RECEIVER_SECONDS);
-        }
         match (self.sender.phase(), self.role) {
+            _ if self.receiver.is_open() => Some(RECEIVER_SECONDS),
             (Phase::Contention, Role::Computer) => Some(contention_seconds(self.turn)),
             (phase, _) => phase.timer_seconds(),
         }
