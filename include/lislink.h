@@ -230,8 +230,8 @@ void lis_sender_end(lis_sender s);
  * LIS_STATUS_IN_SESSION while a session goes on, or LIS_STATUS_BAD_NUMBER for another limit, and nothing has changed.
  * With the long limit a frame may have more bytes than `lis_bytes` has room for: see lis_sender_frame. */
 lis_status lis_sender_set_limit(lis_sender *s, size_t limit);
-/* Adds a copy of a text to the next session: LIS_STATUS_OK, LIS_STATUS_FULL or LIS_STATUS_OUT_OF_MEMORY; else than with
- * OK nothing has changed. It may be called while a session goes on. */
+/* Adds a copy of a text to the next session: LIS_STATUS_OK; LIS_STATUS_FULL or LIS_STATUS_OUT_OF_MEMORY, and nothing has
+ * changed. It may be called while a session goes on. */
 lis_status lis_sender_add_text(lis_sender *s, const uint8_t *text, size_t text_len);
 /* Drops the texts of the next session. */
 void lis_sender_clear(lis_sender *s);
@@ -239,7 +239,7 @@ void lis_sender_clear(lis_sender *s);
  * LIS_STATUS_IN_SESSION, LIS_STATUS_NO_TEXT, or LIS_STATUS_TOO_LONG or LIS_STATUS_FORBIDDEN with the text and the
  * place. `fault` is always written, else 0; `out` only with OK. The session takes the texts: when it is over, however
  * it ended, the sender has none of them any more. So keep your own until LIS_OUTCOME_DONE, and add them again for
- * another try. Else than with OK the texts stay for the next session. */
+ * another try. If no session starts, the texts stay for the next one. */
 lis_status lis_sender_start(lis_sender *s, lis_bytes *out, lis_place *fault);
 /* Starts a session with texts that stay with the caller, and takes no memory: LIS_STATUS_OK, and `out` has ENQ;
  * LIS_STATUS_FULL if there are more than LIS_LIMIT_TEXTS; else as lis_sender_start. The texts that were added stay for

@@ -82,7 +82,7 @@ pub unsafe extern "C" fn lis_receiver_init(alloc: Global, at: *mut u8)
 }
 
 /// Sets how long the text of a frame may be, 240 bytes or 63,993, and makes the receiver new: neutral and ready,
-/// without a text. `OK`; `BAD_NUMBER` if it is another limit; `OUT_OF_MEMORY`. Else than with `OK` nothing has changed.
+/// without a text. `OK`; `BAD_NUMBER` if it is another limit; `OUT_OF_MEMORY`. Nothing has changed unless it is `OK`.
 /// Only the long limit takes memory.
 #[unsafe(no_mangle)]
 pub extern "C" fn lis_receiver_set_limit(alloc: Global, s: &mut LisReceiver, limit: usize) -> u8

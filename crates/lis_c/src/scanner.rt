@@ -76,7 +76,7 @@ pub unsafe extern "C" fn lis_scanner_init(alloc: Global, at: *mut u8)
 }
 
 /// Sets how long the text of a frame may be, 240 bytes or 63,993, and begins anew: `OK`; `BAD_NUMBER` if it is another
-/// limit; `OUT_OF_MEMORY`. Else than with `OK` nothing has changed. Only the long limit takes memory.
+/// limit; `OUT_OF_MEMORY`. Nothing has changed unless it is `OK`. Only the long limit takes memory.
 #[unsafe(no_mangle)]
 pub extern "C" fn lis_scanner_set_limit(alloc: Global, s: &mut LisScanner, limit: usize) -> u8
     ensures status { LimitStatus result limit }

@@ -94,7 +94,7 @@ pub unsafe extern "C" fn lis_station_init(alloc: Global, at: *mut u8)
 
 /// Sets the role, 0 for the analyzer or 1 for the computer, and how long the text of a frame may be, 240 bytes or
 /// 63,993, and makes the station new, without a text. `OK`; `BAD_NUMBER` if it is another role or limit;
-/// `OUT_OF_MEMORY`. Else than with `OK` nothing has changed. Only the long limit takes memory.
+/// `OUT_OF_MEMORY`. Nothing has changed unless it is `OK`. Only the long limit takes memory.
 #[unsafe(no_mangle)]
 pub extern "C" fn lis_station_begin(alloc: Global, s: &mut LisStation, role: u8, limit: usize) -> u8
     ensures status { BeginStatus result role limit }

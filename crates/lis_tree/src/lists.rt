@@ -9,9 +9,9 @@ use std::alloc::{AllocError, Global};
 /// A list of records.
 pub type Records = List<Record>;
 
-/// What can be had once more, with memory of its own.
+/// What can be copied, if there is memory for it.
 pub trait Copied: Drop {
-    /// The same once more.
+    /// A copy.
     fn copied(&self, alloc: Global) -> Result<Self, AllocError>
         ensures { IfOk result (λ item. item ≡ self.now) };
 }
@@ -22,7 +22,7 @@ impl Copied for Record {
     }
 }
 
-/// The same items once more, each with memory of its own.
+/// A list of copies.
 pub(crate) fn copy_list<T: Copied>(alloc: Global, items: &List<T>) -> Result<List<T>, AllocError>
     ensures { IfOk result (λ list. list ≡ items.now) }
 {

@@ -364,7 +364,7 @@ class Sender(Owner):
 
 
 class Receiver(Owner):
-    """The receiving end. Keep a step's text first, then send its reply; can't you keep it, restart and send nothing.
+    """The receiving end. Keep a step's text first, then send its reply. If you can't keep it, restart and send nothing.
 
     A frame's text has at most `frame_limit` bytes, FRAME_TEXT or LONG_FRAME_TEXT."""
 

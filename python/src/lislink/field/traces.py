@@ -412,7 +412,7 @@ def with_control_bytes(data: bytes) -> Optional[Log]:
 
 
 def _goes_on(line: str, grammar: Grammar, pieces: List[Piece]) -> bool:
-    """Whether a line without a direction is more of the bytes before it: it holds nothing else than bytes."""
+    """Whether a line without a direction is more of the bytes before it: it holds nothing but bytes."""
     if not pieces or find_time(line) is not None:
         return False
     if grammar.name == "words":

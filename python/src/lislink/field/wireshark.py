@@ -68,7 +68,7 @@ def follow_c(text: str) -> Log:
         body = re.sub(r"/\*.*?\*/", "", found[2], flags=re.S)
         words = re.findall(r"0x([0-9a-fA-F]{2})", body)
         if re.sub(r"0x[0-9a-fA-F]{2}|[\s,]", "", body):
-            raise LogError(f"the array {found[1]} holds something else than bytes")
+            raise LogError(f"the array {found[1]} holds what is no byte")
         pieces.append(Piece(None, found[1], bytes.fromhex("".join(words))))
     return Log("wireshark-c", pieces, [])
 

@@ -158,7 +158,7 @@ class Line:
     # ---- what is the same on each line
 
     def data(self, data: bytes, arrived: float) -> None:
-        """Bytes came, at the latest at this time of the loop's clock."""
+        """Bytes came, not before this time of the loop's clock."""
         if self._paused_at is not None:
             arrived = min(arrived, self._paused_at)
         self._pieces.append((arrived, data))
@@ -360,9 +360,9 @@ class Line:
 
 
 class Ticks:
-    """When bytes came, at the earliest. A host that was stopped, or was busy, reads late what came long before. Bytes
-    that a turn of the loop reads were not there at the turn before, so they came after the tick before the last one:
-    that one was over before the turn before began, whenever the host was stopped."""
+    """The earliest time at which bytes can have come. A host that was stopped, or was busy, reads late what came long
+    before. What a turn of the loop reads was not there in the turn before it, and that turn began after the last tick
+    but one. So `before`, the time of that tick, is early enough, however long the host was stopped."""
 
     def __init__(self, period: float) -> None:
         self._loop, self._period = asyncio.get_running_loop(), period

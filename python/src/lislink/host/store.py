@@ -94,8 +94,8 @@ class Store(abc.ABC):
 
     @abc.abstractmethod
     def commit(self, units: Sequence[Unit]) -> None:
-        """Keeps these changes: all are on the disk when it returns. On a StoreError none may be acknowledged, and what
-        was kept of them all the same is unfinished, or marked when it comes again."""
+        """Keeps these changes: all are on the disk when it returns. On a StoreError none may be acknowledged. Some
+        may be on the disk nevertheless: they are an unfinished message, or the first of two that are marked."""
 
     @abc.abstractmethod
     def messages(self, after: int = 0, limit: Optional[int] = None) -> Iterator[Stored]:
