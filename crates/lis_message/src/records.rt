@@ -48,7 +48,7 @@ impl Model for Opened {
     ghost view = { λ o. record { delimiters = o.delimiters; level = position_level o.position; count = o.count } };
 }
 
-/// Why a record with this letter can't come next, or is none.
+/// Why a text can't come next, by its first letter alone.
 #[inline(always)]
 fn front_fault(is_begun: bool, text: &[u8]) -> Option<Reason>
     ensures { result ≡ front_refusal is_begun text.now }
