@@ -21,6 +21,7 @@ PREFIX ?= /usr/local
 LIBDIR ?= $(PREFIX)/lib
 PYTHONDIR ?= $(PREFIX)/share/lislink/python
 CC = gcc
+CFLAGS = -O2
 BUILD = build
 PROGRAM = $(BUILD)/lislink
 ARCHIVE = $(BUILD)/liblis_c.a
@@ -29,10 +30,12 @@ VERSION = $(shell cat VERSION)
 .PHONY: build check demo test mutants harmless soak plant bench bench-check library linked install uninstall deb fuzz
 
 build:
+	@tools/needed python rt room
 	@echo 'Proving and building the program: 11 to 18 minutes on four processors, a second if nothing has changed.'
 	@tools/prove lislink $(PROGRAM)
 
 demo:
+	@tools/needed rt
 	@echo 'A build without proofs, checked at run time (half a minute). It prints what is on a line, one unit a line:'
 	@cd crates/lislink && rt try -- show < ../../samples/session.link 2> demo.log || { cat demo.log; rm -f demo.log; exit 1; }
 	@rm -f crates/lislink/demo.log
@@ -46,10 +49,12 @@ demo:
 
 check:
 	@test -n '$(CRATE)' || { echo 'make check CRATE=name, a folder of crates/'; exit 2; }
+	@tools/needed rt room
 	cd crates/$(CRATE) && rt check --test
 	rt must-fail $(CRATE)
 
 test:
+	@tools/needed python rt gcc room
 	@tests/all
 
 mutants:
@@ -73,6 +78,7 @@ plant:
 	cd crates/$(CRATE) && rt plant
 
 library:
+	@CC=$(CC) tools/needed python rt gcc room
 	@echo 'Proving and building the library: 12 to 18 minutes on four processors, a second if nothing has changed.'
 	@tools/prove lis_c $(ARCHIVE)
 	$(MAKE) --no-print-directory linked
@@ -82,10 +88,10 @@ library:
 PLAIN = heap names connection pieces
 linked:
 	@mkdir -p $(BUILD)
-	for name in $(PLAIN); do $(CC) -O2 -fPIC -Iinclude -c examples/c/$$name.c -o $(BUILD)/$$name.o || exit 1; done
+	for name in $(PLAIN); do $(CC) $(CPPFLAGS) $(CFLAGS) -fPIC -Iinclude -c examples/c/$$name.c -o $(BUILD)/$$name.o || exit 1; done
 	cp $(ARCHIVE) $(BUILD)/liblislink.a
 	ar r $(BUILD)/liblislink.a $(PLAIN:%=$(BUILD)/%.o)
-	$(CC) -shared -o $(BUILD)/liblislink.so.1 -Wl,-soname,liblislink.so.1 \
+	$(CC) $(LDFLAGS) -shared -o $(BUILD)/liblislink.so.1 -Wl,-soname,liblislink.so.1 \
 	  -Wl,--whole-archive $(ARCHIVE) -Wl,--no-whole-archive $(PLAIN:%=$(BUILD)/%.o)
 	ln -sf liblislink.so.1 $(BUILD)/liblislink.so
 

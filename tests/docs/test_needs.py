@@ -1,6 +1,9 @@
 """What a machine lacks: the lines that say it, and whether tests/needs installs it."""
 import glob
+import os
 import re
+import subprocess
+import tempfile
 
 from tests import ROOT, kit
 
@@ -49,3 +52,32 @@ class Needs(kit.Test):
             text = kit.read(path)
             for tool in set(USES.findall(text)) - {"tool"}:
                 self.check(tool in installed | ASKED, f"{path}: tests/needs installs {tool}")
+
+    def test_needed(self):
+        """A make target names what it needs and the machine lacks, in one line, before it does anything."""
+        good, shell = "#!/bin/sh\nexit 0\n", {"dirname": "/usr/bin/dirname", "head": "/usr/bin/head"}
+        kits = {"rt": "#!/bin/sh\necho rattle-kit-1 logic 2\n", "python3": good, "gcc": good, "df": "#!/bin/sh\necho 9999999\n",
+                "tail": "#!/bin/sh\nread size; echo $size\n"}
+        rows = {
+            "all there": ({}, 0, ""),
+            "no kit": ({"rt": None}, 2, "no command rt on the path"),
+            "another rt": ({"rt": "#!/bin/sh\necho 1.0\n"}, 2, "rt version says '1.0'"),
+            "no gcc": ({"gcc": None}, 2, "the C compiler gcc is missing"),
+            "no Python": ({"python3": None}, 2, "Python 3.9 or later is missing"),
+            "an old Python": ({"python3": "#!/bin/sh\nexit 1\n"}, 2, "Python 3.9 or later is missing"),
+            "a full disk": ({"df": "#!/bin/sh\necho 1024\n"}, 2, "this disk has 1 MB free"),
+        }
+        for name, (changed, status, said) in rows.items():
+            with tempfile.TemporaryDirectory() as folder:
+                for tool, text in {**kits, **changed}.items():
+                    if text is not None:
+                        with open(os.path.join(folder, tool), "w", encoding="ascii") as file:
+                            file.write(text)
+                        os.chmod(file.name, 0o755)
+                for tool, place in shell.items():
+                    os.symlink(place, os.path.join(folder, tool))
+                words = ["/bin/bash", os.path.join(ROOT, "tools", "needed"), "python", "rt", "gcc", "room"]
+                done = subprocess.run(words, env={"PATH": folder}, capture_output=True, text=True, check=False)
+            self.same(f"{name}: status", done.returncode, status)
+            good = len(done.stderr.splitlines()) == 1 and said in done.stderr if said else not done.stderr
+            self.check(good, f"{name}: what is said", done.stderr)
