@@ -12,6 +12,7 @@ from lislink import Message, Row, cli
 from lislink.host.store import open_store
 from lislink.message import NAMES
 from lislink.rows import marks_of
+from tests import ROOT
 from tests.host.hosts import ENV, FAULTY, Host, HostTest, lislab, sending, wait_for
 
 SAMPLE, BAD = "samples/panel.records", "samples/no-order.records"
@@ -97,6 +98,9 @@ class OutOf:
         self.same("what can't be read isn't sent", bad.returncode, 1)
         self.has("and it is said", bad.stderr, "record 3 can't be read: NO_PARENT")
         self.same("the host's status", self.status, 0)
+        capture = lislab("send", os.path.join(ROOT, "samples", "session.capture"), "--to", "127.0.0.1:1")
+        self.same("a capture isn't sent", (capture.returncode, capture.stdout), (1, ""))
+        self.has("and it is said what it is", capture.stderr, "this is a capture, no file of records")
         self.same("no host", (self.lost.returncode, "failed" in self.lost.stdout), (1, True))
 
     def test_status(self):

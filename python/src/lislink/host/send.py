@@ -9,11 +9,10 @@ import socket
 import struct
 import sys
 import time
-from collections import Counter
+from collections import Counter, deque
 from typing import Callable, Deque, Iterator, List, NamedTuple, Optional, Sequence, Tuple, Union
 
-from collections import deque
-
+from ..capture import looks_like_capture
 from ..link import REPLY, Outcome, Phase, Sender
 from ..message import Fault, read_all
 from ..records import Writer
@@ -263,6 +262,9 @@ class Analyzer:
 
 def messages_of(stream: bytes) -> Iterator[Union[Texts, str]]:
     """The messages of a stream of records, each as the texts of its records; why one can't be sent in its place."""
+    if looks_like_capture(stream):
+        yield "this is a capture, no file of records: `lislab play` plays it, `lislink texts` makes records of it"
+        return
     for number, found in enumerate(read_all(stream), 1):
         if isinstance(found, Fault):
             yield f"message {number}: record {found.error.number} can't be read: {found.error.reason.name}"
