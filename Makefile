@@ -45,7 +45,7 @@ demo:
 	@echo '  tools/lislab capture samples/tour.socat -o session.capture'
 	@echo '  build/lislink replay < session.capture'
 	@echo '  build/lislink texts < session.capture | build/lislink results'
-	@echo 'README.md explains them, docs/EMBEDDING.md the library for C, C++, Rust and Python.'
+	@echo 'README.md explains them, docs/C.md, CPP.md, RUST.md and PYTHON.md the library.'
 
 check:
 	@test -n '$(CRATE)' || { echo 'make check CRATE=name, a folder of crates/'; exit 2; }

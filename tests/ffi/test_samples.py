@@ -99,6 +99,7 @@ def whole(start, path, said):
 def of_receivers(test, work, how):
     path = f"{work}/kept"
     starts = {"quick_receive.c": lambda to: InC([f"{work}/quick_receive", to]),
+              "quick_receive.cpp": lambda to: InC([f"{work}/quick_receive_cpp", to]),
               "quick_receive.py": lambda to: InPython([sys.executable, RECEIVE, "0", to], **how),
               "async_receive.py": lambda to: InPython([sys.executable, LATER, "0", to], **how)}
     for name, start in starts.items():
@@ -109,7 +110,7 @@ def of_receivers(test, work, how):
         sample = start("/dev/full")
         test.check(ask(sample.line, ENQ, ACK) and ask(sample.line, frame(1, TEXTS[0]), b""),
                     f"{name}: what can't be kept is acknowledged")
-        if name.endswith(".c"):
+        if name.endswith((".c", ".cpp")):
             again = ask(sample.line, frame(1, TEXTS[0]), b"") and ask(sample.line, ENQ, ACK)
             test.check(again, f"{name}, behind a text that can't be kept")
         sample.end()
@@ -183,13 +184,19 @@ class Samples(kit.Test):
         library = shared(self, archive, work)
         built = [self.runs([*C11, *SANITIZERS, *(os.path.join(ROOT, it) for it in files), os.path.join(IN_C, "heap.c"),
                             archive, "-o", f"{work}/{name}"]) for name, files in PROGRAMS.items()]
+        sources = [os.path.join(ROOT, it) for it in ("examples/cpp/quick_receive.cpp", "examples/c/connection.c")]
+        built.append(self.runs(["g++", "-std=c++17", "-g", "-I", os.path.join(ROOT, "include"), *SANITIZERS, "-x", "c++",
+                                sources[0], "-x", "c", sources[1], "-x", "none", f"{IN_C}/heap.c", f"{IN_C}/names.c",
+                                archive, "-o", f"{work}/quick_receive_cpp"]))
         if not library or not all(built):
             return
         how, late = python_over(library), paused(InC([f"{work}/quick_receive", f"{work}/late"]))
+        late_in_cpp = paused(InC([f"{work}/quick_receive_cpp", f"{work}/late_in_cpp"]))
         late_too = paused(InPython([sys.executable, LATER, "0", f"{work}/late_too"], **how))
         of_receivers(self, work, how)
         of_host(self, work)
         of_sender(self, work, how)
         of_short_write(self, work)
         self.check(is_silent_late(*late), "quick_receive.c, stopped for 12 seconds, sends a late reply")
+        self.check(is_silent_late(*late_in_cpp), "quick_receive.cpp, stopped for 12 seconds, sends a late reply")
         self.check(is_silent_late(*late_too), "async_receive.py, stopped for 12 seconds, sends a late reply")

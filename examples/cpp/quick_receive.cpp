@@ -1,0 +1,52 @@
+// Receives from an analyzer whose line is descriptor 0, and keeps each text in a file before it is acknowledged:
+// quick_receive FILE. The receiver's timer runs too.
+#include <lislink.hpp>
+
+#include <chrono>
+#include <cstdlib>
+#include <fcntl.h>
+#include <poll.h>
+#include <unistd.h>
+
+using clock_type = std::chrono::steady_clock;
+
+// Appends a text to a file, or leaves the file as it was.
+static bool keep(int store, std::string_view text) {
+    off_t end = lseek(store, 0, SEEK_END);
+    ssize_t put = write(store, text.data(), text.size());
+    bool kept = put == static_cast<ssize_t>(text.size()) && fsync(store) == 0;
+    if (!kept && put > 0 && ftruncate(store, end) != 0)
+        std::exit(1);    // half a text stays: keep nothing after it
+    return kept;
+}
+
+static bool comes(int line) {
+    pollfd ready = {line, POLLIN, 0};
+    return poll(&ready, 1, 1000) != 0;
+}
+
+int main(int count, char **words) {
+    int store = count == 2 ? open(words[1], O_WRONLY | O_CREAT | O_APPEND, 0600) : -1;
+    if (store < 0)
+        return 1;
+    lislink::receiver receiver;
+    char bytes[512];
+    auto empty = clock_type::now(), meant = empty;    // when the line was last seen empty; when bytes meant something
+    for (;;) {
+        for (auto before = clock_type::now(); !comes(0); before = clock_type::now()) {
+            empty = before;
+            if (receiver.is_open() && before - meant > std::chrono::seconds(LIS_SECONDS_RECEIVER))
+                receiver.timer();
+        }
+        auto before = clock_type::now();
+        ssize_t got = read(0, bytes, sizeof bytes);
+        if (got <= 0)
+            return got == 0 ? 0 : 1;
+        auto send = [](std::uint8_t reply) { return write(0, &reply, 1) == 1; };
+        auto each = [&](const lis_step &) { meant = clock_type::now(); };
+        auto kept = [&](std::string_view text) { return keep(store, text); };
+        receiver.hear_since(empty, {bytes, static_cast<std::size_t>(got)}, kept, send, each);    // keep, then reply
+        if (got < static_cast<ssize_t>(sizeof bytes))    // a full buffer may have left some
+            empty = before;
+    }
+}
