@@ -4,6 +4,7 @@ import contextlib
 import hashlib
 import json
 import os
+import re
 import signal
 import subprocess
 import sys
@@ -177,6 +178,11 @@ class Host:
         """Its resident memory, in KiB."""
         with open(f"/proc/{self.process.pid}/status", encoding="ascii") as file:
             return next(int(row.split()[1]) for row in file if row.startswith("VmRSS"))
+
+
+def trouble(said):
+    """What a host said, without the lines that came and went."""
+    return [row for row in said.splitlines() if not re.search(r": (connected|open|closed .*)$", row)]
 
 
 def lislab(*words, **how):

@@ -115,7 +115,7 @@ FAULTS = {
         "        if any(isinstance(change, End) for change in part):\n            await self._put(part)",
     ),
     "test_lines.Lines.test_late": Edit(
-        "host/line.py", "arrived > self._limits.reply * self._limits.scale", "arrived > self._limits.idle"
+        "host/line.py", "age > self._limits.reply * self._limits.scale", "age > self._limits.idle"
     ),
     "test_lines.Lines.test_slow_lines": Edit("host/line.py", "TOGETHER = 1 << 16,", "TOGETHER = 1 << 40,"),
     "test_lines.Lines.test_limits": Edit(
@@ -169,14 +169,22 @@ FAULTS = {
     ),
     "test_notices.Said.test_a_bad_line": Edit(
         "host/notices.py",
-        "            self._dropped[name] += 1\n            return\n",
-        "            self._dropped[name] += 1\n",
+        "[kind] += 1\n            return\n",
+        "[kind] += 1\n",
     ),
     "test_notices.Said.test_a_host": Edit(
         "host/intake.py", "f\"{reason}, after record {one.records}, at byte {one.size}\"", "reason"
     ),
     "test_notices.Said.test_bad_sessions": Edit(
         "host/notices.py", "AT_ONCE, SECONDS = 10, 30.0", "AT_ONCE, SECONDS = 1000, 30.0"
+    ),
+    "test_notices.Said.test_frames": Edit(
+        "host/notices.py", "if self._rejected_at != self._taken:", "if self._taken >= 0:"
+    ),
+    "test_notices.Said.test_lines_that_come_and_go": Edit(
+        "host/notices.py",
+        "            self._dropped[name, kind] += 1\n            self.not_said",
+        "            self._dropped[name, kind] += 0\n            self.not_said",
     ),
     "test_orders.Files.test_files": Edit("orders/order.py", "elif len(row) > len(names):", "elif len(row) > len(names) + 9:"),
     "test_orders.Files.test_records": Edit(
@@ -464,8 +472,8 @@ HARMLESS = (
     Edit("host/serve.py", "            host.refused += 1\n", "            host.refused = 1 + host.refused\n"),
     Edit(
         "host/notices.py",
-        '        self._accepted = self._rejected = 0\n        self._why = ""\n\n    def _without',
-        '        self._why = ""\n        self._rejected = self._accepted = 0\n\n    def _without',
+        '_taken = 0\n        self._why, self._rejected_at = "", -1\n\n    def _without',
+        '_taken = 0\n        self._rejected_at, self._why = -1, ""\n\n    def _without',
     ),
     Edit("host/line.py", "if len(part) + len(changes) > self", "if len(changes) + len(part) > self"),
     Edit("host/spool.py", "any(map(os.path.exists, places))", "list(filter(os.path.exists, places))"),

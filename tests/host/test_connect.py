@@ -9,7 +9,7 @@ from lislink.host import lines, options, serve
 from lislink.host.store import open_store
 from lislink.orders.book import open_book
 from lislink.orders.order import Order
-from tests.host.hosts import Found, Host, HostTest, lislab, wait_for
+from tests.host.hosts import Found, Host, HostTest, lislab, trouble, wait_for
 from tests.host.plain import ACK, ENQ, EOT, Gone, Plain, frame, samples_of
 from tests.host.test_lines import TEXTS, Client
 from tests.host.test_orders import states
@@ -101,7 +101,7 @@ class Connect(HostTest):
         whole = Found(host.store).whole
         self.same("their lines", sorted(one.line for one in whole), ["a", "b", "in"])
         self.same("their peers", {one.peer for one in whole}, {"127.0.0.1"})
-        self.same("what is said", host.errors, [""])
+        self.same("what is said", trouble(host.errors[0]), [])
 
     def test_orders(self):
         """A line with `orders=send` sends what waits for it."""
@@ -158,7 +158,7 @@ class Connect(HostTest):
             one.close()
             time.sleep(1.5 * SCALE)
         self.same("the host's status", host.stop(), 0)
-        said = [row for row in host.errors[0].splitlines() if not row.startswith("lislab: b: no..name:1: ")]
+        said = [row for row in trouble(host.errors[0]) if not row.startswith("lislab: b: no..name:1: ")]
         self.same("what is said", said, [f"lislab: a: 127.0.0.1:{analyzer.port}: Connection refused"] * 3)
         self.same("of the other line", host.errors[0].count("no..name"), 1)
         self.same("kept", len(Found(host.store).whole), 2)

@@ -184,6 +184,8 @@ class Lines(HostTest):
                     replies.append(late_reply(host, client, frames(texts)[2], place))
                     good = client.whole(texts) and good
             host.stop()
+            said = host.errors[-1].count("a reply is late and isn't sent: byte ")
+            self.same(f"{fault}: late replies that are said", said, 0 if fault else 4)
             if fault:
                 self.true("a host that replies late is noticed", ACK in replies, repr(replies))
                 continue

@@ -13,7 +13,18 @@ import unittest.mock
 from lislink import frame_bytes
 from lislink.host import lines, options, serve
 from lislink.link import LONG_FRAME_TEXT
-from tests.host.hosts import ENV, Found, Host, HostTest, acknowledged, lislab, process, sending, wait_for
+from tests.host.hosts import (
+    ENV,
+    Found,
+    Host,
+    HostTest,
+    acknowledged,
+    lislab,
+    process,
+    sending,
+    trouble,
+    wait_for,
+)
 from tests.host.test_lines import ACK, ENQ, EOT, NAK, TEXTS, Client, frames
 
 #: What is said after the file was read again, and after one that has a fault.
@@ -278,7 +289,10 @@ class LinesFile(HostTest):
         self.true("it is kept", wait_for(lambda: len(Found(host.store).whole) == 2))
         self.same("the host's status", host.stop(), 0)
         self.same("the lines of its messages", [one.line for one in Found(host.store).whole], ["old", "new"])
-        self.same("what is said", host.errors[-1], f"lislab: {TAKEN}1 closed, 1 opened, 0 as they were\n")
+        said = [f"lislab: {TAKEN}1 closed, 1 opened, 0 as they were"]
+        self.same("what is said", trouble(host.errors[-1]), said)
+        for name, what in (("old", "open"), ("old", "closed since its settings changed; "), ("new", "open")):
+            self.has("what the line does", host.errors[-1], f"lislab: {name}: {os.ttyname(slave)}: {what}")
 
     def is_open(self, host, name):
         """Whether a line of a host that runs is connected, as its state says."""

@@ -1,9 +1,13 @@
 """What a host says of lines with trouble: where, and which byte or code; never what a record says, and not too
 often."""
+import json
+import re
 import time
 
-from lislink.host.notices import Notices
-from tests.host.hosts import Found, Host, HostTest
+from lislink import FrameFault
+from lislink.host.notices import CONNECTION, FRAME, Notices, Watch
+from lislink.link import Note, Step
+from tests.host.hosts import Found, Host, HostTest, lislab, trouble, wait_for
 from tests.host.test_lines import ACK, ENQ, EOT, NAK, Client, frames, session
 
 #: A patient's name, which no line may have.
@@ -33,6 +37,7 @@ class Said(HostTest):
             bad = frames([b"P|1||" + NAME + b"\r"])[0].replace(b"S", b"T")
             self.same("bad sums", [client.asks(unit) for unit in (ENQ, bad, bad, bad)], [ACK, NAK, NAK, NAK])
             client.send(EOT)
+        wanted.append(f"frame 1 of a session is rejected; it ends at byte {len(bad)} of the connection: SUM\n")
         wanted.append(f"no frame was accepted in a session, 3 rejected; the first one ends at byte {len(bad)} of the "
                       "connection: SUM\n")
         with Client(host.port) as client:
@@ -51,16 +56,23 @@ class Said(HostTest):
         with Client(host.port) as client:
             client.asks(session([b"H|\\^&\r", *[b"C|1|I|" + b"x" * 190 + b"\r"] * 6, b"L|1\r"]), 9)
         self.same("the host's status", host.stop(), 0)
-        rows = host.errors[-1].splitlines(True)
-        for row in wanted:
-            self.same(f"one line: {row!r}", len([one for one in rows if one.endswith(row)]), 1)
-        self.same("no other lines", len(rows), len(wanted))
-        self.true("each names its line", all(row.startswith("lislab: fire: 127.0.0.1: ") for row in rows), str(rows))
-        self.true("no patient's data", NAME.decode() not in host.errors[-1])
+        self.are_said(host.errors[-1], wanted)
         found = Found(host.store)
         reasons = [f"{one.state}: {one.reason}" for one in found.others]
         self.same("the reasons are kept", reasons, [why for _, why in ODD])
         self.same("what can be read is whole", [len(one.body) for one in found.whole], [10, 1192])
+
+    def are_said(self, said, wanted):
+        """Whether these are the lines, besides those about connections."""
+        rows = [row + "\n" for row in trouble(said)]
+        left_out = [row for row in rows if row.endswith(" notices of kind connection were not said\n")]
+        self.same("connections that are not said, in one line", len(left_out), 1)
+        rows = [row for row in rows if row not in left_out]
+        for row in wanted:
+            self.same(f"one line: {row!r}", len([one for one in rows if one.endswith(row)]), 1)
+        self.same("no other lines", len(rows), len(wanted))
+        self.true("each names its line", all(row.startswith("lislab: fire: 127.0.0.1: ") for row in rows), str(rows))
+        self.true("no patient's data", NAME.decode() not in said)
 
     def test_a_bad_line(self):
         """A line that is bad all the time has some lines at once, and then one now and then; the others have theirs."""
@@ -73,6 +85,20 @@ class Said(HostTest):
         self.same("how many were not said", said[-1], "bad: x (29 notices before it were not said)")
         notices.say("good", "y")
         self.same("another line's", said[-1], "good: y")
+        notices.say("bad", "z", FRAME)
+        self.same("another kind", said[-1], "bad: z")
+        for _ in range(40):
+            notices.say("bad", "z", FRAME)
+        self.same("those of another kind at once", said.count("bad: z"), 10)
+        notices.say_dropped()
+        self.same("nothing more for now", said[-1], "bad: z")
+        now[0] += 30
+        notices.say_dropped()
+        row = "bad: 31 notices of kind frame were not said"
+        self.same("it is said how many were not, with no other one", said[-1], row)
+        notices.say_dropped(True)
+        self.same("once", said.count(row), 1)
+        self.same("counts", (notices.counts["bad"], notices.not_said["bad"][FRAME]), ({"other": 3600, FRAME: 41}, 31))
 
     def test_bad_sessions(self):
         """A thousand bad sessions make no thousand lines."""
@@ -85,3 +111,56 @@ class Said(HostTest):
         self.same("all are kept", len(Found(host.store).others), 100)
         rows = host.errors[-1].count("\n")
         self.true("some lines", 5 <= rows <= 20, str(rows))
+
+    def test_frames(self):
+        """The first rejection of each frame of a session is said, with the byte at which it ends."""
+        said = []
+        watch = Watch(lambda text, kind: said.append((kind, text)))
+        bad, turn = (Step(NAK, None, note, 5, 0) for note in (Note.REFUSED, Note.OUT_OF_TURN))
+        good, again = (Step(ACK, None, note, 0, 0) for note in (Note.ACCEPTED, Note.DUPLICATE))
+        opened, ended = Step(ACK, None, Note.OPENED, 0, 0), Step(b"", None, Note.ENDED, 0, 0)
+        for step in (opened, bad, bad, good, again, turn, bad, good, ended, opened, good, bad, ended):
+            watch.hears(bytes(10))
+            watch.step(9, step)
+        self.same("bad sums have this code", FrameFault(5), FrameFault.SUM)
+        wanted = [
+            (1, 19, "SUM"),
+            (2, 59, "OUT_OF_TURN, number 5"),
+            (2, 119, "SUM"),
+        ]
+        said_so = [
+            (FRAME, f"frame {number} of a session is rejected; it ends at byte {byte} of the connection: {code}")
+            for number, byte, code in wanted
+        ]
+        self.same("what is said", said, said_so)
+
+    def test_lines_that_come_and_go(self):
+        """A line that came or went is said with the reason and the bytes, and counted by the status."""
+        host = Host(self.path("went.db"), "--idle", "2", "--listen", "0,name=other", scale=1.0)
+        other = next(int(row.split()[1].rsplit(":", 1)[1]) for row in host.rows if row.endswith(" other\n"))
+        with Client(host.port) as client:
+            client.whole([b"H|\\^&\r", b"L|1\r"])
+        wanted = ["closed by the other end; bytes 26, sessions 1"]
+        self.true("it went", wait_for(lambda: wanted[0] in host.says(), 60), host.says())
+        with Client(host.port) as client:
+            client.asks(ENQ + EOT)
+            self.true("a silent one is closed", client.is_closed(60))
+        wanted.append("closed after 2 s of silence; bytes 2, sessions 1")
+        with Client(other) as client:
+            for _ in range(30):
+                with Client(other):
+                    pass
+            client.asks(ENQ + EOT)
+            self.same("the host's status", host.stop(), 0)
+        rows = host.errors[-1].splitlines()
+        wanted = [f"lislab: fire: 127.0.0.1: {one}" for text in wanted for one in ("connected", text)]
+        self.same("what is said", [row for row in rows if row.startswith("lislab: fire:")], wanted)
+        shown = lislab("status", "--store", host.store)
+        data = json.loads(lislab("status", "--store", host.store, "--json").stdout)
+        self.same("connections", {one["line"]: one["came"] for one in data["lines"]}, {"fire": 2, "other": 31})
+        self.same("notices", data["notices"]["other"], {CONNECTION: 62})
+        left_out = re.findall(r"other: (\d+) notices of kind connection were not said", "\n".join(rows))
+        left_out += re.findall(r"\((\d+) notices before it were not said\)", "\n".join(rows))
+        self.same("all are said or counted", sum(map(int, left_out)), data["not_said"]["other"][CONNECTION])
+        self.true("not all are said", data["not_said"]["other"][CONNECTION] >= 40)
+        self.has("for a reader", shown.stdout, "other: notices that were not said: ")

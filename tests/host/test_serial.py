@@ -93,7 +93,7 @@ def waiting(wire, *_):
     async def run():
         await asyncio.sleep(10)
 
-    return unittest.mock.Mock(run=run, last=None, stop=wire.close)
+    return unittest.mock.Mock(run=run, last=None, stop=lambda _: wire.close())
 
 
 class Serial(HostTest):
@@ -146,7 +146,8 @@ class Serial(HostTest):
             await host.stop()
 
         with unittest.mock.patch.object(serve, "open_serial", end_of_a_pipe):
-            asyncio.run(serve_it())
+            with unittest.mock.patch.object(serve, "say"):
+                asyncio.run(serve_it())
         self.same("it is opened twice in a second and a half", len(opened), 2)
 
     def test_a_device_that_is_no_terminal(self):
@@ -200,7 +201,8 @@ class Serial(HostTest):
             for name, one in {**named, "open_serial": opened, "Line": unittest.mock.Mock(side_effect=waiting)}.items():
                 stack.enter_context(unittest.mock.patch.object(serve, name, one, create=True))
             asyncio.run(serve_it())
-        return [[str(call.args[0]) for call in named[name].call_args_list] for name in ("say", "announce")]
+        found = ([str(call.args[0]) for call in named[name].call_args_list] for name in ("say", "announce"))
+        return [[row for row in rows if not row.endswith(": open")] for rows in found]
 
     def test_a_reply_that_is_held_up(self):
         """A reply that flow control holds up until it is late, or until the next one, is dropped."""

@@ -11,6 +11,7 @@ from ..rows import Row
 from ..station import Answer, Role, Station
 from .outbox import Batch, Outbox, Site
 from .line import Line
+from .notices import OTHER, REPLY
 
 #: After a text that can't be kept, and after a session of the host's own that failed on a serial line, none starts for
 #: so many seconds: what is on its way has come by then. The most bytes of a query that are held.
@@ -19,6 +20,7 @@ QUIET, QUERY = 16.0, 1 << 16
 PIECE = 1024
 #: So many NAKs to its ENQ end a session.
 BUSY = 6
+_REPLIES = (b"\x04", b"\x06", b"\x15")
 _OVER = (Note.OPENED, Note.NOT_READY, Note.ENDED, Note.TIMED_OUT)
 
 
@@ -64,6 +66,8 @@ class TwoWayLine(Line):
         self._answers: "set[asyncio.Task[None]]" = set()
         if not self.is_tcp:  # a reply to the host that was here before may still be on its way
             self._quiet()
+        #: Whether a session of the host's own had no reply, and nothing came since.
+        self._unanswered = False
         outbox.wakes(self._woken)
 
     def _begin(self, frame: int) -> None:
@@ -99,6 +103,7 @@ class TwoWayLine(Line):
         await self._meant(self._station.timer(), 0, now)
 
     async def _heard(self, data: bytes, arrived: float) -> None:
+        self._note_late(data)
         for place, answer in self._station.hear_placed(data):
             await self._meant(answer, place, arrived)
             await self._take_turns()
@@ -116,6 +121,14 @@ class TwoWayLine(Line):
         self._set_timer()
         if self._sending is not None and self._station.phase is Phase.NEUTRAL:
             self._session_over(self._sending)
+
+    def _note_late(self, data: bytes) -> None:
+        """Says that a reply came after the session to which it belongs had ended without it."""
+        was_unanswered, self._unanswered = self._unanswered, False
+        if was_unanswered and data[:1] in _REPLIES:
+            self._counts["late_replies"] += 1
+            byte = f"byte {self._watch.heard - len(data)} of the connection is 0x{data[0]:02X}"
+            self._say(f"a reply came after the host had given its session up: {byte}", REPLY)
 
     def _asked_in_vain(self) -> None:
         """The analyzer doesn't give the line: it is asked again a few times."""
@@ -141,7 +154,7 @@ class TwoWayLine(Line):
     def _looked_up(self, done: "asyncio.Task[None]") -> None:
         self._answers.discard(done)
         if not done.cancelled() and done.exception() is not None:
-            self._say(f"a query is given up: {type(done.exception()).__name__}: {done.exception()}")
+            self._say(f"a query is given up: {type(done.exception()).__name__}: {done.exception()}", OTHER)
 
     async def _look_up(self, rows: List[Row]) -> None:
         """A query is kept: what the outbox has for it is sent as soon as the line is free."""
@@ -217,9 +230,10 @@ class TwoWayLine(Line):
             self._over_in_vain("the analyzer is busy")
             return
         self._over_in_vain(f"the session ended as {outcome.name}")
+        self._unanswered = outcome is Outcome.TIMED_OUT
         self._quiet()
         if self.is_tcp and outcome is not Outcome.SIX_TRIES:
-            self.stop()
+            self.stop("since a session of the host's own failed")
 
     def _over_in_vain(self, why: str) -> None:
         batch, self._sending = self._sending, None

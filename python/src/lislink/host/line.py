@@ -7,7 +7,7 @@ from typing import Callable, Deque, Dict, List, Optional, Sequence, Tuple
 from ..link import RECEIVER, Note, Receiver, Step
 from .commits import Committer
 from .intake import Intake, TooLong
-from .notices import Watch
+from .notices import CONNECTION, MESSAGE, REPLY, Watch
 from .options import Limits
 from .store import WHOLE, Add, Change, End, StoreError
 from .tape import Tape
@@ -94,7 +94,7 @@ class Line:
         counts: "Counter[str]",
         tape: Optional[Tape],
         frame: int,
-        say: Callable[[str], None],
+        say: Callable[[str, str], None],
         turns: Turns,
     ) -> None:
         self._wire, self._intake, self._committer, self._limits = wire, intake, committer, limits
@@ -111,6 +111,8 @@ class Line:
         #: When its turn is over, and whether a text is kept in parts.
         self._over, self._is_long = 0.0, False
         self._lost = self._stopping = False
+        #: Why the line is closed, once that is known.
+        self._closed = ""
         self._waiter: "Optional[asyncio.Future[None]]" = None
         #: When its last message was kept, by the clock on the wall.
         self.last: Optional[float] = None
@@ -168,20 +170,20 @@ class Line:
             self._wire.pause()
         self._wake()
 
-    def lost(self) -> None:
+    def lost(self, why: str = "by the other end") -> None:
         """The line is gone: what came is still heard."""
-        self._lost = True
+        self._lost, self._closed = True, self._closed or why
         self._wake()
 
-    def stop(self) -> None:
+    def stop(self, why: str) -> None:
         """Closes the line as soon as no session goes on."""
-        self._stopping = True
+        self._stopping, self._closed = True, self._closed or why
         self._wake()
 
     def give_way(self) -> None:
         """Closes the line for another, unless a session begins before."""
         self.gives_way = True
-        self.stop()
+        self.stop("for another connection")
 
     @property
     def peer(self) -> str:
@@ -216,14 +218,18 @@ class Line:
                     await self._start()
                 elif now - self.last_byte >= self._limits.idle:
                     self._counts["idle"] += 1
+                    self._closed = f"after {self._limits.idle:g} s of silence"
                     break
         except asyncio.CancelledError:
             why = "the host was stopped"
+            self._closed = self._closed or "since the host stops"
             raise
         finally:
             self._drop(why)
             self._watch.over()
             self._end()
+            came = f"bytes {self._watch.heard}, sessions {self._watch.sessions}"
+            self._say(f"closed {self._closed or 'after a fault'}; {came}", CONNECTION)
             self._wire.close()
             if self._tape is not None:
                 self._tape.close()
@@ -284,8 +290,11 @@ class Line:
 
     def _answer(self, reply: bytes, arrived: float) -> bool:
         """Sends a reply, if its sender may still be waiting for it."""
-        if self._loop.time() - arrived > self._limits.reply * self._limits.scale:
+        age = self._loop.time() - arrived
+        if age > self._limits.reply * self._limits.scale:
             self._counts["late"] += 1
+            byte = f"byte {self._watch.at} of the connection"
+            self._say(f"a reply is late and isn't sent: {byte} came {age:.1f} s ago", REPLY)
             self._restart("the reply would have been late")
             return False
         self._send(reply)
@@ -341,7 +350,7 @@ class Line:
             if change.state == WHOLE:
                 self.last = change.at
             elif change.size:
-                self._say(f"message {change.key} is {change.state}: {change.reason}")
+                self._say(f"message {change.key} is {change.state}: {change.reason}", MESSAGE)
 
     def _restart(self, reason: str) -> None:
         self._begin_anew()

@@ -2,12 +2,15 @@
 of a line than a reader takes in."""
 import time
 from collections import Counter
-from typing import Callable, Dict, Optional
+from typing import Callable, Dict, Optional, Tuple
 
 from ..link import FrameFault, Note, Step
 
-#: So many notices of a line at once, and then one each so many seconds.
+#: So many notices of a line and a kind at once, and then one each so many seconds.
 AT_ONCE, SECONDS = 10, 30.0
+#: The kinds of notices: lines that came, went or may not connect; messages that aren't whole; rejected frames; replies
+#: that were late; sessions and bytes of which nothing was understood; all else.
+CONNECTION, MESSAGE, FRAME, REPLY, SESSION, OTHER = "connection", "message", "frame", "reply", "session", "other"
 #: After so many bytes without a session that is said of a line that stays open; and after so many empty sessions.
 BYTES, EMPTY = 1000, 5
 REJECTED = (
@@ -21,37 +24,59 @@ REJECTED = (
 
 
 class Notices:
-    """Notices of all lines. What a line has too many of is counted, and the number is said with its next one."""
+    """Notices of all lines. What a line has too many of is counted by kind, and the number is said with its next one,
+    or when one could be said again."""
 
     def __init__(self, say: Callable[[str], None], clock: Callable[[], float] = time.monotonic) -> None:
         self._say, self._clock = say, clock
-        self._left: Dict[str, float] = {}
-        self._at: Dict[str, float] = {}
-        self._dropped: "Counter[str]" = Counter()
+        self._left: Dict[Tuple[str, str], float] = {}
+        self._at: Dict[Tuple[str, str], float] = {}
+        self._dropped: "Counter[Tuple[str, str]]" = Counter()
+        #: How many there were of each line and kind, and how many of these were not said.
+        self.counts: Dict[str, "Counter[str]"] = {}
+        self.not_said: Dict[str, "Counter[str]"] = {}
 
-    def say(self, name: str, text: str) -> None:
+    def say(self, name: str, text: str, kind: str = OTHER) -> None:
         """A notice of a line."""
-        now = self._clock()
-        left = self._left.get(name, AT_ONCE) + (now - self._at.get(name, now)) / SECONDS
-        self._left[name], self._at[name] = min(left, AT_ONCE), now
-        if self._left[name] < 1:
-            self._dropped[name] += 1
+        self.counts.setdefault(name, Counter())[kind] += 1
+        if not self._has_room((name, kind)):
+            self._dropped[name, kind] += 1
+            self.not_said.setdefault(name, Counter())[kind] += 1
             return
-        self._left[name] -= 1
-        dropped = self._dropped.pop(name, 0)
+        dropped = self._dropped.pop((name, kind), 0)
         self._say(f"{name}: {text}" + (f" ({dropped} notices before it were not said)" if dropped else ""))
+
+    def say_dropped(self, all_of_them: bool = False) -> None:
+        """Says how many were not said of the lines and kinds of which one could be said now, or of all."""
+        for name, kind in list(self._dropped):
+            if all_of_them or self._has_room((name, kind)):
+                self._say(f"{name}: {self._dropped.pop((name, kind))} notices of kind {kind} were not said")
+
+    def _has_room(self, key: Tuple[str, str]) -> bool:
+        """Whether another notice may be said, which then is."""
+        now = self._clock()
+        left = self._left.get(key, AT_ONCE) + (now - self._at.get(key, now)) / SECONDS
+        self._left[key], self._at[key] = min(left, AT_ONCE), now
+        if self._left[key] < 1:
+            return False
+        self._left[key] -= 1
+        return True
 
 
 class Watch:
-    """Watches a connection on which nothing is understood: bytes without a session, sessions without a frame that is
-    accepted."""
+    """Watches a connection: the first rejection of each frame, bytes without a session, sessions without a frame that
+    is accepted."""
 
-    def __init__(self, say: Callable[[str], None]) -> None:
+    def __init__(self, say: Callable[[str, str], None]) -> None:
         self._say = say
+        #: The place in the connection of the byte that was answered last, and how many sessions there were.
+        self.at = self.sessions = 0
         #: How many bytes came before those that are heard now, and these; the first one of all.
         self._before, self._data, self._first = 0, b"", b""
-        self._sessions = self._accepted = self._rejected = self._empty = 0
+        self._accepted = self._rejected = self._empty = 0
         self._why, self._said = "", False
+        #: How many frames of the session were taken, and at how many one was rejected last; less than 0 for none.
+        self._taken, self._rejected_at = 0, -1
         #: The place of the session's first byte after its ENQ, and that byte once it is there; None without a session.
         self._start: Optional[int] = None
         self._second = b""
@@ -67,9 +92,10 @@ class Watch:
 
     def step(self, place: int, step: Step) -> None:
         """What a byte meant, at this place of the bytes that are heard."""
+        self.at = self._before + place
         if step.note is Note.OPENED:
             self.session_over(place)
-            self._sessions += 1
+            self.sessions += 1
             self._start, self._second = self._before + place + 1, self._data[place + 1 : place + 2]
         elif step.note is Note.ENDED:
             self.session_over(place)
@@ -77,10 +103,17 @@ class Watch:
             self.session_over()
         elif step.note in (Note.ACCEPTED, Note.DUPLICATE):
             self._accepted += 1
+            self._taken += step.note is Note.ACCEPTED
         elif step.note in REJECTED:
-            self._rejected += 1
-            ends = f"the first one ends at byte {self._before + place} of the connection"
-            self._why = self._why or f"{ends}: {code_of(step)}"
+            self._reject(f"ends at byte {self.at} of the connection: {code_of(step)}")
+
+    def _reject(self, why: str) -> None:
+        """A frame was rejected. It comes again, and may be rejected again: that is said once."""
+        self._rejected += 1
+        self._why = self._why or why
+        if self._rejected_at != self._taken:
+            self._rejected_at = self._taken
+            self._say(f"frame {self._taken + 1} of a session is rejected; it {why}", FRAME)
 
     def session_over(self, place: Optional[int] = None) -> None:
         """A session is over, or given up: at this place of the bytes that are heard, or after them."""
@@ -89,35 +122,42 @@ class Watch:
             self._without_a_frame(start, self._before + (len(self._data) if place is None else place) - start)
         elif self._accepted:
             self._empty = 0
-        self._accepted = self._rejected = 0
-        self._why = ""
+        self._accepted = self._rejected = self._taken = 0
+        self._why, self._rejected_at = "", -1
 
     def _without_a_frame(self, start: int, size: int) -> None:
         """No frame was accepted in a session of so many bytes between its ENQ and its end."""
         if self._rejected:
-            self._say(f"no frame was accepted in a session, {self._rejected} rejected; {self._why}")
+            why = f"{self._rejected} rejected; the first one {self._why}"
+            self._say(f"no frame was accepted in a session, {why}", SESSION)
         elif size > 0:
             what = f"no frame was accepted in a session, {size} bytes came"
-            self._say(f"{what}; byte {start} of the connection is 0x{self._second[0]:02X}")
+            self._say(f"{what}; byte {start} of the connection is 0x{self._second[0]:02X}", SESSION)
         else:
             self._empty += 1
             if self._empty == EMPTY:
-                self._say(f"{EMPTY} sessions in a row had no byte after their ENQ: are the replies heard?")
+                self._say(f"{EMPTY} sessions in a row had no byte after their ENQ: are the replies heard?", SESSION)
 
     def answered(self) -> None:
         """A session of the host's own was answered."""
-        self._sessions += 1
+        self.sessions += 1
+
+    @property
+    def heard(self) -> int:
+        """How many bytes came."""
+        return self._before + len(self._data)
 
     def over(self) -> None:
         """The connection is over."""
         self.session_over()
-        self._no_session(self._before + len(self._data))
+        self._no_session(self.heard)
 
     def _no_session(self, count: int) -> None:
         """So many bytes came: if no session was among them, that is said once."""
-        if count and not self._sessions and not self._said:
+        if count and not self.sessions and not self._said:
             self._said = True
-            self._say(f"{count} bytes came without an ENQ that begins a session; byte 0 is 0x{self._first[0]:02X}")
+            what = f"{count} bytes came without an ENQ that begins a session"
+            self._say(f"{what}; byte 0 is 0x{self._first[0]:02X}", SESSION)
 
 
 def code_of(step: Step) -> str:

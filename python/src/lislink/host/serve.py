@@ -19,7 +19,7 @@ from .duplex import TwoWayLine
 from .files import write_whole
 from .intake import Intake
 from .line import Line, Ticks, Turns, Wire
-from .notices import Notices
+from .notices import CONNECTION, Notices
 from .options import Connect, Limits, Listen, Network, OptionError, Place, Serial, is_allowed, plain_address
 from .said import announce, say
 from .store import Store, StoreError
@@ -67,7 +67,10 @@ class Port:
         """Whether an address may connect now. One that may not is counted."""
         place = self.place
         networks, is_over = [*host.asked.networks, *place.allow], host.stopping or self.is_closed
-        if is_over or not is_allowed(peer, networks) or not host.has_room(place, peer):
+        is_known = is_allowed(peer, networks)
+        if not is_known:
+            host.notices.say(place.name, f"{peer}: a connection is refused: no network has it", CONNECTION)
+        if is_over or not is_known or not host.has_room(place, peer):
             host.refused += 1
             return False
         return True
@@ -127,6 +130,7 @@ class Host:
         tape = self._tape(place.name)
         given = (wire, intake, self.committer, self.limits, counts, tape, place.frame, notice, self.turns)
         line = self._line(place, peer, given)
+        notice("connected" if wire.is_tcp else "open", CONNECTION)
         task = asyncio.ensure_future(line.run())
         self.lines[line], self._places[line] = task, place
         task.add_done_callback(lambda done: self._over(line, done))
@@ -151,16 +155,17 @@ class Host:
             same = lines
         idle = [line for line in same if not line.had_session]
         if not idle:
-            self.notices.say(place.name, f"{peer}: a connection is refused, there are {len(same)} with a session")
+            text = f"{peer}: a connection is refused, there are {len(same)} with a session"
+            self.notices.say(place.name, text, CONNECTION)
             return False
         one = min(idle, key=lambda line: line.last_byte)
         text = f"{one.peer}: a connection without a session gives way to one of {peer}"
-        self.notices.say(self._places[one].name, text)
+        self.notices.say(self._places[one].name, text, CONNECTION)
         one.give_way()
         return True
 
-    def _notice(self, name: str, peer: str, text: str) -> None:
-        self.notices.say(name, text if peer == name else f"{peer}: {text}")
+    def _notice(self, name: str, peer: str, text: str, kind: str) -> None:
+        self.notices.say(name, text if peer == name else f"{peer}: {text}", kind)
 
     def _over(self, line: Line, done: "asyncio.Task[None]") -> None:
         name = self._places.pop(line).name
@@ -190,8 +195,7 @@ class Host:
             self._devices[serial.device] = self._task(self._serve_serial(serial, self._open(serial)))
         for connect in self.asked.connects:
             self._devices[connect[:2]] = self._task(self._serve_connect(connect))
-        if self.asked.status is not None:
-            self._task(self._write_status(self.asked.status))
+        self._task(self._look_now_and_then())
         self._ready = False
         self._say_ready()
 
@@ -247,7 +251,7 @@ class Host:
         new = self._change_ports()
         for line, place in self._places.items():
             if place not in now:
-                line.stop()
+                line.stop("since its settings changed")
         for serial in asked.serials:
             if serial not in before:
                 task = self._task(self._serve_serial(serial, None, self._devices.get(serial.device)))
@@ -306,8 +310,7 @@ class Host:
         try:
             await asyncio.wait_for(loop.create_connection(lambda: wire, place.host, place.port), seconds)
         except (OSError, ValueError, asyncio.TimeoutError) as error:
-            number = getattr(error, "errno", None) or 0
-            why = os.strerror(number) if number > 0 else str(error) or "no answer"
+            why = _why(error) or "no answer"
         if wire.line is None and why:
             self._say_once(place.name, f"{place.host}:{place.port}: {why}")
         elif wire.line is not None:
@@ -388,7 +391,7 @@ class Host:
         for port in self._ports:
             port.close()
         for line in list(self.lines):
-            line.stop()
+            line.stop("since the host stops")
         if self.lines:
             await asyncio.wait(list(self.lines.values()), timeout=self.limits.grace)
         for task in [*self.lines.values(), *self._others]:
@@ -398,6 +401,7 @@ class Host:
         if self.outbox is not None:
             await self.outbox.stop()
         await self.committer.stop()
+        self.notices.say_dropped(all_of_them=True)
         if self.asked.status is not None:
             await self._write_state(self.asked.status)
         self._writer.shutdown()
@@ -421,11 +425,16 @@ class Host:
             "commits": self.committer.commits,
             "failed_commits": self.committer.failed,
             "lines": lines,
+            "notices": {name: dict(one) for name, one in self.notices.counts.items()},
+            "not_said": {name: dict(one) for name, one in self.notices.not_said.items()},
         }
 
-    async def _write_status(self, path: str) -> None:
+    async def _look_now_and_then(self) -> None:
+        """Writes the state, and says how many notices were not said."""
         while True:
-            await self._write_state(path)
+            self.notices.say_dropped()
+            if self.asked.status is not None:
+                await self._write_state(self.asked.status)
             await asyncio.sleep(STATUS)
 
     async def _write_state(self, path: str) -> None:
@@ -435,6 +444,12 @@ class Host:
         if why and not self._said.get(path):
             say(f"the state can't be written: {why}")
         self._said[path] = why
+
+
+def _why(error: Exception) -> str:
+    """What is wrong, in the system's words if it has some."""
+    number = getattr(error, "errno", None) or 0
+    return os.strerror(number) if number > 0 else str(error)
 
 
 def write_state(path: str, state: Dict[str, Any]) -> str:
@@ -455,6 +470,7 @@ class TcpWire(asyncio.BufferedProtocol, Wire):
         self._host, self._end = host, end
         self._transport: Optional[asyncio.Transport] = None
         self.line: Optional[Line] = None
+        self._why = ""
 
     def connection_made(self, transport: asyncio.BaseTransport) -> None:
         """An analyzer is connected, or somebody who may not be."""
@@ -494,10 +510,11 @@ class TcpWire(asyncio.BufferedProtocol, Wire):
     def connection_lost(self, exc: Optional[Exception]) -> None:
         """The connection is gone, by whatever end."""
         if self.line is not None:
-            self.line.lost()
+            self.line.lost(self._why or ("by the other end" if exc is None else f"by a fault ({_why(exc)})"))
 
     def pause_writing(self) -> None:
         """A peer that doesn't read its replies is no analyzer."""
+        self._why = "since its replies aren't read"
         if self._transport is not None:
             self._transport.abort()
 

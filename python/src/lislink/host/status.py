@@ -14,6 +14,7 @@ OLD = 10.0
 _COLUMNS = (
     "line",
     "connected",
+    "came",
     "whole",
     "again",
     "unfinished",
@@ -79,6 +80,8 @@ def rows_of(store: Store, state: Dict[str, Any]) -> List[Dict[str, Any]]:
         row: Dict[str, Any] = {
             one: live.get(name, {}).get(one, 0) for one in ("connected", "rejected", "late", "not_kept")
         }
+        row["came"] = live.get(name, {}).get("connections", 0)
+        row["late"] += live.get(name, {}).get("late_replies", 0)
         row["line"] = name
         one = kept.get(name)
         row.update(
@@ -110,6 +113,8 @@ def data_of(store: Store, state: Dict[str, Any], cursors: List[str]) -> Dict[str
         "failed_commits": state.get("failed_commits", 0),
         "refused_connections": state.get("refused_connections", 0),
         "lines": rows_of(store, state),
+        "notices": state.get("notices", {}),
+        "not_said": state.get("not_said", {}),
         "undelivered": [{**one._asdict(), "oldest": time_text(one.oldest)} for one in waiting],
         "orders": orders,
     }
@@ -139,6 +144,9 @@ def text_of(data: Dict[str, Any]) -> str:
     for one in data["undelivered"]:
         oldest = f", the oldest of {one['oldest']}" if one["messages"] else ""
         rows.append(f"{one['cursor']}: {one['messages']} messages not delivered{oldest}")
+    for name, kinds in sorted(data["not_said"].items()):
+        counts = ", ".join(f"{count} of kind {kind}" for kind, count in sorted(kinds.items()))
+        rows.append(f"{name}: notices that were not said: {counts}")
     if data["orders"]:
         rows.append("orders: " + ", ".join(f"{count} {state}" for state, count in data["orders"].items()))
     return "\n".join([head, *rows]) + "\n"

@@ -136,7 +136,7 @@ class SerialWire(Wire):
             self.line.data(data, self._arrived())
         else:
             self.pause()
-            self.line.lost()
+            self.line.lost("since its device is gone")
 
     def write(self, data: bytes) -> None:
         self._take_back()
