@@ -182,7 +182,7 @@ class Changes(FieldTest):
             ("Ctrl-Z in a value", GOOD.replace(b"5.4", b"5\x1a4"), "--ctrl-z", "line 4: a result is changed"),
             ("an escape that wasn't", GOOD.replace(b"\\^&", b"\\^").replace(b"5.4", b"a&F&b"), "--header-3",
              "line 4: a result is changed"),
-            ("GS that an escape would swallow", GOOD.replace(b"5.4", b"&S\x1d&"), "--escape",
+            ("GS that an escape would swallow", GOOD.replace(b"5.4", b"&S\x1d&"), "--bytes",
              "line 4: a result is changed"),
             ("NUL in a sample's number", GOOD.replace(b"S7", b"S\x007"), "--nul",
              "a result has another order above it"),
@@ -192,12 +192,22 @@ class Changes(FieldTest):
                 self.same(f"{name}: status of {options[0]}", ran.status, 1)
                 self.has(f"{name}: told by {options[0]}", ran.error, words)
             self.check("mended by" not in lislab("normalize", "--explain", data=data).text, f"{name}: explained")
+        long = GOOD.replace(b"L|1", b"R|3|^^^K|" + b"x" * 66000 + b"\rC|1|I|y\rR|4|^^^NA|139\rL|1")
+        ran = lislab("normalize", "--long", data=long)
+        kept = GOOD.replace(b"L|1", b"R|4|^^^NA|139\rL|1")
+        self.same("a result that is too long, and its comment", (ran.status, ran.output), (1, kept))
+        self.has("it is told", ran.error, "line 6: a record was left out (R, 66009 bytes): it is too long to be read")
+        self.has("its comment is told", ran.error, "line 7: a record was left out (C, 7 bytes): it is on a record")
+        order = GOOD.replace(b"S7", b"S7" + b"x" * 66000)
+        self.same("an order is never left out", lislab("normalize", "--long", data=order).output, order)
         for name, data, option in (
             ("a comment after L", GOOD + b"C|1|I|made by a tool\r", "--behind-l"),
             ("NUL at the end of a record", GOOD.replace(b"mmol/L", b"mmol/L\0\0"), "--nul"),
             ("no escape is in a value", GOOD.replace(b"\\^&", b"\\^").replace(b"5.4", b"AT&T"), "--header-3"),
-            ("FF is escaped", GOOD.replace(b"5.4", b"5\xff4"), "--escape"),
-            ("GS is escaped, next to the escape's byte", GOOD.replace(b"5.4", b"&\x1d&4"), "--escape"),
+            ("FF is escaped", GOOD.replace(b"5.4", b"5\xff4"), "--bytes"),
+            ("GS is escaped, next to the escape's byte", GOOD.replace(b"5.4", b"&\x1d&4"), "--bytes"),
+            ("a comment that is too long", GOOD.replace(b"L|1", b"C|1|I|" + b"x" * 66000 + b"\rC|2|I|y\rL|1"), "--long"),
+            ("FF is escaped, by the name of old", GOOD.replace(b"5.4", b"5\xff4"), "--escape"),
             ("an order is put in", b"H|\\^&\rP|1\rR|1|^^^GLU|5.4\rL|1|N\r", "--orders"),
         ):
             ran = lislab("normalize", option, data=data)

@@ -283,9 +283,10 @@ def _add_normalize(one: argparse.ArgumentParser) -> None:
     one.add_argument(
         "--explain", action="store_true", help="say what is wrong and which options mend it; change nothing"
     )
-    one.add_argument("--all", action="store_true", help="all changes but --orders")
+    one.add_argument("--all", action="store_true", help="all changes but --orders and --long")
     for name, what in normalize.CHANGES.items():
-        one.add_argument(f"--{name}", action="store_true", help=what)
+        flags = [f"--{name}", *(["--escape"] if name == "bytes" else [])]  # as it was called first
+        one.add_argument(*flags, action="store_true", help=what)
     one.set_defaults(run=run_normalize)
 
 

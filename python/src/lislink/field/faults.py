@@ -182,9 +182,9 @@ def cause_of_record(error: MessageError, record: bytes, is_rest: bool = False) -
     if reason is Reason.UNFINISHED:
         return _unfinished(record, is_rest)
     if reason is Reason.TOO_LONG:
-        return RecordCause(
-            "long", "over 65,536 bytes without a CR" + (": records end in LF" if b"\n" in record else ""), ["--lf"]
-        )
+        if b"\n" in record:
+            return RecordCause("long", "over 65,536 bytes without a CR: records end in LF", ["--lf"])
+        return RecordCause("long", "over 65,536 bytes without a CR", ["--long"])
     return RecordCause("memory", "out of memory", [])
 
 
@@ -233,13 +233,13 @@ def _bad_record(status: Status, error: MessageError, record: bytes) -> RecordCau
         return _in_words(record) or _bad_delimiters(record)
     if status is Status.FORBIDDEN:
         byte = record[error.place : error.place + 1]
-        options = {b"\0": ["--nul"], b"\x1a": ["--ctrl-z"], b"\n": ["--lf"]}.get(byte, ["--escape"])
+        options = {b"\0": ["--nul"], b"\x1a": ["--ctrl-z"], b"\n": ["--lf"]}.get(byte, ["--bytes"])
         text = f"the byte {words(byte)} at place {error.place} is no text"
         if byte == b"\xff":
             text += " (in code page 1251 it is a letter, in Latin-1 another)"
         return RecordCause("byte", text, options)
     if status is Status.TOO_LONG:
-        return RecordCause("long", "a record of over 65,536 bytes", [])
+        return RecordCause("long", "a record of over 65,536 bytes", ["--long"])
     if in_words := _in_words(record):
         return in_words
     if record[:2] in (b"\xff\xfe", b"\xfe\xff"):

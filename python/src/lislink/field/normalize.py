@@ -4,6 +4,7 @@ import re
 from typing import Dict, Iterator, List, NamedTuple, Set, Tuple
 
 from ..message import Fault, read_all
+from ..records import RECORD_BYTES
 from .compare import changes_of_results
 from .endings import Ending, ending_of
 from .faults import cause_of_record, code_of, words
@@ -21,14 +22,15 @@ CHANGES: Dict[str, str] = {
     "blank": "empty records and blanks around a record are left out",
     "header-3": "a header with three delimiters gets '&' as the fourth",
     "header-5": "the fifth byte of a header's delimiters is left out (HL7's H|^~\\& becomes H|~^\\, which means the same)",
-    "escape": "a byte that no record holds becomes its escape, as &XFF& (FF, GS and others; not those of the link)",
+    "bytes": "a byte that no record holds becomes its escape, as &XFF& (FF, GS, others; not those of the link)",
     "behind-l": "records between L and the next header are left out",
     "last-cr": "the last record gets its CR",
     "last-l": "a message without an end gets L|1|N",
     "orders": "an order O|n is put above a result that has none, a patient P|n above an order: such results carry no sample",
+    "long": "a result, comment or maker's record of over 65,536 bytes is left out, with the comments on it",
 }
 #: Those that `--all` asks for. What they do to the results is compared, and a change is told.
-ALL = tuple(name for name in CHANGES if name != "orders")
+ALL = tuple(name for name in CHANGES if name not in ("orders", "long"))
 
 
 #: How many changed results are printed.
@@ -70,7 +72,7 @@ def normalize(data: bytes, asked: Set[str]) -> "Tuple[bytes, List[Told], Dict[st
     work = Work(data, asked)
     _bytes(work)
     records = list(_split(work))
-    for change in (_unframed, _blank, _headers, _escaped, _behind, _parents, _ends):
+    for change in (_unframed, _blank, _headers, _escaped, _behind, _parents, _long, _ends):
         records = list(change(work, records))
     out = b"".join(record + end for _, record, end in records)
     return out, sorted(work.told, key=lambda one: one.line), work.needed
@@ -222,7 +224,7 @@ def _escaped(work: Work, records: List[Record]) -> Iterator[Record]:
         if record[:1] in (b"H", b"h") and len(record) > 4:
             escape = record[4:5]
         found = _NO_TEXT.findall(record[1:])
-        if found and record[:1].isalpha() and work.wants("escape", number):
+        if found and record[:1].isalpha() and work.wants("bytes", number):
             shown = ", ".join(words(one) for one in sorted(set(found)))
             times = f", {len(found)} times" if len(found) > 1 else ""
             work.tell(number, f"bytes that no record holds were escaped: {shown}{times}")
@@ -265,6 +267,21 @@ def _parents(work: Work, records: List[Record]) -> Iterator[Record]:
             level = letter
         if letter in counts:
             counts[letter] += 1
+        yield number, record, end
+
+
+def _long(work: Work, records: List[Record]) -> Iterator[Record]:
+    """Records that are too long to be read are left out, if nothing but comments belongs to them: those go with them,
+    since they would belong to the record before."""
+    is_of_one = False
+    for number, record, end in records:
+        letter, is_long = record[:1].upper(), len(record) > RECORD_BYTES
+        is_of_one = is_of_one and letter in (b"C", b"M", b"S")
+        if (is_of_one or is_long and letter in (b"R", b"C", b"M", b"S")) and work.wants("long", number):
+            why = "it is too long to be read" if is_long else "it is on a record that was left out"
+            work.tell(number, f"a record was left out ({words(letter)}, {len(record)} bytes): {why}")
+            is_of_one = is_of_one or letter == b"R"
+            continue
         yield number, record, end
 
 
@@ -326,6 +343,8 @@ def explain(data: bytes) -> Iterator[str]:
     left, changed = list(rejected_lines(out)), list(changed_lines(data, out))
     if "orders" in more and left:
         yield f"line {more['orders']}: --orders: {CHANGES['orders']}"
+    if "long" in more and left:
+        yield f"line {more['long']}: --long: {CHANGES['long']}"
     if left:
         yield "still rejected with these options:" if needed else "no option mends it without a loss:"
         yield from ("  " + line for line in left)
