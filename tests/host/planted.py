@@ -107,7 +107,7 @@ FAULTS = {
         "self._open[key].cut(self._open[key].good)",
     ),
     "test_lines.Lines.test_cuts": Edit(
-        "host/line.py", "self._receiver.hear_placed(data)", "self._receiver.hear_placed(data[:64])"
+        "host/line.py", "self._receiver.hear_placed(heard.data)", "self._receiver.hear_placed(heard.data[:64])"
     ),
     "test_lines.Lines.test_keeping": Edit(
         "host/line.py",
@@ -166,6 +166,21 @@ FAULTS = {
         "            self.apply(units)\n",
         "            self.apply(units)\n"
         '            self.__dict__.setdefault("units", []).append((units, bytes(1 << 17)))\n',
+    ),
+    "test_mends.Mends.test_each": Edit(
+        "host/mend.py", "for name in NAMES if name in self.names or name in more)", "for name in more)"
+    ),
+    "test_mends.Mends.test_line_feeds": Edit(
+        "host/feeds.py", "(int(digits, 16) + count) % 256", "sum(body[1:].replace(_LF, _VT) + end) % 256"
+    ),
+    "test_mends.Mends.test_long": Edit(
+        "host/mend.py", 'normalize(body, set(names) - {"long"})', "normalize(body, set(names))"
+    ),
+    "test_mends.Mends.test_not_mended": Edit("host/mend.py", "if any(changed_lines(body, kept)):", "if not kept:"),
+    "test_mends.Mends.test_query": Edit("host/duplex.py", "Asking().take(body[: QUERY + 1])", "Asking().take(body[:9])"),
+    "test_mends.Mends.test_repeats": Edit("host/line.py", "_join(part, await self._ends_now(text))", "_join(part, [])"),
+    "test_mends.Mends.test_words": Edit(
+        "host/options.py", "tuple(one for one in NAMES if one in given)", "tuple(given)"
     ),
     "test_notices.Said.test_a_bad_line": Edit(
         "host/notices.py",
@@ -320,7 +335,7 @@ FAULTS = {
     "test_out.OutOfSqlite.test_delivery_to_a_directory": Edit(
         "host/deliver.py", 'take_lock(path + ".lock")', 'take_lock(f"{path}.{os.getpid()}.lock")'
     ),
-    "test_out.OutOfSqlite.test_export": Edit("host/export.py", "line(own + row)", "line(row + own)"),
+    "test_out.OutOfSqlite.test_export": Edit("host/export.py", "[*own, *row, mended]", "[*row, *own, mended]"),
     "test_out.OutOfSqlite.test_one_host": Edit(
         "host/files.py", "fcntl.LOCK_EX | fcntl.LOCK_NB", "fcntl.LOCK_SH | fcntl.LOCK_NB"
     ),
@@ -508,6 +523,12 @@ HARMLESS = (
         '                "again": one.again if one else 0,\n                "whole": one.whole if one else 0,\n',
     ),
     Edit("host/options.py", "return found[1] or found[2] or", "return found[2] or found[1] or"),
+    Edit(
+        "host/mend.py",
+        "        names = self.names if one.is_over else self.names - _MAKES_AN_END\n",
+        "        names = self.names - (frozenset() if one.is_over else _MAKES_AN_END)\n",
+    ),
+    Edit("host/feeds.py", "    count = body.count(_LF)\n", "    count = len(body.split(_LF)) - 1\n"),
     Edit("host/lines.py", "for key in _WHERE if key in given]", "for key in _WHERE if given.get(key) is not None]"),
 )
 

@@ -107,10 +107,22 @@ def flood(client, seconds):
 GOOD = b"".join(TEXTS)
 #: Sessions with what can't be read: their texts, how many whole messages they have, and the reasons.
 ODD = (
-    ([b"H|\\^&\r", b"R|1\r", b"L|1\r"], 0, ["record 2, from byte 6: no record above it that it belongs to: R"]),
+    (
+        [b"H|\\^&\r", b"R|1\r", b"L|1\r"],
+        0,
+        ["record 2, from byte 6: no record above it that it belongs to: R; mend=orders would deliver it"],
+    ),
     ([b"P|1\r", *TEXTS], 1, ["record 1, from byte 0: no header before it"]),
-    ([b"H|\\^&\r", b"P|1\r", *TEXTS], 1, ["a header comes before its L record, after record 2, at byte 10"]),
-    ([b"H|\\^&\r", b"P|1\r"], 0, ["the session ended before its L record, after record 2, at byte 10"]),
+    (
+        [b"H|\\^&\r", b"P|1\r", *TEXTS],
+        1,
+        ["a header comes before its L record, after record 2, at byte 10; mend=last-l would deliver it"],
+    ),
+    (
+        [b"H|\\^&\r", b"P|1\r"],
+        0,
+        ["the session ended before its L record, after record 2, at byte 10; mend=last-l would deliver it"],
+    ),
     ([GOOD[:20], GOOD[20:]], 1, []),
     ([GOOD + GOOD], 2, []),
     ([GOOD + GOOD[:30], GOOD[30:]], 2, []),

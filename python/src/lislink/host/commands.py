@@ -87,21 +87,21 @@ def _add_serve(one: argparse.ArgumentParser) -> None:
         "--listen",
         action="append",
         default=[],
-        metavar="HOST:PORT[,name=..][,frame=..][,encoding=..][,orders=ask|send][,none=..]",
+        metavar="HOST:PORT[,name=..][,frame=..][,encoding=..][,orders=ask|send][,none=..][,mend=..]",
         help="a TCP port; HOST is 127.0.0.1 if it isn't named",
     )
     one.add_argument(
         "--connect",
         action="append",
         default=[],
-        metavar="HOST:PORT[,name=..][,frame=..][,encoding=..][,orders=ask|send][,none=..]",
+        metavar="HOST:PORT[,name=..][,frame=..][,encoding=..][,orders=ask|send][,none=..][,mend=..]",
         help="a TCP port of an analyzer or a terminal server that listens: the host connects to it",
     )
     one.add_argument(
         "--serial",
         action="append",
         default=[],
-        metavar="DEVICE:SPEED[,name=..][,mode=8N1][,flow=..][,frame=..][,encoding=..][,orders=..][,none=..]",
+        metavar="DEVICE:SPEED[,name=..][,mode=8N1][,flow=..][,frame=..][,encoding=..][,orders=..][,none=..][,mend=..]",
         help="a serial line",
     )
     _allow(one)

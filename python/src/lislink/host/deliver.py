@@ -91,6 +91,7 @@ def to_command(words: List[str], form: str, seconds: float) -> Callable[[Stored]
             "LISLAB_LINE": one.line,
             "LISLAB_PEER": one.peer,
             "LISLAB_AGAIN_OF": one.again_of or "",
+            "LISLAB_MENDED": one.reason,
         }
         try:
             data = (write(None) or b"") + write(one)

@@ -3,7 +3,7 @@ station decides what each byte means, and for whom it is; here is when a session
 first."""
 import asyncio
 from collections import deque
-from typing import Any, Deque, List, Optional
+from typing import Any, Deque, List, Optional, Sequence
 
 from ..link import LinkError, Note, Outcome, Phase
 from ..records import MessageError, Reader
@@ -12,6 +12,7 @@ from ..station import Answer, Role, Station
 from .outbox import Batch, Outbox, Site
 from .line import Line
 from .notices import OTHER, REPLY
+from .store import Add, Change
 
 #: After a text that can't be kept, and after a session of the host's own that failed on a serial line, none starts for
 #: so many seconds: what is on its way has come by then. The most bytes of a query that are held.
@@ -104,9 +105,11 @@ class TwoWayLine(Line):
 
     async def _heard(self, data: bytes, arrived: float) -> None:
         self._note_late(data)
-        for place, answer in self._station.hear_placed(data):
-            await self._meant(answer, place, arrived)
-            await self._take_turns()
+        for heard in self._feeds.take(data):
+            for place, answer in self._station.hear_placed(heard.data):
+                step = answer.step and self._feeds.restored(heard, answer.step)
+                await self._meant(answer._replace(step=step), place + heard.start, arrived)
+                await self._take_turns()
 
     async def _meant(self, answer: Answer, place: int, arrived: float) -> None:
         if answer.step is not None:
@@ -142,14 +145,23 @@ class TwoWayLine(Line):
         try:
             for start in range(0, len(text), PIECE):
                 for rows in self._asking.take(text[start : start + PIECE]):
-                    self._counts["queries"] += 1
-                    task = asyncio.ensure_future(self._look_up(rows))
-                    self._answers.add(task)
-                    task.add_done_callback(self._looked_up)
+                    self._asks(rows)
                 await self._take_turns()
         except MessageError:
             self._asking.over()
         return True
+
+    def _took_mended(self, key: str, changes: Sequence[Change]) -> None:
+        body = b"".join(one.body for one in changes if isinstance(one, Add) and one.key == key)
+        for rows in Asking().take(body[: QUERY + 1]):
+            self._asks(rows)
+
+    def _asks(self, rows: List[Row]) -> None:
+        """A message that holds a query is kept."""
+        self._counts["queries"] += 1
+        task = asyncio.ensure_future(self._look_up(rows))
+        self._answers.add(task)
+        task.add_done_callback(self._looked_up)
 
     def _looked_up(self, done: "asyncio.Task[None]") -> None:
         self._answers.discard(done)

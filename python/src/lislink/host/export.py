@@ -8,8 +8,8 @@ from ..message import Fault, read_all
 from .store import UNFINISHED, UNREADABLE, WHOLE, Store, Stored
 
 FORMATS = ("records", "json", "csv", "tsv")
-#: The columns of a table before those of a result.
-OWN = ("number", "line", "received", "again_of")
+#: The columns of a table before those of a result, and after them.
+OWN, LAST = ("number", "line", "received", "again_of"), ("mended",)
 
 
 class Wanted(NamedTuple):
@@ -58,14 +58,16 @@ def writer_of(form: str) -> Callable[[Optional[Stored]], bytes]:
     if form == "json":
         return lambda one: b"" if one is None else (json.dumps(_as_data(one), ensure_ascii=False) + "\n").encode()
     columns = table.columns_of(list(table.USUAL))
-    line = table.line_writer(form, [*(table.Column(name, lambda where: "") for name in OWN), *columns])
+    own, last = ([table.Column(name, lambda where: "") for name in names] for names in (OWN, LAST))
+    line = table.line_writer(form, [*own, *columns, *last])
 
     def rows(one: Optional[Stored]) -> bytes:
         if one is None:
             return line(None).encode()
         own = ["" if one.number is None else str(one.number), one.line, time_text(one.ended), one.again_of or ""]
         found = table.rows_of(one.body, columns, one.encoding)
-        return "".join(line(own + row) for row, _ in found if row is not None).encode()
+        mended = one.reason if one.state == WHOLE else ""
+        return "".join(line([*own, *row, mended]) for row, _ in found if row is not None).encode()
 
     return rows
 
@@ -83,6 +85,8 @@ def _as_data(one: Stored) -> "dict[str, object]":
     }
     if one.state == WHOLE:
         found = [each for each in read_all(one.body, one.encoding) if not isinstance(each, Fault)]
+        if one.reason:
+            row["mended"] = one.reason
         row["message"] = found[0].message.to_dict() if found else None
     else:
         row["reason"] = one.reason

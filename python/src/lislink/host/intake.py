@@ -2,7 +2,7 @@
 is decided by the proved reader."""
 import hashlib
 import re
-from typing import Callable, Iterator, List, Optional
+from typing import Callable, Dict, Iterable, Iterator, List, Optional, Tuple
 
 from ..link import Status
 from ..records import MessageError, Reader, Reason
@@ -30,8 +30,10 @@ class TooLong(Exception):
 class _Message:
     """A message that isn't whole yet: its digest so far, its records so far, and why it can't be read."""
 
-    def __init__(self, key: str) -> None:
-        self.key, self.reader, self.digest = key, Reader(), hashlib.sha256()
+    def __init__(self, begin: Begin, body: Optional[bytearray]) -> None:
+        self.key, self.begin, self.reader, self.digest = begin.key, begin, Reader(), hashlib.sha256()
+        #: All its bytes, as long as they aren't too many to be mended.
+        self.body = body
         self.places = self.size = self.records = 0
         self.fault = ""
         #: Where its last record ended, in bytes of the message.
@@ -39,10 +41,14 @@ class _Message:
 
 
 class Intake:
-    """What is to be kept of each text of a line. Of a message it holds the record that isn't ended, and no more."""
+    """What is to be kept of each text of a line. Of a message it holds so many bytes at most until it ends, and those
+    of one that isn't whole until they are taken out of `bodies`: how it began, and its bytes, by its key."""
 
-    def __init__(self, line: str, peer: str, encoding: str, most: int, clock: Callable[[], float]) -> None:
+    def __init__(
+        self, line: str, peer: str, encoding: str, most: int, clock: Callable[[], float], hold: int = 0
+    ) -> None:
         self.line, self.peer, self.encoding, self.most, self.clock = line, peer, encoding, most, clock
+        self._hold, self.bodies = hold, {}  # type: int, Dict[str, Tuple[Begin, bytes]]
         self._message: Optional[_Message] = None
         #: The ends of messages that aren't known to be kept.
         self._ends: List[End] = []
@@ -60,15 +66,28 @@ class Intake:
                 self._ends += [change for change in changes if isinstance(change, End)]
                 yield changes
 
+    def also(self, ends: Iterable[End]) -> None:
+        """Messages that others were made of end with these changes too."""
+        self._ends += ends
+
     def kept(self) -> None:
         """All changes so far are kept."""
         self._ends = []
+
+    def unread(self) -> Optional[bytes]:
+        """The bytes of the message that goes on, if not all of them could be read."""
+        one = self._message
+        if one is None or not one.body or not (one.fault or one.size > one.ended):
+            return None
+        return bytes(one.body)
 
     def undo(self, reason: str) -> List[Change]:
         """The changes if those that were given last aren't kept: their messages are not whole."""
         ends, self._ends = self._ends, []
         undone = [one._replace(state=UNFINISHED, reason=reason) if one.state == WHOLE else one for one in ends]
-        return [*undone, *self.drop(reason)]
+        changes = [*undone, *self.drop(reason)]
+        self.bodies = {}
+        return changes
 
     def drop(self, reason: str) -> List[Change]:
         """The changes if no more comes of the message: what was acknowledged of it stays, with the reason."""
@@ -80,8 +99,9 @@ class Intake:
         return changes
 
     def _begin(self, changes: List[Change]) -> None:
-        self._message = _Message(new_key())
-        changes.append(Begin(self._message.key, self.line, self.peer, self.encoding, self.clock()))
+        begin = Begin(new_key(), self.line, self.peer, self.encoding, self.clock())
+        self._message = _Message(begin, bytearray() if self._hold else None)
+        changes.append(begin)
 
     def _take_some(self, text: bytes, changes: List[Change]) -> int:
         """Takes the bytes of a text that belong to the message: how many, perhaps none if the message ends."""
@@ -132,11 +152,16 @@ class Intake:
         one.places += 1
         one.size += len(body)
         one.digest.update(body)
+        if one.body is not None:
+            one.body += body
+            one.body = one.body if one.size <= self._hold else None
 
     def _end(self, state: str, reason: str, changes: List[Change]) -> None:
         one, self._message = self._message, None
         assert one is not None
         one.reader.close()
+        if state != WHOLE and one.body:
+            self.bodies[one.key] = one.begin, bytes(one.body)
         changes.append(End(one.key, self.line, state, reason, one.digest.hexdigest(), one.size, self.clock()))
 
 

@@ -6,15 +6,19 @@ from typing import Callable, Deque, Dict, List, Optional, Sequence, Tuple
 
 from ..link import RECEIVER, Note, Receiver, Step
 from .commits import Committer
+from .feeds import AsItComes, LineFeeds
 from .intake import Intake, TooLong
-from .notices import CONNECTION, MESSAGE, REPLY, Watch
+from .mend import LINE_FEEDS, Bodies, Mender, seems_over
+from .notices import CONNECTION, MESSAGE, REJECTED, REPLY, Watch
 from .options import Limits
-from .store import WHOLE, Add, Change, End, StoreError
+from .store import MENDED, WHOLE, Add, Change, End, StoreError
 from .tape import Tape
 
 #: How many bytes may wait to be heard before the line is read no further; for how many seconds one line is heard before
 #: the others have their turn; how many bytes of a long text are kept in one row.
 WAITING, TURN, TOGETHER = 1 << 16, 0.005, 1 << 14
+#: EOT after so many seconds without a frame is that of an analyzer that heard no reply.
+BROKEN = 10.0
 #: What ends a session, and what that makes of a message without its L record.
 _ENDS = {
     Note.OPENED: "a new session began before its L record",
@@ -22,6 +26,7 @@ _ENDS = {
     Note.ENDED: "the session ended before its L record",
     Note.TIMED_OUT: "the analyzer fell silent before its L record",
 }
+_TAKEN = (Note.ACCEPTED, Note.DUPLICATE)
 _COUNTED = {
     Note.OPENED: "sessions",
     Note.ACCEPTED: "frames",
@@ -96,10 +101,15 @@ class Line:
         frame: int,
         say: Callable[[str, str], None],
         turns: Turns,
+        mender: Mender,
     ) -> None:
+        self._mender = mender
+        #: Whether the last frame was taken, and when a reply went out last.
+        self._is_taken, self._replied = False, 0.0
         self._wire, self._intake, self._committer, self._limits = wire, intake, committer, limits
         self._counts, self._tape, self._say, self._turns = counts, tape, say, turns
         self._watch = Watch(say)
+        self._feeds = LineFeeds(frame) if mender.names & LINE_FEEDS else AsItComes()
         self._loop = asyncio.get_running_loop()
         self._begin(frame)
         self._pieces: Deque[Tuple[float, bytes]] = deque()
@@ -145,10 +155,12 @@ class Line:
         await self._step(step, now)
 
     async def _heard(self, data: bytes, arrived: float) -> None:
-        for place, step in self._receiver.hear_placed(data):
-            self._watch.step(place, step)
-            await self._step(step, arrived)
-            await self._take_turns()
+        for heard in self._feeds.take(data):
+            for place, found in self._receiver.hear_placed(heard.data):
+                step = self._feeds.restored(heard, found)
+                self._watch.step(place + heard.start, step)
+                await self._step(step, arrived)
+                await self._take_turns()
 
     def _start_at(self) -> Optional[float]:
         """When a session of the host's own may start, if it has something to send."""
@@ -277,7 +289,9 @@ class Line:
         if step.note in _COUNTED:
             self._counts[_COUNTED[step.note]] += 1
         if step.note in _ENDS:
-            self._drop(_ENDS[step.note])
+            is_over = self._is_taken and arrived - self._replied < BROKEN * self._limits.scale
+            self._drop(_ENDS[step.note], is_over and step.note is Note.ENDED)
+        self._is_taken = step.note in _TAKEN or (self._is_taken and step.note not in REJECTED)
         if step.text is not None and not await self._keep(step.text):
             return
         if step.reply and not self._answer(step.reply, arrived):
@@ -298,6 +312,7 @@ class Line:
             self._restart("the reply would have been late")
             return False
         self._send(reply)
+        self._replied = self._loop.time()
         return True
 
     def _send(self, data: bytes) -> None:
@@ -325,15 +340,34 @@ class Line:
         """Keeps a text, one part of its changes after another: however many they are, no other line waits for all."""
         part: List[Change] = []
         for changes in self._intake.take(text):
+            changes = await self._mended(changes, True)
             if len(part) + len(changes) > self._committer.part:
                 self._is_long = True
                 await self._put(part)
                 part = []
             _join(part, changes)
             await self._take_turns()
+        _join(part, await self._ends_now(text))
         if part:
             await self._put(part)
         self._is_long = False
+
+    async def _ends_now(self, text: bytes) -> List[Change]:
+        """The changes that end a message that is whole with what the line mends, though it can't be read: it is
+        delivered before its last text is acknowledged."""
+        body = self._intake.unread() if self._mender.names and seems_over(text) else None
+        if body is None or not await self._mender.is_whole(body):
+            return []
+        return await self._mended(self._intake.drop("no CR ended its last record"), True)
+
+    async def _mended(self, changes: List[Change], is_over: bool) -> List[Change]:
+        """The same changes, with what is made of the messages that aren't whole; whether the analyzer ended them."""
+        bodies, self._intake.bodies = self._intake.bodies, {}
+        if not bodies:
+            return changes
+        made = await self._mender.of_all(changes, bodies, is_over)
+        self._intake.also(one for one in made if isinstance(one, End) and one.state == WHOLE and one.reason)
+        return made
 
     async def _put(self, part: Sequence[Change]) -> None:
         await self._committer.put(part, self._is_long)
@@ -349,8 +383,16 @@ class Line:
             self._counts["messages" if change.state == WHOLE else "quarantined"] += 1
             if change.state == WHOLE:
                 self.last = change.at
+                if change.reason:
+                    self._counts["mended"] += 1
+                    self._took_mended(change.key, changes)
             elif change.size:
-                self._say(f"message {change.key} is {change.state}: {change.reason}", MESSAGE)
+                state = "" if change.reason.startswith(MENDED) else f"{change.state}: "
+                self._say(f"message {change.key} is {state}{change.reason}", MESSAGE)
+
+
+    def _took_mended(self, key: str, changes: Sequence[Change]) -> None:
+        """A message was mended by these changes, and is kept or will be."""
 
     def _restart(self, reason: str) -> None:
         self._begin_anew()
@@ -361,11 +403,22 @@ class Line:
         self._watch.session_over()
         self._drop(reason)
 
-    def _drop(self, reason: str) -> None:
+    def _drop(self, reason: str, is_over: bool = False) -> None:
+        """No more comes of the message that goes on; whether the analyzer ended it so."""
         changes = self._intake.drop(reason)
-        if changes:
-            self._committer.put_later(changes, self._is_long)
-            self._note_ends(changes)
+        if self._intake.bodies:
+            bodies, self._intake.bodies = self._intake.bodies, {}
+            self._mender.later(self._end_later(changes, bodies, is_over))
+        elif changes:
+            self._put_later(changes)
+
+    async def _end_later(self, changes: List[Change], bodies: Bodies, is_over: bool) -> None:
+        """Ends a message for which nobody waits, with what is made of it."""
+        self._put_later(await self._mender.of_all(changes, bodies, is_over))
+
+    def _put_later(self, changes: Sequence[Change]) -> None:
+        self._committer.put_later(changes, self._is_long)
+        self._note_ends(changes)
 
 
 class Ticks:

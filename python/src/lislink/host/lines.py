@@ -119,7 +119,7 @@ class _File:
         where, values = None, {}  # type: Any, Dict[str, Any]
         for key, word in given.items():
             try:
-                if key != "allow" and "\n" in word:
+                if key not in ("allow", "mend") and "\n" in word:
                     raise OptionError(f"{key} takes one word, and a row that begins with a blank belongs to it")
                 if key == kind:
                     where = split(word)

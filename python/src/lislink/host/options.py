@@ -5,6 +5,7 @@ import re
 from typing import Any, Callable, Dict, List, NamedTuple, Sequence, Tuple, Union
 
 from ..link import FRAME_TEXT, LONG_FRAME_TEXT
+from .mend import NAMES, SAME
 
 Network = Union[ipaddress.IPv4Network, ipaddress.IPv6Network]
 _MODES = re.compile(r"[5-8][NEO][12]$")
@@ -30,6 +31,7 @@ class Listen(NamedTuple):
     orders: str = ""
     none: str = NOTHINGS[0]
     allow: Tuple[Network, ...] = ()
+    mend: Tuple[str, ...] = ()
 
 
 class Connect(NamedTuple):
@@ -42,6 +44,7 @@ class Connect(NamedTuple):
     encoding: str = LATIN
     orders: str = ""
     none: str = NOTHINGS[0]
+    mend: Tuple[str, ...] = ()
 
 
 class Serial(NamedTuple):
@@ -56,6 +59,7 @@ class Serial(NamedTuple):
     encoding: str = LATIN
     orders: str = ""
     none: str = NOTHINGS[0]
+    mend: Tuple[str, ...] = ()
 
 
 Place = Union[Listen, Connect, Serial]
@@ -78,6 +82,9 @@ def _split(word: str, known: Sequence[str]) -> Tuple[str, Dict[str, str]]:
     given: Dict[str, str] = {}
     for one in rest:
         name, equals, value = one.partition("=")
+        if not equals and value == "" and list(given)[-1:] == ["mend"]:  # another name of it
+            given["mend"] += "," + one
+            continue
         if not equals or name not in known or not value or name in given:
             raise OptionError(f"{word}: options are {', '.join(f'{name}=' for name in known)}, not {one}")
         given[name] = value
@@ -126,6 +133,15 @@ def _allow(words: str) -> Tuple[Network, ...]:
     return tuple(networks_of(words.replace(",", " ").split(), "allow"))
 
 
+def _mend(words: str) -> Tuple[str, ...]:
+    """Names of mends, each once, in the order in which they are made."""
+    given = [SAME.get(one, one) for one in words.replace(",", " ").replace("+", " ").split()]
+    for one in given:
+        if one not in NAMES:
+            raise OptionError(f"a line mends {', '.join(NAMES)}, not {one}")
+    return tuple(one for one in NAMES if one in given)
+
+
 #: What reads each setting of a line; those that its words may have, on TCP and on a serial line.
 READS: Dict[str, Callable[[str], Any]] = {
     "mode": _mode,
@@ -135,8 +151,9 @@ READS: Dict[str, Callable[[str], Any]] = {
     "allow": _allow,
     "orders": _orders,
     "none": _none,
+    "mend": _mend,
 }
-TCP_WORDS = ("frame", "encoding", "orders", "none")
+TCP_WORDS = ("frame", "encoding", "orders", "none", "mend")
 SERIAL_WORDS = ("mode", "flow", *TCP_WORDS)
 
 
@@ -169,21 +186,21 @@ def split_device(word: str) -> Tuple[str, int]:
 
 
 def listen_of(word: str) -> Listen:
-    """`HOST:PORT[,name=..][,frame=240|63993][,encoding=..][,orders=ask|send][,none=..]`."""
+    """`HOST:PORT[,name=..][,frame=240|63993][,encoding=..][,orders=ask|send][,none=..][,mend=..]`."""
     where, given = _split(word, ("name", *TCP_WORDS))
     host, port = split_address(where)
     return Listen(host, port, given.pop("name", f"{host}:{port}"), **_read(given))
 
 
 def connect_of(word: str) -> Connect:
-    """`HOST:PORT[,name=..][,frame=240|63993][,encoding=..][,orders=ask|send][,none=..]`."""
+    """`HOST:PORT[,name=..][,frame=240|63993][,encoding=..][,orders=ask|send][,none=..][,mend=..]`."""
     where, given = _split(word, ("name", *TCP_WORDS))
     host, port = split_peer(where)
     return Connect(host, port, given.pop("name", f"{host}:{port}"), **_read(given))
 
 
 def serial_of(word: str) -> Serial:
-    """`DEVICE:SPEED[,name=..][,mode=8N1][,flow=none|rtscts|xonxoff][,frame=..][,encoding=..][,orders=..][,none=..]`."""
+    """`DEVICE:SPEED[,name=..][,mode=8N1][,flow=none|rtscts|xonxoff]`, and the settings of the others."""
     where, given = _split(word, ("name", *SERIAL_WORDS))
     device, speed = split_device(where)
     return Serial(device, speed, given.pop("name", device), **_read(given))

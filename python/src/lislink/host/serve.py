@@ -11,7 +11,7 @@ import sys
 import time
 from collections import Counter
 from concurrent.futures import ThreadPoolExecutor
-from typing import Any, Callable, Dict, List, NamedTuple, Optional, Sequence, Set, Union
+from typing import Any, Callable, Dict, List, NamedTuple, Optional, Sequence, Set, Tuple, Union
 
 from .commits import Committer
 from .outbox import Outbox, Site
@@ -19,6 +19,7 @@ from .duplex import TwoWayLine
 from .files import write_whole
 from .intake import Intake
 from .line import Line, Ticks, Turns, Wire
+from .mend import Mender
 from .notices import CONNECTION, Notices
 from .options import Connect, Limits, Listen, Network, OptionError, Place, Serial, is_allowed, plain_address
 from .said import announce, say
@@ -120,15 +121,20 @@ class Host:
         #: Set for a moment when the file of lines was read again.
         self._changed = asyncio.Event()
         self._others: "Set[asyncio.Task[None]]" = set()
+        #: What mends messages, by the names of lines; and how many of each line a setting would deliver.
+        self._menders: List[Tuple[str, Mender]] = []
+        self._mending = ThreadPoolExecutor(1, "mending")
+        self.would: Dict[str, "Counter[str]"] = {}
 
     def add(self, wire: Wire, place: Place, peer: str) -> Line:
         """A line that is connected, heard from now on."""
         counts = self.counts.setdefault(place.name, Counter())
         counts["connections"] += 1
-        intake = Intake(place.name, peer, place.encoding, self.limits.message, time.time)
+        mender = self._mender(place)
+        intake = Intake(place.name, peer, place.encoding, self.limits.message, time.time, mender.most)
         notice = functools.partial(self._notice, place.name, peer)
         tape = self._tape(place.name)
-        given = (wire, intake, self.committer, self.limits, counts, tape, place.frame, notice, self.turns)
+        given = (wire, intake, self.committer, self.limits, counts, tape, place.frame, notice, self.turns, mender)
         line = self._line(place, peer, given)
         notice("connected" if wire.is_tcp else "open", CONNECTION)
         task = asyncio.ensure_future(line.run())
@@ -142,6 +148,14 @@ class Host:
         self.seats += 1
         site = Site(place.name, peer, place.encoding, place.orders == "send", place.none, str(self.seats))
         return TwoWayLine(self.outbox, site, *given)
+
+    def _mender(self, place: Place) -> Mender:
+        """What mends the messages of a line, by its settings as they are now."""
+        one = next((one for name, one in self._menders if name == place.name and one.names == set(place.mend)), None)
+        if one is None:
+            one = Mender(place.mend, self._mending, self.would.setdefault(place.name, Counter()))
+            self._menders.append((place.name, one))
+        return one
 
     def has_room(self, place: Listen, peer: str) -> bool:
         """Whether an address may have another line. If there are too many, of it or of all, the one that is silent for
@@ -397,6 +411,9 @@ class Host:
         for task in [*self.lines.values(), *self._others]:
             task.cancel()
         await asyncio.gather(*self.lines.values(), *self._others, return_exceptions=True)
+        for _, mender in self._menders:
+            await mender.finish()
+        self._mending.shutdown()
         self.ticks.stop()
         if self.outbox is not None:
             await self.outbox.stop()
@@ -425,6 +442,7 @@ class Host:
             "commits": self.committer.commits,
             "failed_commits": self.committer.failed,
             "lines": lines,
+            "would": {name: dict(one) for name, one in self.would.items() if one},
             "notices": {name: dict(one) for name, one in self.notices.counts.items()},
             "not_said": {name: dict(one) for name, one in self.notices.not_said.items()},
         }

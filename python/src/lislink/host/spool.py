@@ -18,6 +18,7 @@ from typing import Any, Dict, Iterator, List, Optional, Sequence, Set, Tuple
 from .files import Appended, is_locked, sync_folder, take_lock, write_whole
 from .store import (
     LEFT,
+    MENDED,
     OPEN,
     UNFINISHED,
     UNREADABLE,
@@ -289,11 +290,12 @@ class SpoolStore(Store):
 
 
 def _count(line: str, rows: List[Tuple[str, Dict[str, Any]]]) -> LineCount:
-    states = [state for state, _ in rows]
+    states = [state for state, about in rows if not str(about.get("reason", "")).startswith(MENDED)]
     again = sum(1 for _, about in rows if about.get("again_of"))
     last = max((about["ended"] for state, about in rows if state == WHOLE), default=None)
     some = [states.count(state) for state in (UNFINISHED, UNREADABLE, OPEN)]
-    return LineCount._make([line, states.count(WHOLE), again, *some, last])
+    mended = sum(1 for state, about in rows if state == WHOLE and about.get("reason"))
+    return LineCount._make([line, states.count(WHOLE), again, *some, last, mended])
 
 
 class _Open(Appended):

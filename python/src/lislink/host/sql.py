@@ -5,6 +5,7 @@ from typing import Any, ContextManager, Iterator, List, Optional, Sequence, Tupl
 
 from .store import (
     LEFT,
+    MENDED,
     OPEN,
     UNFINISHED,
     UNREADABLE,
@@ -143,9 +144,9 @@ class SqlStore(Store):
                 (end.line, end.digest, WHOLE),
             ).fetchone()
             done = self.run(
-                "UPDATE message SET state = ?, digest = ?, size = ?, ended = ?, again_of = ?, number = ?"
+                "UPDATE message SET state = ?, reason = ?, digest = ?, size = ?, ended = ?, again_of = ?, number = ?"
                 " WHERE key = ? AND state = ?",
-                (WHOLE, end.digest, end.size, end.at, first and first[0], number, end.key, OPEN),
+                (WHOLE, end.reason, end.digest, end.size, end.at, first and first[0], number, end.key, OPEN),
             )
             if done.rowcount != 1:
                 raise StoreError(f"message {end.key} isn't open")
@@ -184,12 +185,14 @@ class SqlStore(Store):
 
     def counts(self) -> List[LineCount]:
         left, gone = self._left()
-        wanted = ["number IS NOT NULL", "again_of IS NOT NULL", f"state = '{UNFINISHED}' OR {left}"]
-        wanted += [f"state = '{UNREADABLE}'", f"state = '{OPEN}' AND NOT {left}"]
+        plain = f"AND substr(reason, 1, {len(MENDED)}) <> '{MENDED}'"
+        wanted = ["number IS NOT NULL", "again_of IS NOT NULL", f"state = '{UNFINISHED}' {plain} OR {left}"]
+        wanted += [f"state = '{UNREADABLE}' {plain}", f"state = '{OPEN}' AND NOT {left}"]
+        wanted += ["number IS NOT NULL AND reason <> ''"]
         sums = ", ".join(f"sum(CASE WHEN {one} THEN 1 ELSE 0 END)" for one in wanted)
         rows = self.read(
             f"SELECT line, {sums}, max(CASE WHEN number IS NOT NULL THEN ended END)"
             " FROM message GROUP BY line ORDER BY line",
             (*gone, *gone),
         )
-        return [LineCount._make([row[0], *(int(one) for one in row[1:6]), row[6]]) for row in rows]
+        return [LineCount._make([row[0], *(int(one) for one in row[1:6]), row[7], int(row[6])]) for row in rows]

@@ -17,6 +17,7 @@ _COLUMNS = (
     "came",
     "whole",
     "again",
+    "mended",
     "unfinished",
     "unreadable",
     "rejected",
@@ -88,6 +89,7 @@ def rows_of(store: Store, state: Dict[str, Any]) -> List[Dict[str, Any]]:
             {
                 "whole": one.whole if one else 0,
                 "again": one.again if one else 0,
+                "mended": one.mended if one else 0,
                 "unfinished": one.unfinished if one else 0,
                 "unreadable": one.unreadable if one else 0,
                 "last": time_text(one.last) if one else "",
@@ -113,6 +115,7 @@ def data_of(store: Store, state: Dict[str, Any], cursors: List[str]) -> Dict[str
         "failed_commits": state.get("failed_commits", 0),
         "refused_connections": state.get("refused_connections", 0),
         "lines": rows_of(store, state),
+        "would": state.get("would", {}),
         "notices": state.get("notices", {}),
         "not_said": state.get("not_said", {}),
         "undelivered": [{**one._asdict(), "oldest": time_text(one.oldest)} for one in waiting],
@@ -144,6 +147,8 @@ def text_of(data: Dict[str, Any]) -> str:
     for one in data["undelivered"]:
         oldest = f", the oldest of {one['oldest']}" if one["messages"] else ""
         rows.append(f"{one['cursor']}: {one['messages']} messages not delivered{oldest}")
+    for name, settings in sorted(data["would"].items()):
+        rows += [f"{name}: {setting} would deliver {count} messages" for setting, count in sorted(settings.items())]
     for name, kinds in sorted(data["not_said"].items()):
         counts = ", ".join(f"{count} of kind {kind}" for kind, count in sorted(kinds.items()))
         rows.append(f"{name}: notices that were not said: {counts}")

@@ -7,6 +7,8 @@ from typing import Iterator, List, NamedTuple, Optional, Sequence, Union
 #: The states of a message; why one is unfinished that a host left open.
 OPEN, WHOLE, UNFINISHED, UNREADABLE = "open", "whole", "unfinished", "unreadable"
 LEFT = "the host was stopped"
+#: How the reason begins of a message that isn't whole and of which another was made, which is.
+MENDED = "mended: "
 
 
 class StoreError(Exception):
@@ -33,7 +35,8 @@ class Add(NamedTuple):
 
 
 class End(NamedTuple):
-    """A message is whole, or nothing more comes of it: why, and the digest and the size of all its bytes."""
+    """A message is whole, or nothing more comes of it: why, or what was mended in it, and the digest and the size of
+    all its bytes."""
 
     key: str
     line: str
@@ -49,7 +52,8 @@ Unit = Sequence[Change]
 
 
 class Stored(NamedTuple):
-    """A message that is kept. A whole one has a number: numbers rise in the order in which messages became whole."""
+    """A message that is kept. A whole one has a number: numbers rise in the order in which messages became whole. The
+    reason of a whole one is what was mended in it."""
 
     number: Optional[int]
     key: str
@@ -65,7 +69,7 @@ class Stored(NamedTuple):
 
 
 class LineCount(NamedTuple):
-    """What is kept of a line."""
+    """What is kept of a line. Of those that aren't whole the ones don't count of which a whole one was made."""
 
     line: str
     whole: int
@@ -74,6 +78,8 @@ class LineCount(NamedTuple):
     unreadable: int
     open: int
     last: Optional[float]
+    #: How many whole ones were mended.
+    mended: int = 0
 
 
 class Store(abc.ABC):

@@ -1,0 +1,201 @@
+"""Messages that can't be read, mended: by the changes of `lislab normalize` that a line's setting names, and no others.
+What came stays as it came; each mended message is one of its own, with what was changed in it. A change that would give
+another result, or lose one, is not made."""
+import asyncio
+import hashlib
+import re
+import time
+from collections import Counter
+from concurrent.futures import Executor
+from typing import Any, Callable, Coroutine, FrozenSet, Iterator, List, Mapping, NamedTuple, Optional, Sequence, Set
+from typing import Tuple, TypeVar
+
+from ..field.normalize import CHANGES, Told, changed_lines, normalize
+from ..message import Fault, read_all
+from .store import MENDED, WHOLE, Add, Begin, Change, End, new_key
+
+#: The names of mends, and one that means the same as another.
+NAMES, SAME = tuple(CHANGES), {"escape": "bytes"}
+#: Those of lines whose frames may hold LF.
+LINE_FEEDS = frozenset(("lf", "crlf"))
+#: The most bytes of a message that is mended, and of one of which it is tried which setting would mend it.
+MOST, MOST_TRIED = 4 << 20, 1 << 18
+#: So many messages of a line are tried at once, and then one each so many seconds.
+AT_ONCE, SECONDS = 5, 10.0
+#: So many changes of a message are named one by one.
+MOST_NAMED = 50
+#: A record L near the end of a text.
+_LAST = re.compile(rb"(?:\A|[^0-9A-Za-z])[0-7]?[Ll]\0?[^0-9A-Za-z]")
+#: Those that end a message, which may go on as long as its session does; and that which makes an end of its own.
+_AT_THE_END, _MAKES_AN_END = frozenset(("last-l", "last-cr")), frozenset(("last-l",))
+
+
+T = TypeVar("T")
+#: How messages began that aren't whole, and their bytes, by their keys.
+Bodies = Mapping[str, Tuple[Begin, bytes]]
+
+
+class Mended(NamedTuple):
+    """The messages that are made of one that can't be read, and what was changed."""
+
+    messages: List[bytes]
+    told: List[str]
+
+
+def seems_over(text: bytes) -> bool:
+    """Whether a text seems to have the last record of a message near its end."""
+    return _LAST.search(text[-64:]) is not None
+
+
+def mended(body: bytes, names: FrozenSet[str]) -> Optional[Mended]:
+    """The messages that these changes make; None if they aren't whole then, or if a result is another or gone."""
+    if not names:
+        return None
+    out, told, _ = normalize(body, set(names))
+    messages = _messages(out)
+    if not messages:
+        return Mended([], list(_words(body, told))) if _is_after_l(body, names) else None
+    # A record that is left out since it is too long is meant to be gone: all else must be as it was.
+    kept = normalize(body, set(names) - {"long"})[0] if "long" in names else out
+    if any(changed_lines(body, kept)):
+        return None
+    return Mended(messages, list(_words(body, told)))
+
+
+def lacking(body: bytes, names: FrozenSet[str], is_over: bool) -> List[str]:
+    """The changes without which the message isn't whole, besides these, if there are such; each is tried."""
+    asked, tried = names, [one for one in NAMES if is_over or one not in _MAKES_AN_END]
+    while not _messages(normalize(body, set(asked))[0]):
+        needed = normalize(body, set(asked))[2]
+        fresh = [one for one in tried if one in needed and one not in asked]
+        if not fresh:
+            return []
+        asked |= {fresh[0]}
+    for name in tried:
+        if name in asked - names and mended(body, asked - {name}):
+            asked -= {name}
+    return [name for name in NAMES if name in asked - names] if mended(body, asked) else []
+
+
+def _messages(data: bytes) -> List[bytes]:
+    """The messages of these bytes; none if one of them can't be read."""
+    found = list(read_all(data))
+    if any(isinstance(one, Fault) for one in found):
+        return []
+    return [data[one.start : one.ends[-1]] for one in found if not isinstance(one, Fault)]
+
+
+def _is_after_l(body: bytes, names: FrozenSet[str]) -> bool:
+    """Whether these are comments and makers' records alone, which came after a message."""
+    letters = {one.strip(b" \t\n")[:1].upper() for one in body.split(b"\r") if one.strip(b" \t\n")}
+    return "behind-l" in names and bool(letters) and letters <= {b"C", b"M", b"S"}
+
+
+def _words(body: bytes, told: Sequence[Told]) -> Iterator[str]:
+    """What was changed, each with its records and where the first of them begins; the same of records in a row is
+    one."""
+    starts = [0, *(one.end() for one in re.finditer(rb"\r\n|\r|\n", body))]
+    rows: List[Tuple[int, int, str]] = []
+    for line, what in told:
+        if rows and rows[-1][2] == what and rows[-1][1] + 1 == line:
+            rows[-1] = rows[-1][0], line, what
+        else:
+            rows.append((line, line, what))
+    for first, last, what in rows[:MOST_NAMED]:
+        place = starts[first - 1] if first <= len(starts) else len(body)
+        which = f"record {first}" if first == last else f"records {first} to {last}"
+        yield f"{which}, from byte {place}: {what}"
+    if len(rows) > MOST_NAMED:
+        yield f"{len(rows) - MOST_NAMED} changes more"
+
+
+class Ended(NamedTuple):
+    """A message that ended and isn't whole: how it began, its bytes, its end, and whether the analyzer ended it."""
+
+    begin: Begin
+    body: bytes
+    end: End
+    is_over: bool
+
+
+class Mender:
+    """What is made of a line's messages that aren't whole. The work is done in another thread."""
+
+    def __init__(self, names: Sequence[str], executor: Optional[Executor], would: "Counter[str]") -> None:
+        self.names, self._executor = frozenset(names), executor
+        #: How many messages each setting would have delivered.
+        self._would = would
+        self._left, self._at = float(AT_ONCE), time.monotonic()
+        self._tasks: "Set[asyncio.Task[None]]" = set()
+
+    @property
+    def most(self) -> int:
+        """The most bytes of a message that are to be held until it ends."""
+        return MOST if self.names else MOST_TRIED
+
+    async def of_all(self, changes: Sequence[Change], bodies: Bodies, is_over: bool) -> List[Change]:
+        """These changes, with those of the messages that are made of the ones that end and aren't whole."""
+        made: List[Change] = []
+        for one in changes:
+            if isinstance(one, End) and one.key in bodies:
+                made += await self.changes(Ended(*bodies[one.key], one, is_over))
+            else:
+                made.append(one)
+        return made
+
+    async def changes(self, one: Ended) -> List[Change]:
+        """The changes that end a message, with those of the messages that are made of it."""
+        names = self.names if one.is_over else self.names - _MAKES_AN_END
+        found = await self._run(mended, one.body, names)
+        if found is not None:
+            return made_of(one, found)
+        if not one.is_over or not self._may_try(len(one.body)):
+            return [one.end]
+        more = await self._run(lacking, one.body, names, one.is_over)
+        if not more:
+            return [one.end]
+        setting = "mend=" + ",".join(name for name in NAMES if name in self.names or name in more)
+        self._would[setting] += 1
+        return [one.end._replace(reason=f"{one.end.reason}; {setting} would deliver it")]
+
+    async def is_whole(self, body: bytes) -> bool:
+        """Whether a message that still goes on is whole already, with the changes that its line names."""
+        found = await self._run(mended, body, self.names - _AT_THE_END)
+        return bool(found is not None and found.messages)
+
+    async def _run(self, work: Callable[..., T], *words: Any) -> T:
+        return await asyncio.get_running_loop().run_in_executor(self._executor, work, *words)
+
+    def later(self, work: Coroutine[Any, Any, None]) -> None:
+        """Does work for which the line doesn't wait."""
+        task: "asyncio.Task[None]" = asyncio.ensure_future(work)
+        self._tasks.add(task)
+        task.add_done_callback(self._tasks.discard)
+
+    async def finish(self) -> None:
+        """Done when all that was begun is done."""
+        while self._tasks:
+            await asyncio.wait(list(self._tasks))
+
+    def _may_try(self, size: int) -> bool:
+        now = time.monotonic()
+        self._left, self._at = min(AT_ONCE, self._left + (now - self._at) / SECONDS), now
+        if size > MOST_TRIED or self._left < 1:
+            return False
+        self._left -= 1
+        return True
+
+
+def made_of(one: Ended, found: Mended) -> List[Change]:
+    """The changes that keep mended messages, before the one that ends what they are made of: nothing of it is lost if
+    the host dies in between."""
+    changes: List[Change] = []
+    keys = [new_key() for _ in found.messages]
+    reason = f"mended from {one.end.key}: " + "; ".join(found.told)
+    for key, body in zip(keys, found.messages):
+        digest = hashlib.sha256(body).hexdigest()
+        changes.append(one.begin._replace(key=key))
+        changes.append(Add(key, 0, one.end.at, body))
+        changes.append(End(key, one.end.line, WHOLE, reason, digest, len(body), one.end.at))
+    made = f"delivered as {', '.join(keys)}" if keys else "records after L are left out"
+    return [*changes, one.end._replace(reason=f"{MENDED}{made}; {one.end.reason}")]

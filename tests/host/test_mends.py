@@ -1,0 +1,288 @@
+"""Makers' deviations that a line mends: a message that can't be read without a setting and is delivered with it, what
+came kept as it came. Each sample of samples/mends is an analyzer's session, named by the mend that it needs."""
+import csv
+import glob
+import io
+import json
+import os
+import random
+from typing import NamedTuple
+
+from lislink import Receiver, frame_bytes
+from lislink.capture import read_capture
+from lislink.host import lines, options
+from lislink.host.feeds import LineFeeds
+from lislink.link import FRAME_TEXT, LONG_FRAME_TEXT
+from tests.host.hosts import ROOT, Found, Host, HostTest, lislab, wait_for
+from tests.host.plain import frame
+from tests.host.test_lines import ACK, ENQ, EOT, NAK, Client, frames
+
+SAMPLES = os.path.join(ROOT, "samples", "mends")
+GOOD = (b"H|\\^&|||Analyzer\r", b"P|1||4711\r", b"O|1|S7||^^^GLU\r", b"R|1|^^^GLU|5.4|mmol/L\r", b"L|1|N\r")
+
+
+class Case(NamedTuple):
+    """A deviation: the settings without which it can't be read, the message that is delivered, and a part of its mark;
+    whether it is acknowledged without them."""
+
+    mend: str
+    mark: str
+    message: bytes = b"".join(GOOD)
+    is_taken: bool = True
+    without: str = ""
+
+
+def changed(place, record):
+    """The good message with another record."""
+    return b"".join([*GOOD[:place], record, *GOOD[place + 1 :]])
+
+
+CASES = {
+    "bom": Case("bom", "record 1, from byte 0: the byte order mark was left out"),
+    "nul": Case("nul", "record 2, from byte 17: NUL was left out, 2 times"),
+    "ctrl-z": Case("ctrl-z", "record 4, from byte 42: Ctrl-Z was left out"),
+    "cr-words": Case("cr-words", "record 1, from byte 0: <CR> became a CR"),
+    "unframe": Case("unframe", "records 1 to 5, from byte 0: link bytes around the record were left out"),
+    "crlf": Case("crlf", "records 1 to 5, from byte 0: CR LF became CR", is_taken=False),
+    "lf": Case("lf", "records 1 to 5, from byte 0: LF became CR", is_taken=False),
+    "blank": Case("blank", "record 2, from byte 17: blanks before the letter were left out"),
+    "header-3": Case("header-3", "record 1, from byte 0: the header's fourth delimiter '&' was put in"),
+    "header-5": Case("header-5", "record 1, from byte 0: the header's fifth delimiter byte '~' was left out"),
+    "bytes": Case(
+        "bytes",
+        "record 5, from byte 64: bytes that no record holds were escaped: <GS>, <FF>, 2 times",
+        b"".join(GOOD[:4]) + "C|1|I|гемолиз: дол".encode("cp1251") + b"&XFF& &X1D& 3|G\r" + GOOD[4],
+    ),
+    "behind-l": Case("header-3,behind-l", "record 6, from byte 69: a record after L was left out", without="header-3"),
+    "last-cr": Case("last-cr", "record 5, from byte 64: the last record got its CR"),
+    "last-l": Case("last-l", "record 5, from byte 64: L was put at the end"),
+    "orders": Case(
+        "orders",
+        "record 3, from byte 27: a record O was put above",
+        changed(2, b"O|1\r"),
+    ),
+}
+
+
+def units(name):
+    """What the analyzer of a sample sends, unit by unit."""
+    with open(os.path.join(SAMPLES, f"{name}.capture"), "rb") as file:
+        return [line.data for _, line in read_capture(file.read()).lines if line.mark == ">"]
+
+
+def text_of(unit):
+    """The text of a frame."""
+    return unit[2:-5]
+
+
+def ports_of(host):
+    """The ports of a host by the names of its lines."""
+    rows = [row.split(" ", 2) for row in host.rows if row.startswith("listening")]
+    return {name.strip(): int(where.rsplit(":", 1)[1]) for _, where, name in rows}
+
+
+def play(port, sent):
+    """The replies to units."""
+    with Client(port) as client:
+        replies = [client.asks(unit, seconds=60) for unit in sent[:-1]]
+        client.send(sent[-1])
+    return replies
+
+
+class Mends(HostTest):
+    """A host whose lines mend, and others that don't."""
+
+    def test_each(self):
+        """Each mend: without it the message isn't delivered, with it it is; what came is kept as it came."""
+        self.same("each name has a sample", sorted([*CASES, "long"]), sorted(options.NAMES))
+        self.are_samples()
+        words = []
+        for name, case in CASES.items():
+            words += ["--listen", f"0,name={name} bare" + (f",mend={case.without}" if case.without else "")]
+            words += ["--listen", f"0,name={name},mend={case.mend}"]
+        host = Host(self.path("each.db"), *words, scale=1.0, listen=False)
+        ports = ports_of(host)
+        for name, case in CASES.items():
+            sent = units(name)
+            self.same(f"{name}: acknowledged", play(ports[name], sent), [ACK] * (len(sent) - 1))
+            replies = play(ports[f"{name} bare"], sent)
+            self.same(f"{name}: without the setting", set(replies), {ACK} if case.is_taken else {ACK, NAK})
+        self.same("the host's status", host.stop(), 0)
+        found = Found(host.store)
+        for name, case in CASES.items():
+            self.is_mended(name, case, found)
+        self.are_shown(host.store, found)
+
+    def is_mended(self, name, case, found):
+        """Whether the message is delivered with the setting, and not without it; what came is there as it came."""
+        came = b"".join(text_of(unit) for unit in units(name)[1:-1])
+        whole = [one for one in found.whole if one.line in (name, f"{name} bare")]
+        self.same(f"{name}: delivered", [(one.line, one.body) for one in whole], [(name, case.message)])
+        for one in whole:
+            self.has(f"{name}: it is marked", one.reason, case.mark)
+        kept = {one.line: one for one in found.others if one.line.split(" ")[0] == name}
+        self.same(f"{name}: what came", kept[name].body, came)
+        self.has(f"{name}: what was made of it", kept[name].reason, f"mended: delivered as {whole[0].key}; ")
+        if case.is_taken:
+            self.same(f"{name}: what came without the setting", kept[f"{name} bare"].body, came)
+            named = f"; mend={case.mend} would deliver it"
+            self.has(f"{name}: the setting is named", kept[f"{name} bare"].reason, named)
+
+    def are_shown(self, store, found):
+        """Whether the status counts them, and an export marks them."""
+        data = json.loads(lislab("status", "--store", store, "--json").stdout)
+        wanted = "whole", "mended", "unfinished", "unreadable"
+        rows = {row["line"]: [row[one] for one in wanted] for row in data["lines"]}
+        for name, case in CASES.items():
+            self.same(f"{name}: {wanted}", rows[name], [1, 1, 0, 0])
+            *counts, first, second = rows[f"{name} bare"]
+            self.same(f"{name} bare: whole, mended, others", [*counts, first + second], [0, 0, int(case.is_taken)])
+            if case.is_taken:
+                self.same(f"{name}: what would", data["would"][f"{name} bare"], {f"mend={case.mend}": 1})
+        shown = lislab("status", "--store", store).stdout
+        self.has("for a reader", shown, "\nbytes bare: mend=bytes would deliver 1 messages\n")
+        exported = [json.loads(row) for row in lislab("export", "--store", store).stdout.splitlines()]
+        self.same("marks of an export", [one["mended"] for one in exported], [one.reason for one in found.whole])
+        table = list(csv.reader(io.StringIO(lislab("export", "--store", store, "--format", "csv").stdout)))
+        self.same("marks of a table", [row[-1] for row in table], ["mended", *(one.reason for one in found.whole)])
+
+    def are_samples(self):
+        """The samples are those of the table, and each frame of them is right."""
+        names = [os.path.basename(path)[: -len(".capture")] for path in glob.glob(os.path.join(SAMPLES, "*.capture"))]
+        self.same("samples", sorted(names), sorted(CASES))
+        for name in names:
+            for number, unit in enumerate(units(name)[1:-1], 1):
+                total = b"%02X" % (sum(unit[1:-4]) % 256)
+                self.same(f"{name}: frame {number}", (unit[1], unit[-4:]), (48 + number % 8, total + b"\r\n"))
+
+    def test_long(self):
+        """A record of over 65,536 bytes: the others are delivered, it is named with its place, its bytes are kept."""
+        long, after = b"R|2|^^^GRAPH|" + b"x" * 70000 + b"\r", b"R|3|^^^NA|139\r"
+        records = [*GOOD[:4], long, b"C|1|I|its comment\r", after, GOOD[4]]
+        words = ["--listen", "0,name=bare,frame=63993", "--listen", "0,name=long,frame=63993,mend=long"]
+        host = Host(self.path("long.db"), *words, scale=1.0, listen=False)
+        order = [*GOOD[:2], GOOD[2].replace(b"S7", b"S7" + b"x" * 70000), *GOOD[3:]]
+        for name, sent in (("bare", records), ("long", records), ("long", order)):
+            self.same(f"{name}: acknowledged", set(play(ports_of(host)[name], long_units(sent))), {ACK})
+        self.same("the host's status", host.stop(), 0)
+        found = Found(host.store)
+        self.same("delivered", [one.body for one in found.whole], [b"".join([*GOOD[:4], after, GOOD[4]])])
+        mark = f"record 5, from byte 64: a record was left out (R, {len(long) - 1} bytes): it is too long to be read; "
+        mark += f"record 6, from byte {64 + len(long)}: a record was left out (C, 17 bytes): "
+        mark += "it is on a record that was left out"
+        self.same("it is marked", found.whole[0].reason.partition(": ")[2], mark)
+        bodies = [b"".join(records), b"".join(records), b"".join(order)]
+        self.same("what came is kept", [one.body for one in found.others], bodies)
+        reasons = [one.reason for one in found.others]
+        self.has("the setting is named", reasons[0], "mend=long would deliver it")
+        self.true("no order is left out", reasons[2].startswith("record 3, from byte 27: "), reasons[2])
+
+    def test_not_mended(self):
+        """What would change a result isn't mended; a session that breaks off, or a frame that stays rejected, isn't the
+        end of a message."""
+        value = [*GOOD[:3], b"R|1|^^^GLU|5\x004|mmol/L\r", GOOD[4]]
+        words = ["--listen", "0,name=nul,mend=nul", "--listen", "0,name=last-l,mend=last-l"]
+        host = Host(self.path("not.db"), *words, "--listen", "0,name=bare", scale=1.0, listen=False)
+        ports, sent = ports_of(host), frames(GOOD[:4])
+        play(ports["nul"], [ENQ, *frames(value), EOT])
+        play(ports["bare"], [ENQ, *frames(value), EOT])
+        with Client(ports["last-l"]) as client:
+            self.same("a line that is closed", [client.asks(unit) for unit in (ENQ, *sent)], [ACK] * 5)
+        with Client(ports["last-l"]) as client:
+            bad = sent[3].replace(b"5.4", b"5.5")
+            self.same("a bad frame", [client.asks(unit) for unit in (ENQ, *sent[:3], bad)], [ACK] * 4 + [NAK])
+            client.send(EOT)
+            self.same("a new session", [client.asks(unit) for unit in (ENQ, *sent, ENQ)], [ACK] * 6)
+        self.true("all are kept", wait_for(lambda: len(Found(host.store).others) == 5, 60))
+        self.same("the host's status", host.stop(), 0)
+        found = Found(host.store)
+        self.same("none is delivered", found.whole, [])
+        self.same("none is said to be", [one.reason for one in found.others if "mend" in one.reason], [])
+
+    def test_repeats(self):
+        """A message that comes again is mended again, and marked, whenever a host is killed in between."""
+        for store in (self.path("again.db"), "spool:" + self.path("again.spool")):
+            host = Host(store, "--listen", "0,name=bytes,mend=escape", scale=1.0, listen=False)
+            for turn in range(3):
+                with Client(ports_of(host)["bytes"]) as client:
+                    replies = [client.asks(unit, seconds=60) for unit in units("bytes")[:-1]]
+                    host.kill()  # before EOT: what is acknowledged is delivered
+                self.same(f"{store[:5]}: acknowledged {turn}", set(replies), {ACK})
+                self.same(f"{store[:5]}: delivered {turn}", len(Found(store).whole), turn + 1)
+                host.start()
+            self.same("the host's status", host.stop(), 0)
+            found = Found(store)
+            self.same(f"{store[:5]}: delivered", {one.body for one in found.whole}, {CASES["bytes"].message})
+            self.same(f"{store[:5]}: unmarked repeats", found.unmarked(), [])
+            self.same(f"{store[:5]}: counted", [one.mended for one in found.counts], [3])
+            self.same(f"{store[:5]}: kept as they came", len({one.body for one in found.others}), 1)
+
+    def test_query(self):
+        """A query that is mended is answered."""
+        words = ["--listen", "0,name=q,orders=ask,mend=header-3,crlf"]
+        host = Host(self.path("query.db"), *words, scale=1.0, listen=False)
+        with Client(ports_of(host)["q"]) as client:
+            texts = [b"H|\\^\r\n", b"Q|1|^S7||ALL\r\n", b"L|1|N\r\n"]
+            self.same("a query", [client.asks(unit) for unit in (ENQ, *map(frame, (1, 2, 3), texts))], [ACK] * 4)
+            client.send(EOT)
+            self.same("the host answers", client.heard(1, 60), ENQ)
+        self.same("the host's status", host.stop(), 0)
+
+    def test_line_feeds(self):
+        """Texts with LF, cut anywhere: those that come are those that were sent, byte by byte, and no damaged one."""
+        rng = random.Random(11)
+        for turn in range(400):
+            texts = [random_text(rng) for _ in range(rng.randrange(1, 9))]
+            sent = [ENQ, *(frame(number, text) for number, text in enumerate(texts, 1)), EOT]
+            self.same(f"{turn}: {texts}", heard(rng, b"".join(sent)), texts)
+            damaged = rng.randrange(1, len(texts) + 1)
+            byte = rng.randrange(len(sent[damaged]))
+            one = bytearray(sent[damaged])
+            one[byte] ^= 1 << rng.randrange(8)
+            found = heard(rng, b"".join([*sent[:damaged], bytes(one), *sent[damaged + 1 :]]))
+            self.true(f"{turn}: a damaged frame {bytes(one)}", found in (texts[: damaged - 1], texts), repr(found))
+
+    def test_words(self):
+        """The names of a line's mends, in its words and in a file of lines."""
+        place = options.listen_of("0,mend=last-l,escape,name=a")
+        self.same("names in their order", (place.mend, place.name), (("bytes", "last-l"), "a"))
+        self.same("with a sign between them", options.serial_of("/dev/x:9600,mend=crlf+lf").mend, ("crlf", "lf"))
+        with open(self.path("mends.lines"), "w", encoding="ascii") as file:
+            file.write("[a]\nlisten = 1\nmend = last-l, bytes\n  nul\n[b]\nlisten = 2\nmend = lfs\n")
+        found = lines.read_lines(file.name, [])
+        shown = "a: listen=127.0.0.1:1 frame=240 encoding=iso8859-1 mend=nul,bytes,last-l"
+        self.same("as it is shown", [lines.text_of(one) for one in found.places], [shown])
+        self.same("a fault", found.faults, [f"{file.name}:7: a line mends {', '.join(options.NAMES)}, not lfs"])
+
+
+def random_text(rng):
+    """A text with LFs or none."""
+    parts = b"\n", b"\r\n", b"\r", b"H|1", b"8F\r\n", b"A", b"\x0b", b"L|1|N"
+    return b"".join(rng.choices(parts, k=rng.randrange(1, 9)))
+
+
+def heard(rng, data):
+    """The texts that a receiver delivers of bytes that are cut anywhere; it hears as many as came."""
+    texts, count, at, feeds = [], 0, 0, LineFeeds(FRAME_TEXT)
+    with Receiver() as receiver:
+        while at < len(data):
+            size = rng.randrange(1, rng.choice((3, 30, 300)))
+            for one in feeds.take(data[at : at + size]):
+                count += len(one.data)
+                found = [feeds.restored(one, step) for step in receiver.hear(one.data)]
+                texts += [step.text for step in found if step.text is not None]
+            at += size
+    assert count == len(data), (count, len(data))
+    return texts
+
+
+def long_units(records):
+    """The units of a session whose records are long, each in one text."""
+    sent, number = [ENQ], 0
+    for record in records:
+        starts = range(0, len(record), LONG_FRAME_TEXT)
+        for start in starts:
+            number += 1
+            part = record[start : start + LONG_FRAME_TEXT]
+            sent.append(frame_bytes(number % 8, start == starts[-1], part, frame_limit=LONG_FRAME_TEXT))
+    return [*sent, EOT]
