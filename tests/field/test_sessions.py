@@ -221,6 +221,14 @@ class Sessions(FieldTest):
             self.same(f"{name}: status", status, 1)
             self.has(name, shown, "a terminal server speaks Telnet on this line")
             self.check("the sender" not in shown, f"{name}: the sender isn't blamed", shown)
+        asked, answered = b"\xff\xfb\x01\xff\xfd\x03", "fffe01fffb03"
+        status, shown = self.shown(asked, answered, *session(1, 2))
+        self.has("requests", shown, "4 times a request of Telnet (IAC with WILL, WONT, DO or DONT) is on the line")
+        self.has("what helps", shown, "or the line of the host to `telnet=yes`")
+        self.check("bytes outside" not in shown.split("What looks wrong")[1], "its bytes are named once", shown)
+        letters = frame_bytes(1, True, b"H|\\^&|||" + "яы ям ять".encode("cp1251") + b"\r")
+        shown = self.shown(b"\x05", "06", letters, "06")[1]
+        self.check("Telnet" not in shown, "letters of code page 1251 are no request", shown)
         text = frame_bytes(1, True, b"H|\\^&\r\0P|1\rL|1\r")
         self.check("Telnet" not in self.shown(b"\x05", "06", text, "06", b"\x04")[1], "one NUL after CR isn't Telnet's")
 

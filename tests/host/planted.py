@@ -450,6 +450,17 @@ FAULTS = {
     "test_status.Status.test_a_state_that_cannot_be_written": Edit(
         "host/serve.py", "if why and not self._said.get(path):", "if why:"
     ),
+    "test_telnet.Terminals.test_connect": Edit("host/telnet.py", "option in (_BINARY, _GO_AHEAD)", "option >= 0"),
+    "test_telnet.Terminals.test_cuts": Edit(
+        "host/telnet.py", "self._state = 0 if byte == _SE else _SB", "self._state = 0"
+    ),
+    "test_telnet.Terminals.test_orders": Edit("host/telnet.py", 'rb"\\r(?!\\n)", b"\\r\\0"', 'rb"\\r(?!\\n)", b"\\r"'),
+    "test_telnet.Terminals.test_without": Edit(
+        "host/serve.py", "Telnet() if self._end.place.telnet else None", "Telnet()"
+    ),
+    "test_telnet.Terminals.test_words": Edit(
+        "host/options.py", 'if word not in ("yes", "no"):', 'if word not in ("yes", "no", "on"):'
+    ),
     "test_turns.Turns.test_parts": Edit(
         "host/commits.py",
         "one = [self._long.popleft()] if self._long else []",
@@ -527,6 +538,11 @@ HARMLESS = (
         "host/mend.py",
         "        names = self.names if one.is_over else self.names - _MAKES_AN_END\n",
         "        names = self.names - (frozenset() if one.is_over else _MAKES_AN_END)\n",
+    ),
+    Edit(
+        "host/telnet.py",
+        "        self._state = byte if byte in _ANSWERS or byte == _SB else 0\n",
+        "        self._state = byte if byte == _SB or byte in _ANSWERS else 0\n",
     ),
     Edit("host/feeds.py", "    count = body.count(_LF)\n", "    count = len(body.split(_LF)) - 1\n"),
     Edit("host/lines.py", "for key in _WHERE if key in given]", "for key in _WHERE if given.get(key) is not None]"),

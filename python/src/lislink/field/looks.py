@@ -17,6 +17,7 @@ def looks_of(ladder: Ladder) -> List[Look]:
     for one in (
         _no_protocol,
         _telnet,
+        _negotiation,
         _no_text,
         _none_accepted,
         _same_number,
@@ -152,9 +153,28 @@ def _telnet(ladder: Ladder) -> Iterator[Look]:
             "telnet",
             "bad",
             f"{_times(count)} NUL follows CR, and no CR is without: a terminal server speaks Telnet on this line",
-            "set its port to raw TCP (no Telnet, or binary mode); the analyzer is not at fault",
+            "set its port to raw TCP (no Telnet, or binary mode), or the line of the host to `telnet=yes`; "
+            "the analyzer is not at fault",
             _lines(rows)[:5],
         )
+
+
+#: A request of Telnet: IAC, WILL to DONT, and an option as terminal servers have them.
+_REQUEST = re.compile(rb"\xff[\xfb-\xfe][\x00-\x1f\x22-\x27\x2c]")
+
+
+def _negotiation(ladder: Ladder) -> Iterator[Look]:
+    """Telnet's requests between the frames of either side."""
+    rows = [row for row in ladder.rows if row.kind not in ("frame", "bad") and _REQUEST.search(row.raw)]
+    count = sum(len(_REQUEST.findall(row.raw)) for row in rows)
+    yield from _of_rows(
+        rows,
+        "telnet-requests",
+        "bad",
+        f"{_times(count)} a request of Telnet (IAC with WILL, WONT, DO or DONT) is on the line: a terminal server "
+        "speaks Telnet",
+        "set its port to raw TCP, or the line of the host to `telnet=yes`",
+    )
 
 
 def _is_telnet(ladder: Ladder) -> bool:
@@ -395,7 +415,7 @@ def _dropped(ladder: Ladder) -> Iterator[Look]:
 
 def _outside(ladder: Ladder) -> Iterator[Look]:
     rows = [row for row in ladder.rows if row.kind == "outside"]
-    data = b"".join(row.raw for row in rows)
+    data = _REQUEST.sub(b"", b"".join(row.raw for row in rows))
     if not data:
         return
     if re.search(rb"[0-7][HPORCQL][|!-/]", data):

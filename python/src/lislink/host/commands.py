@@ -87,14 +87,14 @@ def _add_serve(one: argparse.ArgumentParser) -> None:
         "--listen",
         action="append",
         default=[],
-        metavar="HOST:PORT[,name=..][,frame=..][,encoding=..][,orders=ask|send][,none=..][,mend=..]",
+        metavar="HOST:PORT[,name=..][,frame=..][,encoding=..][,orders=..][,none=..][,mend=..][,telnet=yes]",
         help="a TCP port; HOST is 127.0.0.1 if it isn't named",
     )
     one.add_argument(
         "--connect",
         action="append",
         default=[],
-        metavar="HOST:PORT[,name=..][,frame=..][,encoding=..][,orders=ask|send][,none=..][,mend=..]",
+        metavar="HOST:PORT[,name=..][,frame=..][,encoding=..][,orders=..][,none=..][,mend=..][,telnet=yes]",
         help="a TCP port of an analyzer or a terminal server that listens: the host connects to it",
     )
     one.add_argument(

@@ -146,12 +146,15 @@ class Mender:
     async def changes(self, one: Ended) -> List[Change]:
         """The changes that end a message, with those of the messages that are made of it."""
         names = self.names if one.is_over else self.names - _MAKES_AN_END
-        found = await self._run(mended, one.body, names)
-        if found is not None:
-            return made_of(one, found)
-        if not one.is_over or not self._may_try(len(one.body)):
-            return [one.end]
-        more = await self._run(lacking, one.body, names, one.is_over)
+        try:
+            found = await self._run(mended, one.body, names) if names else None
+            if found is not None:
+                return made_of(one, found)
+            if not one.is_over or not self._may_try(len(one.body)):
+                return [one.end]
+            more = await self._run(lacking, one.body, names, one.is_over)
+        except Exception as error:  # a fault of the mending's own is no reason to lose what came
+            return [one.end._replace(reason=f"{one.end.reason}; it could not be mended: {type(error).__name__}")]
         if not more:
             return [one.end]
         setting = "mend=" + ",".join(name for name in NAMES if name in self.names or name in more)
@@ -160,7 +163,10 @@ class Mender:
 
     async def is_whole(self, body: bytes) -> bool:
         """Whether a message that still goes on is whole already, with the changes that its line names."""
-        found = await self._run(mended, body, self.names - _AT_THE_END)
+        try:
+            found = await self._run(mended, body, self.names - _AT_THE_END)
+        except Exception:  # that is said when the message ends
+            return False
         return bool(found is not None and found.messages)
 
     async def _run(self, work: Callable[..., T], *words: Any) -> T:

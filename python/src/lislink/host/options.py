@@ -32,6 +32,7 @@ class Listen(NamedTuple):
     none: str = NOTHINGS[0]
     allow: Tuple[Network, ...] = ()
     mend: Tuple[str, ...] = ()
+    telnet: str = ""
 
 
 class Connect(NamedTuple):
@@ -45,6 +46,7 @@ class Connect(NamedTuple):
     orders: str = ""
     none: str = NOTHINGS[0]
     mend: Tuple[str, ...] = ()
+    telnet: str = ""
 
 
 class Serial(NamedTuple):
@@ -142,6 +144,12 @@ def _mend(words: str) -> Tuple[str, ...]:
     return tuple(one for one in NAMES if one in given)
 
 
+def _telnet(word: str) -> str:
+    if word not in ("yes", "no"):
+        raise OptionError(f"telnet is yes or no, not {word}")
+    return "" if word == "no" else word
+
+
 #: What reads each setting of a line; those that its words may have, on TCP and on a serial line.
 READS: Dict[str, Callable[[str], Any]] = {
     "mode": _mode,
@@ -152,9 +160,10 @@ READS: Dict[str, Callable[[str], Any]] = {
     "orders": _orders,
     "none": _none,
     "mend": _mend,
+    "telnet": _telnet,
 }
-TCP_WORDS = ("frame", "encoding", "orders", "none", "mend")
-SERIAL_WORDS = ("mode", "flow", *TCP_WORDS)
+_WORDS = ("frame", "encoding", "orders", "none", "mend")
+TCP_WORDS, SERIAL_WORDS = (*_WORDS, "telnet"), ("mode", "flow", *_WORDS)
 
 
 def _read(given: Dict[str, str]) -> Dict[str, Any]:
@@ -186,14 +195,14 @@ def split_device(word: str) -> Tuple[str, int]:
 
 
 def listen_of(word: str) -> Listen:
-    """`HOST:PORT[,name=..][,frame=240|63993][,encoding=..][,orders=ask|send][,none=..][,mend=..]`."""
+    """`HOST:PORT[,name=..][,frame=240|63993][,encoding=..][,orders=ask|send][,none=..][,mend=..][,telnet=yes]`."""
     where, given = _split(word, ("name", *TCP_WORDS))
     host, port = split_address(where)
     return Listen(host, port, given.pop("name", f"{host}:{port}"), **_read(given))
 
 
 def connect_of(word: str) -> Connect:
-    """`HOST:PORT[,name=..][,frame=240|63993][,encoding=..][,orders=ask|send][,none=..][,mend=..]`."""
+    """`HOST:PORT[,name=..][,frame=240|63993][,encoding=..][,orders=ask|send][,none=..][,mend=..][,telnet=yes]`."""
     where, given = _split(word, ("name", *TCP_WORDS))
     host, port = split_peer(where)
     return Connect(host, port, given.pop("name", f"{host}:{port}"), **_read(given))

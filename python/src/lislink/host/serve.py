@@ -25,6 +25,7 @@ from .options import Connect, Limits, Listen, Network, OptionError, Place, Seria
 from .said import announce, say
 from .store import Store, StoreError
 from .tape import Tape
+from .telnet import Telnet
 from .tty import SerialWire, Unusable, open_serial
 
 #: How often the state is written for `lislab status`, and a serial device that is gone is looked for, in seconds.
@@ -489,6 +490,7 @@ class TcpWire(asyncio.BufferedProtocol, Wire):
         self._transport: Optional[asyncio.Transport] = None
         self.line: Optional[Line] = None
         self._why = ""
+        self._telnet: Optional[Telnet] = None
 
     def connection_made(self, transport: asyncio.BaseTransport) -> None:
         """An analyzer is connected, or somebody who may not be."""
@@ -510,6 +512,7 @@ class TcpWire(asyncio.BufferedProtocol, Wire):
                 one.setsockopt(socket.IPPROTO_TCP, getattr(socket, option), seconds)
         transport.set_write_buffer_limits(high=1024)
         self._transport = transport
+        self._telnet = Telnet() if self._end.place.telnet else None
         self.line = host.add(self, self._end.place, peer)
 
     def get_buffer(self, sizehint: int) -> bytearray:
@@ -518,8 +521,14 @@ class TcpWire(asyncio.BufferedProtocol, Wire):
 
     def buffer_updated(self, nbytes: int) -> None:
         """Bytes came."""
-        if self.line is not None:
-            self.line.data(bytes(self._buffer[:nbytes]), self._host.ticks.before)
+        if self.line is None:
+            return
+        data = bytes(self._buffer[:nbytes])
+        if self._telnet is not None:
+            data, answer = self._telnet.heard(data)
+            self._put(answer)
+        if data:
+            self.line.data(data, self._host.ticks.before)
 
     def eof_received(self) -> bool:
         """The peer sends no more: the connection is closed."""
@@ -537,7 +546,10 @@ class TcpWire(asyncio.BufferedProtocol, Wire):
             self._transport.abort()
 
     def write(self, data: bytes) -> None:
-        if self._transport is not None and not self._transport.is_closing():
+        self._put(data if self._telnet is None else self._telnet.written(data))
+
+    def _put(self, data: bytes) -> None:
+        if data and self._transport is not None and not self._transport.is_closing():
             self._transport.write(data)
 
     def close(self) -> None:
