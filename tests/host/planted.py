@@ -344,6 +344,19 @@ FAULTS = {
     ),
     "test_out.OutOfSqlite.test_status": Edit("host/status.py", "if store.is_held(", "if state or store.is_held("),
     "test_out.OutOfSqlite.test_wanted": Edit("host/export.py", "at < wanted.since", "at > wanted.since"),
+    "test_plainlink.PlainLink.test_keeping": Edit(
+        "host/plainlink.py", "return await super()._keep(text)", "return await super()._keep(text) or True"
+    ),
+    "test_plainlink.PlainLink.test_receiver": Edit(
+        "host/plainlink.py", "elif byte not in (_STX, _ETX, _EOT) and", "elif byte not in (_ETX, _EOT) and"
+    ),
+    "test_plainlink.PlainLink.test_repeats": Edit(
+        "host/plainlink.py", "if text and text == self._last and", "if not text and"
+    ),
+    "test_plainlink.PlainLink.test_sessions": Edit(
+        "host/plainlink.py", "(byte == _STX and not self.is_open)", "(byte == _STX and self.is_open is None)"
+    ),
+    "test_plainlink.PlainLink.test_words": Edit("host/options.py", "if place.link and place.orders:", "if not place:"),
     "test_postgres.OutOfPostgres.test_delivery_to_a_command": Edit(
         "host/deliver.py", '"LISLAB_NUMBER": str(one.number)', '"LISLAB_NUMBER": str(one.number + 1)'
     ),
@@ -544,6 +557,7 @@ HARMLESS = (
         "        self._state = byte if byte in _ANSWERS or byte == _SB else 0\n",
         "        self._state = byte if byte == _SB or byte in _ANSWERS else 0\n",
     ),
+    Edit("host/plainlink.py", "        self._last = text\n", "        self._last = bytes(text)\n"),
     Edit("host/feeds.py", "    count = body.count(_LF)\n", "    count = len(body.split(_LF)) - 1\n"),
     Edit("host/lines.py", "for key in _WHERE if key in given]", "for key in _WHERE if given.get(key) is not None]"),
 )

@@ -24,6 +24,10 @@ from .store import UNFINISHED, UNREADABLE, WHOLE, Store, open_store
 GOOD, WRONG, USAGE = 0, 1, 2
 
 
+#: The settings of every line.
+_SETTINGS = "[,name=..][,frame=..][,encoding=..][,orders=ask|send][,none=..][,mend=..][,link=plain]"
+
+
 def add_commands(commands: Any) -> None:
     """Adds the commands to those of lislab."""
     _add_serve(commands.add_parser("serve", help="a host: keeps what analyzers send, and then acknowledges it"))
@@ -83,27 +87,12 @@ def _scale(parser: argparse.ArgumentParser) -> None:
 
 def _add_serve(one: argparse.ArgumentParser) -> None:
     _store(one)
-    one.add_argument(
-        "--listen",
-        action="append",
-        default=[],
-        metavar="HOST:PORT[,name=..][,frame=..][,encoding=..][,orders=..][,none=..][,mend=..][,telnet=yes]",
-        help="a TCP port; HOST is 127.0.0.1 if it isn't named",
-    )
-    one.add_argument(
-        "--connect",
-        action="append",
-        default=[],
-        metavar="HOST:PORT[,name=..][,frame=..][,encoding=..][,orders=..][,none=..][,mend=..][,telnet=yes]",
-        help="a TCP port of an analyzer or a terminal server that listens: the host connects to it",
-    )
-    one.add_argument(
-        "--serial",
-        action="append",
-        default=[],
-        metavar="DEVICE:SPEED[,name=..][,mode=8N1][,flow=..][,frame=..][,encoding=..][,orders=..][,none=..][,mend=..]",
-        help="a serial line",
-    )
+    for name, where, what in (
+        ("--listen", f"HOST:PORT{_SETTINGS}[,telnet=yes]", "a TCP port; HOST is 127.0.0.1 if it isn't named"),
+        ("--connect", f"HOST:PORT{_SETTINGS}[,telnet=yes]", "a TCP port to connect to, of what listens there"),
+        ("--serial", f"DEVICE:SPEED{_SETTINGS}[,mode=8N1][,flow=..]", "a serial line"),
+    ):
+        one.add_argument(name, action="append", default=[], metavar=where, help=what)
     _allow(one)
     one.add_argument(
         "--lines",

@@ -74,6 +74,17 @@ class Intake:
         """All changes so far are kept."""
         self._ends = []
 
+    @property
+    def goes_on(self) -> bool:
+        """Whether a message began that isn't ended."""
+        return self._message is not None
+
+    def spoil(self, reason: str) -> None:
+        """The message that goes on is not to be delivered, whatever comes of it, and not to be mended."""
+        one = self._message
+        if one is not None:
+            one.fault, one.body = _after(one, reason) + (f"; {one.fault}" if one.fault else ""), None
+
     def unread(self) -> Optional[bytes]:
         """The bytes of the message that goes on, if not all of them could be read."""
         one = self._message

@@ -109,7 +109,7 @@ class Line:
         self._wire, self._intake, self._committer, self._limits = wire, intake, committer, limits
         self._counts, self._tape, self._say, self._turns = counts, tape, say, turns
         self._watch = Watch(say)
-        self._feeds = LineFeeds(frame) if mender.names & LINE_FEEDS else AsItComes()
+        self._feeds = self._feeds_of(frame)
         self._loop = asyncio.get_running_loop()
         self._begin(frame)
         self._pieces: Deque[Tuple[float, bytes]] = deque()
@@ -132,6 +132,10 @@ class Line:
     def _begin(self, frame: int) -> None:
         """Makes the end that hears the line."""
         self._receiver = Receiver(frame_limit=frame)
+
+    def _feeds_of(self, frame: int) -> AsItComes:
+        """What is between the line and the end that hears it."""
+        return LineFeeds(frame) if self._mender.names & LINE_FEEDS else AsItComes()
 
     def _is_busy(self) -> bool:
         """Whether a session goes on."""

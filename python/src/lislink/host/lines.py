@@ -132,6 +132,10 @@ class _File:
         return where, values
 
     def _check(self, place: Place, row: int) -> None:
+        try:
+            options.check_settings(place)
+        except OptionError as error:
+            self.fault(row, str(error))
         if isinstance(place, Serial):
             self._once(self._at, place.device, row, f"the device {place.device}")
             return

@@ -2,7 +2,7 @@
 import codecs
 import ipaddress
 import re
-from typing import Any, Callable, Dict, List, NamedTuple, Sequence, Tuple, Union
+from typing import Any, Callable, Dict, List, NamedTuple, Sequence, Tuple, TypeVar, Union
 
 from ..link import FRAME_TEXT, LONG_FRAME_TEXT
 from .mend import NAMES, SAME
@@ -12,6 +12,8 @@ _MODES = re.compile(r"[5-8][NEO][12]$")
 #: When orders are sent: to an analyzer that asks, or also unasked. How one is told that there is no order: the message
 #: ends with I, its query comes back with X, or nothing.
 ORDERS, NOTHINGS = ("ask", "send"), ("L-I", "Q-X", "silence")
+#: The links of a line: the standard's, and records between STX and ETX with no number and no checksum.
+LINKS = ("lis01", "plain")
 #: The flow controls of a serial line, and the encoding of a line that names none.
 FLOWS, LATIN = ("none", "rtscts", "xonxoff"), codecs.lookup("latin-1").name
 
@@ -32,6 +34,7 @@ class Listen(NamedTuple):
     none: str = NOTHINGS[0]
     allow: Tuple[Network, ...] = ()
     mend: Tuple[str, ...] = ()
+    link: str = ""
     telnet: str = ""
 
 
@@ -46,6 +49,7 @@ class Connect(NamedTuple):
     orders: str = ""
     none: str = NOTHINGS[0]
     mend: Tuple[str, ...] = ()
+    link: str = ""
     telnet: str = ""
 
 
@@ -62,9 +66,11 @@ class Serial(NamedTuple):
     orders: str = ""
     none: str = NOTHINGS[0]
     mend: Tuple[str, ...] = ()
+    link: str = ""
 
 
 Place = Union[Listen, Connect, Serial]
+AnyPlace = TypeVar("AnyPlace", Listen, Connect, Serial)
 
 
 class Limits(NamedTuple):
@@ -144,6 +150,12 @@ def _mend(words: str) -> Tuple[str, ...]:
     return tuple(one for one in NAMES if one in given)
 
 
+def _link(word: str) -> str:
+    if word not in LINKS:
+        raise OptionError(f"a link is {' or '.join(LINKS)}, not {word}")
+    return "" if word == LINKS[0] else word
+
+
 def _telnet(word: str) -> str:
     if word not in ("yes", "no"):
         raise OptionError(f"telnet is yes or no, not {word}")
@@ -160,14 +172,26 @@ READS: Dict[str, Callable[[str], Any]] = {
     "orders": _orders,
     "none": _none,
     "mend": _mend,
+    "link": _link,
     "telnet": _telnet,
 }
-_WORDS = ("frame", "encoding", "orders", "none", "mend")
+_WORDS = ("frame", "encoding", "orders", "none", "mend", "link")
 TCP_WORDS, SERIAL_WORDS = (*_WORDS, "telnet"), ("mode", "flow", *_WORDS)
 
 
 def _read(given: Dict[str, str]) -> Dict[str, Any]:
     return {key: READS[key](word) for key, word in given.items()}
+
+
+def _fitting(place: AnyPlace) -> AnyPlace:
+    check_settings(place)
+    return place
+
+
+def check_settings(place: Place) -> None:
+    """Settings that don't go together."""
+    if place.link and place.orders:
+        raise OptionError(f"a line with link={place.link} sends no orders: its sessions have no station")
 
 
 def split_address(word: str) -> Tuple[str, int]:
@@ -195,24 +219,24 @@ def split_device(word: str) -> Tuple[str, int]:
 
 
 def listen_of(word: str) -> Listen:
-    """`HOST:PORT[,name=..][,frame=240|63993][,encoding=..][,orders=ask|send][,none=..][,mend=..][,telnet=yes]`."""
+    """`HOST:PORT[,name=..]`, and the settings of TCP_WORDS."""
     where, given = _split(word, ("name", *TCP_WORDS))
     host, port = split_address(where)
-    return Listen(host, port, given.pop("name", f"{host}:{port}"), **_read(given))
+    return _fitting(Listen(host, port, given.pop("name", f"{host}:{port}"), **_read(given)))
 
 
 def connect_of(word: str) -> Connect:
-    """`HOST:PORT[,name=..][,frame=240|63993][,encoding=..][,orders=ask|send][,none=..][,mend=..][,telnet=yes]`."""
+    """`HOST:PORT[,name=..]`, and the settings of TCP_WORDS."""
     where, given = _split(word, ("name", *TCP_WORDS))
     host, port = split_peer(where)
-    return Connect(host, port, given.pop("name", f"{host}:{port}"), **_read(given))
+    return _fitting(Connect(host, port, given.pop("name", f"{host}:{port}"), **_read(given)))
 
 
 def serial_of(word: str) -> Serial:
-    """`DEVICE:SPEED[,name=..][,mode=8N1][,flow=none|rtscts|xonxoff]`, and the settings of the others."""
+    """`DEVICE:SPEED[,name=..]`, and the settings of SERIAL_WORDS."""
     where, given = _split(word, ("name", *SERIAL_WORDS))
     device, speed = split_device(where)
-    return Serial(device, speed, given.pop("name", device), **_read(given))
+    return _fitting(Serial(device, speed, given.pop("name", device), **_read(given)))
 
 
 def networks_of(words: Sequence[str], setting: str = "--allow") -> List[Network]:

@@ -11,10 +11,9 @@ import sys
 import time
 from collections import Counter
 from concurrent.futures import ThreadPoolExecutor
-from typing import Any, Callable, Dict, List, NamedTuple, Optional, Sequence, Set, Tuple, Union
+from typing import Any, Callable, Dict, Iterable, List, NamedTuple, Optional, Sequence, Set, Tuple, Union
 
 from .commits import Committer
-from .outbox import Outbox, Site
 from .duplex import TwoWayLine
 from .files import write_whole
 from .intake import Intake
@@ -22,6 +21,8 @@ from .line import Line, Ticks, Turns, Wire
 from .mend import Mender
 from .notices import CONNECTION, Notices
 from .options import Connect, Limits, Listen, Network, OptionError, Place, Serial, is_allowed, plain_address
+from .outbox import Outbox, Site
+from .plainlink import PlainLine
 from .said import announce, say
 from .store import Store, StoreError
 from .tape import Tape
@@ -51,6 +52,11 @@ class Asked(NamedTuple):
     connects: Sequence[Connect] = ()
     #: What reads the file of lines again, if there is one: the same with its lines. OptionError if it has faults.
     again: Optional[Callable[[], "Asked"]] = None
+
+    @property
+    def places(self) -> List[Place]:
+        """All lines."""
+        return [*self.listens, *self.serials, *self.connects]
 
 
 class Port:
@@ -144,6 +150,8 @@ class Host:
         return line
 
     def _line(self, place: Place, peer: str, given: Any) -> Line:
+        if place.link:
+            return PlainLine(*given)
         if self.outbox is None or not place.orders:
             return Line(*given)
         self.seats += 1
@@ -204,6 +212,7 @@ class Host:
     async def start(self) -> None:
         """Opens the ports and the devices."""
         await self._start_outbox(self.asked)
+        warn(self.asked.places)
         for place in self.asked.listens:
             await self._listen(place)
         for serial in self.asked.serials:
@@ -261,6 +270,7 @@ class Host:
         """Takes the lines of a file that was read again."""
         before, now = ({*one.listens, *one.serials, *one.connects} for one in (self.asked, asked))
         self.asked = asked
+        warn([one for one in asked.places if one not in before])
         self._changed.set()  # whoever waits goes on, even if it is cleared at once
         self._changed.clear()
         new = self._change_ports()
@@ -463,6 +473,14 @@ class Host:
         if why and not self._said.get(path):
             say(f"the state can't be written: {why}")
         self._said[path] = why
+
+
+def warn(places: Iterable[Place]) -> None:
+    """Says of which lines the link isn't the proved one."""
+    for place in places:
+        if place.link:
+            what = "no number and no checksum, so damage isn't noticed; and a receiver that isn't proved"
+            say(f"{place.name}: link={place.link} has {what}")
 
 
 def _why(error: Exception) -> str:
