@@ -202,20 +202,7 @@ class Mends(HostTest):
     def test_repeats(self):
         """A message that comes again is mended again, and marked, whenever a host is killed in between."""
         for store in (self.path("again.db"), "spool:" + self.path("again.spool")):
-            host = Host(store, "--listen", "0,name=bytes,mend=escape", scale=1.0, listen=False)
-            for turn in range(3):
-                with Client(ports_of(host)["bytes"]) as client:
-                    replies = [client.asks(unit, seconds=60) for unit in units("bytes")[:-1]]
-                    host.kill()  # before EOT: what is acknowledged is delivered
-                self.same(f"{store[:5]}: acknowledged {turn}", set(replies), {ACK})
-                self.same(f"{store[:5]}: delivered {turn}", len(Found(store).whole), turn + 1)
-                host.start()
-            self.same("the host's status", host.stop(), 0)
-            found = Found(store)
-            self.same(f"{store[:5]}: delivered", {one.body for one in found.whole}, {CASES["bytes"].message})
-            self.same(f"{store[:5]}: unmarked repeats", found.unmarked(), [])
-            self.same(f"{store[:5]}: counted", [one.mended for one in found.counts], [3])
-            self.same(f"{store[:5]}: kept as they came", len({one.body for one in found.others}), 1)
+            mends_again(self, store)
 
     def test_query(self):
         """A query that is mended is answered."""
@@ -253,6 +240,24 @@ class Mends(HostTest):
         shown = "a: listen=127.0.0.1:1 frame=240 encoding=iso8859-1 mend=nul,bytes,last-l"
         self.same("as it is shown", [lines.text_of(one) for one in found.places], [shown])
         self.same("a fault", found.faults, [f"{file.name}:7: a line mends {', '.join(options.NAMES)}, not lfs"])
+
+
+def mends_again(test, store):
+    """Sends a message that is mended three times, and kills the host each time before EOT."""
+    host, name = Host(store, "--listen", "0,name=bytes,mend=escape", scale=1.0, listen=False), store[:5]
+    for turn in range(3):
+        with Client(ports_of(host)["bytes"]) as client:
+            replies = [client.asks(unit, seconds=60) for unit in units("bytes")[:-1]]
+            host.kill()  # what is acknowledged is delivered
+        test.same(f"{name}: acknowledged {turn}", set(replies), {ACK})
+        test.same(f"{name}: delivered {turn}", len(Found(store).whole), turn + 1)
+        host.start()
+    test.same("the host's status", host.stop(), 0)
+    found = Found(store)
+    test.same(f"{name}: delivered", {one.body for one in found.whole}, {CASES["bytes"].message})
+    test.same(f"{name}: unmarked repeats", found.unmarked(), [])
+    test.same(f"{name}: counted", [(one.mended, one.unreadable) for one in found.counts], [(3, 0)])
+    test.same(f"{name}: kept as they came", len({one.body for one in found.others}), 1)
 
 
 def random_text(rng):

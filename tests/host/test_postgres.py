@@ -18,6 +18,7 @@ from tests.host import hosts
 from tests.host.hosts import ENV, Found, Host, HostTest, acknowledged, lislab, sending
 from tests.host.test_kills import TROUBLE
 from tests.host.test_lines import keeps_each_text
+from tests.host.test_mends import mends_again
 from tests.host.test_out import OutOf
 from tests.host.test_repeats import EachWrite, Left, begun
 
@@ -208,6 +209,10 @@ class Postgres(HostTest):
     def test_keeping(self):
         """Killed after each acknowledgement, the host has kept what it acknowledged."""
         keeps_each_text(self, self.server.address("keeping"))
+
+    def test_mends(self):
+        """A message that is mended is marked, delivered and counted."""
+        mends_again(self, self.server.address("mends"))
 
     def test_names(self):
         """Two hosts of one name are refused."""

@@ -11,7 +11,7 @@ from ..link import Note, Step
 
 _STX, _LF, _VT = b"\x02", b"\n", b"\x0b"
 #: What ends a frame, and what breaks one off.
-_END, _BREAKS = re.compile(rb"[\x03\x17][^\n]{2}\r\n\Z", re.S), re.compile(rb"[\x02\x04\x05]")
+_END, _BREAKS = re.compile(rb"[\x03\x17][^\n]{2}\r\n"), re.compile(rb"[\x02\x04\x05]")
 #: The bytes of a frame besides its text, and what drops a text.
 _AROUND = 7
 _DROPS = (Note.OPENED, Note.NOT_READY, Note.ENDED, Note.TIMED_OUT)
@@ -62,7 +62,7 @@ class LineFeeds(AsItComes):
                 end = min(end, found.start()) if found else end
                 self._frame += data[at:end]
                 at = end
-                if _END.search(self._frame):
+                if _END.fullmatch(self._frame[-5:]):
                     yield self._over(_without_lf(bytes(self._frame)), at, bytes(self._frame[2:-5]))
                 elif found and end == found.start() or len(self._frame) > self._most:
                     # It is broken off, or too long. Its sender has given it up, or will: there is no reply to it.
