@@ -37,6 +37,31 @@ WITH_THEIR_OWN = (
 )
 #: The other tests, and what each must notice.
 FAULTS = {
+    "test_aside.Asides.test_aside": Edit("delivery/aside.py", "if tries < self.most:", "if tries <= self.most:"),
+    "test_aside.Asides.test_again_of_one_that_runs": Edit(
+        "host/deliver.py", "            grant(self._cursor.path, key)\n", ""
+    ),
+    "test_aside.Asides.test_random": Edit(
+        "host/deliver.py", "                blocked |= set(held.samples)\n                continue\n            try", "                continue\n            try"
+    ),
+    "test_aside.Asides.test_what_is_not_counted": Edit(
+        "host/deliver.py",
+        "raise Unreachable(str(error)) from None\n        except subprocess",
+        "raise Refused(str(error)) from None\n        except subprocess",
+    ),
+    "test_aside.Cursors.test_damaged": Edit(
+        "delivery/aside.py",
+        "    except (OSError, ValueError) as error:\n        raise StoreError(f\"{path}: {error}\") from None",
+        "    except (OSError, ValueError):\n        return {}",
+    ),
+    "test_aside.Cursors.test_once": Edit(
+        "host/deliver.py", "            if once:\n                raise\n            failed = str(error)", "            failed = str(error)"
+    ),
+    "test_aside.Cursors.test_service": Edit(
+        "host/deliver.py",
+        "        if self._unnoted is not None:\n            self._note(self._unnoted)\n",
+        "",
+    ),
     "test_connect.Connect.test_two_lines": Edit(
         "host/serve.py", "in self._places.items() if isinstance(one, Listen)]", "in self._places.items() if one]"
     ),
@@ -537,6 +562,7 @@ HARMLESS = (
         "        if len(ends) > 0:\n            self._number(ends)",
     ),
     Edit("host/deliver.py", "        elif not found:\n", "        elif found == 0:\n"),
+    Edit("delivery/aside.py", "sorted([*others, row])", "sorted([row, *others])"),
     Edit(
         "host/export.py",
         "        if one is None:\n            return line(None)",

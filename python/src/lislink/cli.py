@@ -12,12 +12,13 @@ from .capture import Capture, CaptureError, looks_like_capture, read_capture, wr
 from .field import normalize, sniffers, table
 from .field.log import LogError, time_text, times_beside
 from .host import commands as host_commands
-from .host.deliver import WrongStore
+from .host.deliver import Refused, WrongStore
 from .host.files import write_whole
 from .host.options import OptionError
 from .host.store import StoreError
 from .link import FRAME_TEXT, LONG_FRAME_TEXT
 from .orders import commands as order_commands
+from .delivery import commands as delivery_commands
 from .play import command as play_command
 
 #: Exit statuses: as those of lislink.
@@ -329,6 +330,7 @@ def parser() -> argparse.ArgumentParser:
     _add_normalize(commands.add_parser("normalize", help=changes))
     _add_table(commands.add_parser("table", help="write results as CSV, TSV or JSON lines"))
     host_commands.add_commands(commands)
+    delivery_commands.add_commands(commands)
     order_commands.add_commands(commands)
     play_command.add_command(commands)
     return top
@@ -344,7 +346,7 @@ def main(words: Optional[List[str]] = None) -> int:
     except BrokenPipeError:
         os.dup2(os.open(os.devnull, os.O_WRONLY), 1)
         return STOPPED
-    except (LogError, CaptureError, LibraryMissing, StoreError, WrongStore, OSError) as error:
+    except (LogError, CaptureError, LibraryMissing, StoreError, WrongStore, Refused, OSError) as error:
         say(str(error))
         return STOPPED
     except (table.TableError, OptionError) as error:

@@ -1,4 +1,4 @@
-"""The commands of the host: `lislab serve`, `lines`, `send`, `status`, `export` and `deliver`."""
+"""The commands of the host: `lislab serve`, `lines`, `send`, `status` and `export`."""
 import argparse
 import asyncio
 import contextlib
@@ -13,12 +13,12 @@ from typing import Any, Callable, ContextManager, Iterator, List, Optional, Sequ
 
 from .._library import calls
 from ..orders.book import open_book
-from . import asker, deliver, export, lines, options, send, serve, status
+from . import asker, export, lines, options, send, serve, status
 from .outbox import Outbox
 from .files import Output, writing
 from .options import Limits, Network, OptionError, Place
 from .said import say
-from .store import UNFINISHED, UNREADABLE, WHOLE, Store, open_store
+from .store import UNFINISHED, UNREADABLE, WHOLE, open_store
 
 #: Exit statuses, as those of the other commands.
 GOOD, WRONG, USAGE = 0, 1, 2
@@ -35,7 +35,6 @@ def add_commands(commands: Any) -> None:
     _add_send(commands.add_parser("send", help="an analyzer: sends a file of records to a host"))
     _add_status(commands.add_parser("status", help="the lines of a host, and what its store has"))
     _add_export(commands.add_parser("export", help="messages out of a store"))
-    _add_deliver(commands.add_parser("deliver", help="delivers each whole message to a command or a directory"))
 
 
 def _store(parser: argparse.ArgumentParser) -> None:
@@ -370,37 +369,3 @@ def _output(path: Optional[str]) -> ContextManager[Output]:
     if path is None or path == "-":
         return contextlib.nullcontext(Output(sys.stdout.fileno()))
     return writing(path)
-
-
-def _add_deliver(one: argparse.ArgumentParser) -> None:
-    _store(one)
-    one.add_argument("--cursor", required=True, metavar="FILE", help="keeps which message was delivered last")
-    one.add_argument("--directory", metavar="DIR", help="a file for each message")
-    one.add_argument("--format", choices=export.FORMATS, default="records", help="(%(default)s)")
-    one.add_argument("--seconds", type=_FACTOR, default=60.0, help="how long the command has (%(default)s)")
-    one.add_argument("--once", action="store_true", help="deliver what there is, and end")
-    one.add_argument(
-        "words", nargs="*", metavar="COMMAND", help="after --: a command that reads a message, and its words"
-    )
-    one.set_defaults(run=run_deliver)
-
-
-def run_deliver(ask: argparse.Namespace) -> int:
-    """Delivers until it is stopped, or what there is."""
-    if bool(ask.directory) == bool(ask.words):
-        raise OptionError("name a directory by --directory, or a command after --")
-    if ask.directory:
-        one = deliver.to_directory(ask.directory, ask.format)
-    else:
-        one = deliver.to_command(ask.words, ask.format, ask.seconds)
-    store: Store = open_store(ask.store)
-    cursor = deliver.Cursor(ask.cursor)
-    try:
-        count = deliver.run(deliver.Delivery(store, cursor, one, say), ask.once)
-        say(f"{count} messages delivered")
-        return GOOD
-    except deliver.Refused:
-        return WRONG
-    finally:
-        cursor.close()
-        store.close()

@@ -8,6 +8,8 @@ from ..message import Fault, read_all
 from .store import UNFINISHED, UNREADABLE, WHOLE, Store, Stored
 
 FORMATS = ("records", "json", "csv", "tsv")
+#: What makes the bytes of a message; of None those at the head of all.
+Writer = Callable[[Optional[Stored]], bytes]
 #: The columns of a table before those of a result, and after them.
 OWN, LAST = ("number", "line", "received", "again_of"), ("mended",)
 
@@ -51,8 +53,8 @@ def _is_wanted(one: Stored, wanted: Wanted) -> bool:
     return (wanted.line is None or one.line == wanted.line) and (wanted.repeats or one.again_of is None)
 
 
-def writer_of(form: str) -> Callable[[Optional[Stored]], bytes]:
-    """What makes the bytes of a message; of None those at the head of all."""
+def writer_of(form: str) -> Writer:
+    """What writes messages in this form."""
     if form == "records":
         return lambda one: b"" if one is None else one.body
     if form == "json":

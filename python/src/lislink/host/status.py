@@ -3,6 +3,7 @@ import json
 import time
 from typing import Any, Dict, List, NamedTuple, Optional
 
+from ..delivery.aside import held_of
 from ..orders.book import book_of
 from .deliver import read_cursor
 from .export import time_text
@@ -33,6 +34,7 @@ class Waiting(NamedTuple):
     cursor: str
     messages: int
     oldest: Optional[float]
+    aside: List[Dict[str, Any]]
 
 
 def read_state(path: Optional[str]) -> Dict[str, Any]:
@@ -69,7 +71,8 @@ def waiting_of(store: Store, path: str, most: int = 1000) -> Waiting:
     for one in store.messages(after, most):
         oldest = one.ended if count == 0 else oldest
         count += 1
-    return Waiting(path, count, oldest)
+    aside = [{"key": held.key, "number": held.number, "tries": held.tries, "why": held.why} for held in held_of(path)]
+    return Waiting(path, count, oldest, aside)
 
 
 def rows_of(store: Store, state: Dict[str, Any]) -> List[Dict[str, Any]]:
@@ -146,7 +149,9 @@ def text_of(data: Dict[str, Any]) -> str:
     rows = ["  ".join(cell.ljust(width) for cell, width in zip(row, widths)).rstrip() for row in cells]
     for one in data["undelivered"]:
         oldest = f", the oldest of {one['oldest']}" if one["messages"] else ""
-        rows.append(f"{one['cursor']}: {one['messages']} messages not delivered{oldest}")
+        aside = f"; {len(one['aside'])} set aside" if one["aside"] else ""
+        rows.append(f"{one['cursor']}: {one['messages']} messages not delivered{oldest}{aside}")
+        rows += [f"  {held['key']} failed {held['tries']} times: {held['why']}" for held in one["aside"] if held["tries"]]
     for name, settings in sorted(data["would"].items()):
         rows += [f"{name}: {setting} would deliver {count} messages" for setting, count in sorted(settings.items())]
     for name, kinds in sorted(data["not_said"].items()):

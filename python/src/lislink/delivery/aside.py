@@ -1,0 +1,150 @@
+"""Messages that a delivery has set aside, since they failed too often, and those of the same samples after them. They
+are in a file next to the delivery's cursor. Who wants one sent again leaves a wish there, an empty file; the delivery
+takes it up."""
+import contextlib
+import glob
+import json
+import os
+import re
+import time
+from typing import Any, Dict, FrozenSet, List, NamedTuple, Sequence
+
+from ..host.files import sync_folder, write_synced
+from ..host.store import StoreError, Stored
+from .samples import samples_of
+
+#: The wish for all of them; and what a key looks like.
+ALL, _KEY = "all", re.compile(r"[0-9a-z]{1,64}$")
+
+
+class Held(NamedTuple):
+    """A message that is set aside: how often it failed, why last, and since when."""
+
+    number: int
+    key: str
+    samples: List[str]
+    tries: int
+    why: str
+    at: float
+
+
+class Aside:
+    """What a delivery has set aside. Only the process that has the cursor changes it."""
+
+    def __init__(self, cursor: str, most: int = 0) -> None:
+        #: Set aside after so many failures; never if it is 0.
+        self.most = most
+        self.path = cursor + ".aside"
+        data = _read(self.path)
+        self.held = _held_of(self.path, data)
+        self._key, self._tries = str(data.get("key", "")), int(data.get("tries", 0))
+
+    def _write(self, held: Sequence[Held], key: str, tries: int) -> None:
+        """On the disk first, then here; StoreError if it can't be."""
+        data = {"key": key, "tries": tries, "held": [one._asdict() for one in held]}
+        try:
+            write_synced(self.path, (json.dumps(data) + "\n").encode())
+        except OSError as error:
+            raise StoreError(f"{self.path}: {error.strerror or error}") from None
+        self.held, self._key, self._tries = list(held), key, tries
+
+    def _put(self, one: Stored, samples: FrozenSet[str], tries: int, why: str) -> None:
+        assert one.number is not None
+        row = Held(one.number, one.key, sorted(samples), tries, why, time.time())
+        others = [each for each in self.held if each.key != one.key]
+        self._write(sorted([*others, row]), "", 0)
+
+    def takes(self, one: Stored) -> bool:
+        """Whether a message waits for one of its samples that is set aside; then it is set aside too."""
+        if not self.held:
+            return False
+        if any(each.key == one.key for each in self.held):  # the cursor wasn't moved after it
+            return True
+        samples = samples_of(one)
+        first = next((each for each in self.held if samples & set(each.samples)), None)
+        if first is not None:
+            self._put(one, samples, 0, f"waits for {first.key}")
+        return first is not None
+
+    def failed(self, one: Stored, why: str) -> bool:
+        """Counts a failure of the next message; whether it is set aside now."""
+        if not self.most:
+            return False
+        tries = self._tries + 1 if self._key == one.key else 1
+        if tries < self.most:
+            self._write(self.held, one.key, tries)
+            return False
+        self._put(one, samples_of(one), tries, why)
+        return True
+
+    def together(self, key: str) -> List[Held]:
+        """A message that is set aside and all that share samples with it, or with each other, in order; all of them for
+        the word `all`."""
+        if key == ALL:
+            return list(self.held)
+        found = {each.key for each in self.held if each.key == key}
+        samples: "set[str]" = set()
+        while True:
+            samples |= {one for each in self.held if each.key in found for one in each.samples}
+            more = {each.key for each in self.held if samples & set(each.samples)} | found
+            if more == found:
+                return [each for each in self.held if each.key in found]
+            found = more
+
+    def sent(self, one: Held) -> None:
+        """This one is delivered."""
+        self._write([each for each in self.held if each.key != one.key], self._key, self._tries)
+
+    def failed_again(self, one: Held, why: str) -> None:
+        """This one failed once more."""
+        row = one._replace(tries=one.tries + 1, why=why)
+        self._write([row if each.key == one.key else each for each in self.held], self._key, self._tries)
+
+
+def _read(path: str) -> Dict[str, Any]:
+    try:
+        with open(path, encoding="utf-8") as file:
+            return dict(json.load(file))
+    except FileNotFoundError:
+        return {}
+    except (OSError, ValueError) as error:
+        raise StoreError(f"{path}: {error}") from None
+
+
+def _held_of(path: str, data: Dict[str, Any]) -> List[Held]:
+    try:
+        return sorted(Held(**row) for row in data.get("held", []))
+    except TypeError as error:
+        raise StoreError(f"{path}: {error}") from None
+
+
+def held_of(cursor: str) -> List[Held]:
+    """What the delivery with this cursor has set aside."""
+    return Aside(cursor).held
+
+
+def is_key(word: str) -> bool:
+    """Whether a word may be a message's key, or is the word for all."""
+    return _KEY.match(word) is not None
+
+
+def wish(cursor: str, key: str) -> None:
+    """Asks the delivery that has this cursor to send a message again."""
+    path = f"{cursor}.again.{key}"
+    try:
+        os.close(os.open(path, os.O_WRONLY | os.O_CREAT | os.O_CLOEXEC, 0o600))
+        sync_folder(os.path.dirname(os.path.realpath(path)))
+    except OSError as error:
+        raise StoreError(f"{path}: {error.strerror or error}") from None
+
+
+def wishes(cursor: str) -> List[str]:
+    """The keys that are asked for."""
+    start = f"{cursor}.again."
+    return sorted(path[len(start) :] for path in glob.glob(f"{glob.escape(start)}*"))
+
+
+def grant(cursor: str, key: str) -> None:
+    """Takes a wish away."""
+    with contextlib.suppress(FileNotFoundError):
+        os.unlink(f"{cursor}.again.{key}")

@@ -1,0 +1,213 @@
+"""Deliveries that set messages aside: those that fail too often, with later ones of the same samples; all others go on,
+and the order of a sample's messages is kept."""
+import json
+import os
+import random
+import shutil
+import sys
+import time
+
+from lislink.host import deliver, status
+from lislink.host.store import WHOLE, Add, Begin, End, StoreError, open_store
+from lislink.delivery import aside
+from tests.host.hosts import HostTest, lislab, process, wait_for
+
+
+def records(samples, value="5.4"):
+    """A message with an order for each of these samples."""
+    orders = "".join(f"O|{at}|{one}||^^^GLU\rR|1|^^^GLU|{value}|mmol/L\r" for at, one in enumerate(samples, 1))
+    return f"H|\\^&|||A\rP|1\r{orders}L|1|N\r".encode()
+
+
+def keep(store, bodies, line="fire"):
+    """Puts whole messages into a store: their keys."""
+    keys = [f"{at:016x}" for at in range(1, len(bodies) + 1)]
+    one = open_store(store)
+    one.start("h")
+    for at, (key, body) in enumerate(zip(keys, bodies)):
+        begun = Begin(key, line, "10.0.0.7", "latin-1", 1767225600.0 + at)
+        one.commit([[begun, Add(key, 0, 1.0, body), End(key, line, WHOLE, "", key, len(body), 1767225601.0 + at)]])
+    one.close()
+    return keys
+
+
+#: A command that takes a message, and fails for those whose keys a file names: NAME TAKEN BAD.
+TAKER = """
+import os, sys
+key = os.environ["LISLAB_KEY"]
+sys.stdin.buffer.read()
+if os.path.exists(sys.argv[2]) and key in open(sys.argv[2]).read().split():
+    sys.exit(7)
+with open(sys.argv[1], "a") as file:
+    file.write(key + "\\n")
+"""
+
+
+class Taker:
+    """A delivery to a command that fails for some messages."""
+
+    def __init__(self, test, name, bodies):
+        self.store, self.cursor = test.path(f"{name}.db"), test.path(f"{name}.cursor")
+        self.path, self.bad = test.path(f"{name}.taken"), test.path(f"{name}.bad")
+        self.keys = keep(self.store, bodies)
+
+    def fails(self, *places):
+        """From now on it fails for these messages, by their places."""
+        with open(self.bad, "w", encoding="ascii") as file:
+            file.write(" ".join(self.keys[at] for at in places))
+
+    def words(self, *words):
+        """The words of the command."""
+        named = ["--store", self.store, "--cursor", self.cursor, *words]
+        return ["deliver", *named, "--", sys.executable, "-c", TAKER, self.path, self.bad]
+
+    def taken(self):
+        """The places of the messages that were taken, in turn."""
+        if not os.path.exists(self.path):
+            return []
+        with open(self.path, encoding="ascii") as file:
+            return [self.keys.index(row.strip()) for row in file]
+
+
+class Asides(HostTest):
+    """`lislab deliver --aside` and `--again`."""
+
+    def test_aside(self):
+        """A message that fails twice is set aside with later ones of its sample, and sent again with them."""
+        one = Taker(self, "aside", [records(it) for it in (["A"], ["B"], ["A"], ["C"], ["B", "A"], ["B"], ["D"])])
+        one.fails(0)
+        first = lislab(*one.words("--aside", "2", "--once"))
+        self.same("it fails once", (first.returncode, one.taken()), (1, []))
+        second = lislab(*one.words("--aside", "2", "--once"))
+        self.same("others go on, and those of its samples wait", (second.returncode, one.taken()), (1, [1, 3, 6]))
+        self.has("it is said which", second.stderr, f"{one.keys[0]} is set aside: {sys.executable} ended with status 7")
+        self.has("and how many", second.stderr, "4 messages are set aside")
+        shown = ["status", "--store", one.store, "--cursor", one.cursor]
+        self.has("the status counts them", lislab(*shown).stdout, ": 0 messages not delivered; 4 set aside")
+        held = json.loads(lislab(*shown, "--json").stdout)["undelivered"][0]["aside"]
+        self.same("and why", [(it["tries"], it["why"][:9]) for it in held], [
+            (2, sys.executable[:9]), (0, "waits for"), (0, "waits for"), (0, "waits for")])
+        self.same("without --aside they wait too", lislab(*one.words("--once")).returncode, 1)
+        bad = lislab(*one.words("--again", one.keys[4]))
+        self.same("it fails again", (bad.returncode, one.taken()), (1, [1, 3, 6]))
+        one.fails()
+        good = lislab(*one.words("--again", one.keys[4]))
+        self.same("all of them go, in order", (good.returncode, one.taken()), (0, [1, 3, 6, 0, 2, 4, 5]))
+        self.same("nothing is left", lislab(*shown).stdout.count("set aside"), 0)
+        self.same("there is none to send", lislab(*one.words("--again", "all")).returncode, 1)
+        self.same("a key that is none", lislab(*one.words("--again", "../x")).returncode, 2)
+
+    def test_again_of_one_that_runs(self):
+        """A delivery that runs takes up what is asked for."""
+        one = Taker(self, "running", [records(["A"]), records(["A"]), records(["B"])])
+        one.fails(0)
+        process(["-m", "lislink", *one.words("--aside", "1")])
+        self.true("others go on", wait_for(lambda: one.taken() == [2], 60), str(one.taken()))
+        self.true("it is noted", wait_for(lambda: len(aside.held_of(one.cursor)) == 2, 60))
+        one.fails()
+        words = ["deliver", "--store", one.store, "--cursor", one.cursor, "--again", one.keys[0]]
+        done = lislab(*words)
+        self.same("it is asked to", (done.returncode, "2 messages are sent by the" in done.stderr), (0, True))
+        self.true("it sends them", wait_for(lambda: one.taken() == [2, 0, 1], 60), str(one.taken()))
+        self.true("the wish is gone", wait_for(lambda: not aside.wishes(one.cursor), 60))
+
+    def test_what_is_not_counted(self):
+        """A command that isn't there is no failure of the message."""
+        one = Taker(self, "there", [records(["A"])])
+        words = one.words("--aside", "1", "--once")
+        done = lislab(*words[: words.index("--") + 1], self.path("no command"))
+        self.same("the status", done.returncode, 1)
+        self.same("nothing is set aside", aside.held_of(one.cursor), [])
+        lislab(*one.words("--once"))
+        self.same("it is delivered", one.taken(), [0])
+
+    def test_random(self):
+        """Random messages and failures: in the end each was delivered once, those of a sample in order."""
+        for seed in range(6):
+            rng = random.Random(seed)
+            samples = [rng.sample("ABCDE", rng.choice((1, 1, 1, 2, 0))) for _ in range(30)]
+            store, cursor = self.path(f"random{seed}.db"), self.path(f"random{seed}.cursor")
+            keys, taken = keep(store, [records(it) for it in samples]), []
+
+            def take(one, rng=rng, taken=taken, chances=[0.3]):
+                if rng.random() < chances[0]:
+                    raise deliver.Refused("by chance")
+                taken.append(one.key)
+                chances[0] *= 0.98
+
+            for _ in range(300):
+                if len(taken) == len(keys):
+                    break
+                self.one_run(store, cursor, take, rng.choice((0, 1, 2)), rng.random() < 0.3)
+            self.same(f"{seed}: each once", sorted(taken), keys)
+            for sample in "ABCDE":
+                mine = [key for key, it in zip(keys, samples) if sample in it]
+                found = [key for key in taken if key in mine]
+                self.need(found == mine, lambda: f"{seed}: {sample}: {found}")
+
+    def one_run(self, store, cursor, take, most, again):
+        """A delivery of what there is, or of what was set aside."""
+        opened, place = open_store(store), deliver.Cursor(cursor)
+        one = deliver.Delivery(opened, place, take, lambda text: None, aside=aside.Aside(cursor, most))
+        try:
+            if again:
+                deliver.run_again(one, aside.ALL)
+            else:
+                deliver.run(one, True)
+        except deliver.Refused:
+            pass
+        place.close()
+        opened.close()
+
+
+class Stopped(Exception):
+    """The delivery of a test is over."""
+
+
+class Cursors(HostTest):
+    """A cursor that can't be written."""
+
+    def test_service(self):
+        """A delivery that can't note what it delivered says so once and again, delivers nothing twice, and goes on."""
+        store, folder = self.path("service.db"), self.path("service")
+        keys, taken, said = keep(store, [records(["A"]), records(["B"])]), [], []
+        os.mkdir(folder)
+        place = deliver.Cursor(os.path.join(folder, "cursor"))
+        shutil.move(folder, folder + ".away")
+
+        def sleep(_):
+            if taken == keys:
+                raise Stopped
+            if len(said) == 3:
+                shutil.move(folder + ".away", folder)
+
+        opened = open_store(store)
+        one = deliver.Delivery(opened, place, lambda it: taken.append(it.key), said.append, sleep)
+        self.raises("it is stopped by the test", Stopped, lambda: deliver.run(one, False))
+        self.same("each once", taken, keys)
+        self.same("it says so", len(said), 3)
+        self.has("and which", said[0], f"cursor: No such file or directory: message 1 {keys[0]} is done, and the cursor")
+        self.same("the cursor", place.key, keys[1])
+        opened.close()
+
+    def test_once(self):
+        """With --once it ends with status 3."""
+        store, folder = self.path("once.db"), self.path("once")
+        keep(store, [records(["A"])])
+        os.mkdir(folder)
+        taker = "import os, sys; os.rename(sys.argv[1], sys.argv[1] + '.away')"
+        words = ["--store", store, "--cursor", os.path.join(folder, "cursor"), "--once"]
+        done = lislab("deliver", *words, "--", sys.executable, "-c", taker, folder)
+        self.same("the status", done.returncode, 3)
+        self.has("it says why", done.stderr, "cursor: No such file or directory: message 1 ")
+
+    def test_damaged(self):
+        """A file of what is set aside that is damaged is named."""
+        store, cursor = self.path("damaged.db"), self.path("damaged.cursor")
+        keep(store, [records(["A"])])
+        with open(cursor + ".aside", "w", encoding="ascii") as file:
+            file.write("{")
+        done = lislab("deliver", "--store", store, "--cursor", cursor, "--once", "--", "true")
+        self.same("the status, and the file", (done.returncode, f"{cursor}.aside: " in done.stderr), (3, True))
+        self.raises("for the status too", StoreError, lambda: status.waiting_of(open_store(store), cursor))
+        self.true("nothing was delivered", not os.path.exists(cursor), str(time.time()))
