@@ -41,6 +41,7 @@ PARTS = {
     "messages": Part("test_load.Load.test_memory", 3000, 1000000),
     "orders": Part("test_orders.Fire.test_kills", 10, 1000),
     "orders_postgres": Part("test_orders_postgres.PostgresBooks.test_two_hosts_are_killed", 4, 200),
+    "mllp": Part("test_mllp.Receivers.test_kills", 200, 1000),
     "streams": Part("test_intake.Streams.test_random_streams", 2000, 20000),
 }
 _SIZES = {name: part.gate for name, part in PARTS.items()}

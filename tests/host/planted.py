@@ -207,6 +207,23 @@ FAULTS = {
     "test_mends.Mends.test_words": Edit(
         "host/options.py", "tuple(one for one in NAMES if one in given)", "tuple(given)"
     ),
+    "test_mllp.Oru.test_fields": Edit("delivery/oru.py", "10: one.key,", "10: one.line,"),
+    "test_mllp.Oru.test_no_library": Edit("delivery/oru.py", "        raise LibraryMissing(why) from None", "        raise"),
+    "test_mllp.Oru.test_page": Edit("delivery/oru.py", "25: _report(order),", "24: _report(order),"),
+    "test_mllp.Oru.test_random": Edit("delivery/oru.py", ', "&": "\\\\T\\\\"}', "}"),
+    "test_mllp.Oru.test_values": Edit(
+        "delivery/oru.py", 'return "SN", [number.comparator,', 'return "NM", [number.comparator,'
+    ),
+    "test_mllp.Receivers.test_answers": Edit(
+        "delivery/mllp.py", "            if control != key:\n                continue\n", ""
+    ),
+    "test_mllp.Receivers.test_closed_between": Edit(
+        "delivery/mllp.py", "            if fresh:\n", "            if key:\n"
+    ),
+    "test_mllp.Receivers.test_kills": Edit(
+        "delivery/mllp.py", "            if fresh:\n", "            return\n            if fresh:\n"
+    ),
+    "test_mllp.Receivers.test_rejected": Edit("delivery/mllp.py", '("AA", "CA"), ("AE",', '("AA", "CA", "AR"), ("AE",'),
     "test_notices.Said.test_a_bad_line": Edit(
         "host/notices.py",
         "[kind] += 1\n            return\n",

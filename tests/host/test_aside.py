@@ -24,9 +24,14 @@ def keep(store, bodies, line="fire"):
     keys = [f"{at:016x}" for at in range(1, len(bodies) + 1)]
     one = open_store(store)
     one.start("h")
-    for at, (key, body) in enumerate(zip(keys, bodies)):
-        begun = Begin(key, line, "10.0.0.7", "latin-1", 1767225600.0 + at)
-        one.commit([[begun, Add(key, 0, 1.0, body), End(key, line, WHOLE, "", key, len(body), 1767225601.0 + at)]])
+    one.commit([
+        [
+            Begin(key, line, "10.0.0.7", "latin-1", 1767225600.0 + at),
+            Add(key, 0, 1767225600.0 + at, body),
+            End(key, line, WHOLE, "", key, len(body), 1767225601.0 + at),
+        ]
+        for at, (key, body) in enumerate(zip(keys, bodies))
+    ])
     one.close()
     return keys
 

@@ -7,26 +7,35 @@ from .._library import calls
 from ..host import deliver, export
 from ..host.commands import _COUNT, _FACTOR, _store
 from ..host.files import is_locked
-from ..host.options import OptionError
+from ..host.options import OptionError, split_peer
 from ..host.said import say
 from ..host.store import StoreError, Stored, open_store
-from . import aside
+from . import aside, mllp
 
 #: Exit statuses, as those of the other commands.
 GOOD, WRONG = 0, 1
+#: Where messages go, and the form that they have there if none is named.
+_SCHEMES = {"mllp": "oru"}
 
 
 def add_commands(commands: Any) -> None:
     """Adds the commands to those of lislab."""
-    _add_deliver(commands.add_parser("deliver", help="delivers each whole message to a command or a directory"))
+    _add_deliver(commands.add_parser("deliver", help="delivers each whole message: to a command, a directory or MLLP"))
 
 
 def _add_deliver(one: argparse.ArgumentParser) -> None:
     _store(one)
     one.add_argument("--cursor", required=True, metavar="FILE", help="keeps which message was delivered last")
-    one.add_argument("--directory", metavar="DIR", help="a file for each message")
-    one.add_argument("--format", choices=export.FORMATS, default="records", help="(%(default)s)")
-    one.add_argument("--seconds", type=_FACTOR, default=60.0, help="how long the command has (%(default)s)")
+    one.add_argument(
+        "--to",
+        metavar="WHERE",
+        help="mllp://HOST:PORT, or a directory: a file for each message",
+    )
+    one.add_argument("--directory", metavar="DIR", help="the same as --to DIR")
+    one.add_argument("--format", choices=export.FORMATS, help="(oru over MLLP, else records)")
+    one.add_argument(
+        "--seconds", type=_FACTOR, default=60.0, help="how long a command or an answer may take (%(default)s)"
+    )
     one.add_argument("--once", action="store_true", help="deliver what there is, and end")
     one.add_argument(
         "--aside",
@@ -46,13 +55,29 @@ def _add_deliver(one: argparse.ArgumentParser) -> None:
 
 def _target_of(ask: argparse.Namespace) -> Callable[[Stored], None]:
     """What delivers a message, as the words have it."""
-    if bool(ask.directory) == bool(ask.words):
-        raise OptionError("name a directory by --directory, or a command after --")
-    write = export.writer_of(ask.format)
-    if ask.directory:
-        return deliver.to_directory(ask.directory, ask.format, write)
+    where: str = ask.to or ask.directory or ""
+    if [bool(ask.to), bool(ask.directory), bool(ask.words)].count(True) != 1:
+        raise OptionError("name where to by --to or --directory, or a command after --")
+    scheme, slashes, rest = where.partition("://")
+    scheme = scheme if slashes else ""
+    if scheme not in ("", *_SCHEMES):
+        raise OptionError(f"{where}: {', '.join(f'{one}://' for one in _SCHEMES)} or a directory is wanted")
+    form: str = ask.format or _SCHEMES.get(scheme, "records")
+    if scheme:
+        return _receiver_of(rest, form, ask)
+    write = export.writer_of(form)
+    if where:
+        return deliver.to_directory(where, form, write)
     words: List[str] = ask.words
     return deliver.to_command(words, write, ask.seconds)
+
+
+def _receiver_of(rest: str, form: str, ask: argparse.Namespace) -> Callable[[Stored], None]:
+    """A receiver of MLLP."""
+    if form != "oru":
+        raise OptionError(f"MLLP carries messages of HL7, --format oru, and not {form}")
+    host, port = split_peer(rest.rstrip("/"))
+    return mllp.to_mllp(mllp.Mllp(host, port, ask.seconds), export.writer_of(form))
 
 
 def run_deliver(ask: argparse.Namespace) -> int:

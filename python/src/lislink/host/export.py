@@ -7,7 +7,7 @@ from ..field import table
 from ..message import Fault, read_all
 from .store import UNFINISHED, UNREADABLE, WHOLE, Store, Stored
 
-FORMATS = ("records", "json", "csv", "tsv")
+FORMATS = ("records", "json", "csv", "tsv", "oru")
 #: What makes the bytes of a message; of None those at the head of all.
 Writer = Callable[[Optional[Stored]], bytes]
 #: The columns of a table before those of a result, and after them.
@@ -59,6 +59,8 @@ def writer_of(form: str) -> Writer:
         return lambda one: b"" if one is None else one.body
     if form == "json":
         return lambda one: b"" if one is None else (json.dumps(_as_data(one), ensure_ascii=False) + "\n").encode()
+    if form == "oru":
+        return _oru_writer()
     columns = table.columns_of(list(table.USUAL))
     own, last = ([table.Column(name, lambda where: "") for name in names] for names in (OWN, LAST))
     line = table.line_writer(form, [*own, *columns, *last])
@@ -72,6 +74,14 @@ def writer_of(form: str) -> Writer:
         return "".join(line([*own, *row, mended]) for row, _ in found if row is not None).encode()
 
     return rows
+
+
+def _oru_writer() -> Writer:
+    """What writes each message by itself as one of HL7. A message without results gives nothing."""
+    from ..delivery import oru
+
+    oru.library()
+    return lambda one: b"" if one is None else oru.oru_of(one)
 
 
 def _as_data(one: Stored) -> "dict[str, object]":

@@ -1,0 +1,115 @@
+"""Messages over MLLP: each is sent, and then its acknowledgement is waited for. What isn't acknowledged as accepted is
+a failure: AE, AR, an answer that can't be read, silence."""
+import contextlib
+import socket
+import time
+from typing import Callable, Optional
+
+from ..host.deliver import Refused, Unreachable
+from ..host.export import Writer
+from ..host.store import Stored
+from .oru import acknowledgement
+
+#: The bytes around a message; the most bytes of an answer; seconds for a connection.
+_START, _END, _MOST, _CONNECT = b"\x0b", b"\x1c\r", 1 << 20, 20.0
+_ACCEPTED, _REJECTED = ("AA", "CA"), ("AE", "AR", "CE", "CR")
+
+
+class _Closed(Exception):
+    """The receiver closed the connection."""
+
+
+class Mllp:
+    """A receiver. The connection stays open from one message to the next."""
+
+    def __init__(self, host: str, port: int, seconds: float) -> None:
+        self._host, self._port, self._seconds = host, port, seconds
+        self._line: Optional[socket.socket] = None
+        self._left = b""
+
+    def deliver(self, data: bytes, key: str) -> None:
+        """Sends a message, and waits until it is accepted; Refused if it isn't. If the connection is an earlier
+        message's, the receiver may have closed it meanwhile: the message is sent once more, over a new one."""
+        fresh = self._line is None
+        try:
+            self._try(data, key)
+        except _Closed as error:
+            if fresh:
+                raise Refused(f"{self._host}:{self._port}: {error}") from None
+            try:
+                self._try(data, key)
+            except _Closed as again:
+                raise Refused(f"{self._host}:{self._port}: {again}") from None
+
+    def _try(self, data: bytes, key: str) -> None:
+        line = self._line or self._connected()
+        try:
+            line.settimeout(self._seconds)
+            line.sendall(_START + data + _END)
+            self._answered(line, key)
+        except socket.timeout:
+            self.close()
+            raise Refused(f"{self._host}:{self._port}: no answer within {self._seconds:g} seconds") from None
+        except OSError as error:
+            self.close()
+            raise _Closed(f"the connection is lost: {error.strerror or error}") from None
+        except _Closed:
+            self.close()
+            raise
+
+    def _connected(self) -> socket.socket:
+        try:
+            line = socket.create_connection((self._host, self._port), _CONNECT)
+            line.setsockopt(socket.IPPROTO_TCP, socket.TCP_NODELAY, 1)
+        except (OSError, ValueError) as error:
+            raise Unreachable(f"{self._host}:{self._port}: {getattr(error, 'strerror', None) or error}") from None
+        self._line, self._left = line, b""
+        return line
+
+    def _answered(self, line: socket.socket, key: str) -> None:
+        """Waits for the answer to the message with this key. One to another message is late, and not looked at."""
+        until = time.monotonic() + self._seconds
+        while True:
+            told = acknowledgement(self._block(line, until))
+            if told is None:
+                self.close()
+                raise Refused(f"{self._host}:{self._port}: an answer that can't be read")
+            code, control, error = told
+            if control != key:
+                continue
+            if code in _ACCEPTED:
+                return
+            words = code if code in _REJECTED else "an answer without AA, AE or AR"
+            raise Refused(f"{self._host}:{self._port}: {words}" + (f", error {error}" if error else ""))
+
+    def _block(self, line: socket.socket, until: float) -> bytes:
+        """The next block that comes, without the bytes around it."""
+        while _END not in self._left:
+            line.settimeout(max(0.001, until - time.monotonic()))
+            data = line.recv(1 << 16)
+            if not data:
+                raise _Closed("the connection was closed without an answer")
+            self._left += data
+            if len(self._left) > _MOST:
+                self.close()
+                raise Refused(f"{self._host}:{self._port}: an answer that is too long")
+        block, _, self._left = self._left.partition(_END)
+        return block[block.rfind(_START) + 1 :]
+
+    def close(self) -> None:
+        """Closes the connection."""
+        line, self._line, self._left = self._line, None, b""
+        if line is not None:
+            with contextlib.suppress(OSError):
+                line.close()
+
+
+def to_mllp(receiver: Mllp, write: Writer) -> Callable[[Stored], None]:
+    """Sends each message to a receiver."""
+
+    def deliver(one: Stored) -> None:
+        data = write(one)
+        if data:
+            receiver.deliver(data, one.key)
+
+    return deliver

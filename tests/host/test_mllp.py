@@ -1,0 +1,314 @@
+"""Messages as ORU^R01, read back by the library hl7, and over MLLP to receivers that reject, are silent and die."""
+import os
+import random
+import re
+import shutil
+import socket
+import subprocess
+import sys
+import threading
+import time
+import unittest
+
+from lislink.host import deliver
+from lislink.host.store import WHOLE, Stored
+from lislink.delivery import mllp, oru
+from tests import kit
+from tests.host import hosts
+from tests.host.hosts import ENV, HostTest, lislab, process, wait_for
+from tests.host.receiver import MISSING, folder_of_hl7
+from tests.host.test_aside import keep, records
+
+RECEIVER = os.path.join(os.path.dirname(os.path.abspath(__file__)), "receiver.py")
+
+
+def stored(body, key="0000000000000001", encoding="utf-8", **more):
+    """A whole message that is kept."""
+    one = Stored(1, key, "chemistry", "10.0.5.7", encoding, 1767225600.0, 1767225600.0, WHOLE, "", None, body)
+    return one._replace(**more)
+
+
+def message(*rows, header="H|\\^&|||Analyzer 7"):
+    """A message of these records."""
+    return "".join(f"{row}\r" for row in [header, *rows, "L|1|N"]).encode()
+
+
+class WithLibrary(HostTest):
+    """Tests that need the library hl7."""
+
+    @classmethod
+    def setUpClass(cls):
+        super().setUpClass()
+        folder = folder_of_hl7()
+        if folder is None:
+            raise unittest.SkipTest(MISSING)
+        cls.addClassCleanup(shutil.rmtree, folder)
+        cls.env = {**ENV, "PYTHONPATH": f"{ENV['PYTHONPATH']}:{folder}"}
+        sys.path.append(folder)
+        cls.addClassCleanup(sys.path.remove, folder)
+
+    def read(self, data):
+        """What the library reads of a message."""
+        return oru.library().parse(data.decode())
+
+    def cells(self, data, *names):
+        """Fields of a message as the library reads them, escapes undone."""
+        found = self.read(data)
+        return [found[name] for name in names]
+
+
+class Oru(WithLibrary):
+    """ORU^R01, read back."""
+
+    def test_fields(self):
+        """A message's fields, and characters that mean something in HL7."""
+        rows = ["P|1|4711|L9||Doe^Jane^B||19800131|F", "C|1|L|of the patient|G", "O|1|S7^x|I3|^^^GLU|R||20261127103000"
+                "||||||||serum", "R|1|^^^GLU|5.40|mmol/L|3.9 to 6.1|H||F||op1|20261127103100|20261127103500|A7",
+                "C|1|I|a ^ b~c &F& \u03bc|G"]
+        out = oru.oru_of(stored(message(*rows)))
+        wanted = {
+            "MSH.F3": "lislab", "MSH.F4": "chemistry", "MSH.F9.R1.C3": "ORU_R01", "MSH.F10": "0000000000000001",
+            "MSH.F11": "P", "MSH.F12": "2.5.1", "MSH.F18": "UNICODE UTF-8", "PID.F3.R1": "4711", "PID.F3.R2": "L9",
+            "PID.F5.R1.C1": "Doe", "PID.F5.R1.C2": "Jane", "PID.F5.R1.C7": "L", "PID.F7": "19800131", "PID.F8": "F",
+            "NTE1.F3": "of the patient", "OBR.F2": "S7", "OBR.F3": "I3", "OBR.F4": "GLU", "OBR.F25": "F",
+            "OBX.F2": "NM", "OBX.F3.R1.C1": "GLU", "OBX.F5": "5.40", "OBX.F6": "mmol/L", "OBX.F7": "3.9-6.1",
+            "OBX.F8": "H", "OBX.F11": "F", "OBX.F14": "20261127103500", "OBX.F16": "op1", "OBX.F18": "A7",
+            "NTE2.F2": "O", "NTE2.F3": "a ^ b~c | \u03bc", "SPM.F4": "serum",
+        }
+        self.same("as they are read", dict(zip(wanted, self.cells(out, *wanted))), wanted)
+        self.same("segments", [str(one[0]) for one in self.read(out)],
+                  ["MSH", "PID", "NTE", "OBR", "OBX", "NTE", "SPM"])
+        self.same("the same bytes again", oru.oru_of(stored(message(*rows))), out)
+        self.same("the library writes what it reads", str(self.read(out)).encode(), out)
+
+    def test_page(self):
+        """The sample of HOST.md is what is written of the sample that it names."""
+        page = kit.read("docs/HOST.md")
+        block = re.search(r"(?ms)^```\n(MSH.*?)^```$", page)[1]
+        with open("samples/panel.records", "rb") as file:
+            out = oru.oru_of(stored(file.read(), "KEY")).decode().replace("\r", "\n")
+        self.same("as on the page", re.sub(r"\d{14}[+-]\d{4}", "TIME", out), re.sub(r"\d{14}[+-]\d{4}", "TIME", block))
+
+    def test_values(self):
+        """The type of a value, its status, and codes that are there twice."""
+        for value, kind, wanted in (("5.4", "NM", "5.4"), ("-.5", "NM", "-.5"), (">500", "SN", ">^500"),
+                                    ("<= 0.30", "SN", "<=^0.30"), ("neg", "ST", "neg"), ("1e3", "ST", "1e3"),
+                                    ("5,4", "ST", "5,4"), ("1:40", "ST", "1:40"), ("", "", ""),
+                                    ("x" * 200, "TX", "x" * 200)):
+            out = self.read(oru.oru_of(stored(message("P|1", "O|1|S7", f"R|1|^^^A|{value}|U/L"))))
+            found = out["OBX"][0]
+            self.same(f"of {value[:9]!r}", (str(found(2)), str(found(5)), str(found(6))), (kind, wanted, "U/L"))
+        for status, wanted, report in (("", "F", "F"), ("F", "F", "F"), ("C", "C", "C"), ("P", "P", "P"),
+                                       ("W", "P", "P"), ("V", "F", "F"), ("X", "X", "X"), ("N", "P", "P")):
+            out = self.read(oru.oru_of(stored(message("P|1", "O|1|S7", f"R|1|^^^A|1|||||{status}"))))
+            found = (str(out["OBX"][0](11)), str(out["OBR"][0](25)), "NTE" in str(out))
+            self.same(f"status {status}", found, (wanted, report, status in ("W", "N")))
+        twice = self.read(oru.oru_of(stored(message("P|1", "O|1|S7", "R|1|^^^A|1", "R|2|^^^B|1", "R|3|^^^A|2"))))
+        self.same("codes that are there twice", [str(one(4)) for one in twice["OBX"]], ["1", "", "2"])
+        control = self.read(oru.oru_of(stored(message("P|1", "O|1|QC1|||||||||Q", "R|1|^^^A|1"))))
+        self.same("a control", (str(control["OBR"][0](11)), "PID" in str(control)), ("Q", False))
+        query = oru.oru_of(stored(message("Q|1|^S7||ALL")))
+        self.same("a query has no results", query, b"")
+        again = self.read(oru.oru_of(stored(message("P|1", "O|1|S7", "R|1|^^^A|1"), again_of="00ff")))
+        self.same("a repeat is marked", str(again["NTE"][0](3)), "repeat of message 00ff")
+
+    def test_random(self):
+        """Random texts in each field: the library reads what was written."""
+        rng = random.Random(7)
+        for at in range(300):
+            texts = ["".join(rng.choice("ab|^~\\&#\u03bc\u00e9 .5") for _ in range(rng.randint(1, 9))).strip() or "x"
+                     for _ in range(4)]
+            sample, code, value, unit = (
+                one.replace("&", "&E&").replace("|", "&F&").replace("\\", "&R&").replace("^", "&S&") for one in texts
+            )
+            body = message("P|1", f"O|1|{sample}", f"R|1|^^^{code}|x{value}|{unit}")
+            found = self.cells(oru.oru_of(stored(body)), "OBR.F2", "OBX.F3", "OBX.F6")
+            self.need(found == [texts[0], texts[1], texts[3]], lambda: f"{at}: {texts}: {found}")
+
+    def test_no_library(self):
+        """Without the library it is said what to install."""
+        store = self.path("none.db")
+        keep(store, [records(["A"])])
+        folder = self.path("none")
+        os.mkdir(folder)
+        with open(os.path.join(folder, "hl7.py"), "w", encoding="ascii") as file:
+            file.write("raise ImportError('there is no hl7, as the test has it')\n")
+        env = {**ENV, "PYTHONPATH": f"{folder}:{ENV['PYTHONPATH']}"}
+        words = ["-m", "lislink", "export", "--store", store, "--format", "oru"]
+        done = subprocess.run([sys.executable, *words], capture_output=True, text=True, env=env, check=False)
+        self.same("the status", done.returncode, 3)
+        self.has("it is named", done.stderr, "install Debian's package python3-hl7")
+
+
+class Scripted:
+    """A receiver that answers each message by a function of its number and control id: bytes, None to close the
+    connection, or nothing at all."""
+
+    def __init__(self, answer):
+        self.answer, self.taken, self.connections = answer, [], 0
+        self.socket = socket.create_server(("127.0.0.1", 0))
+        self.port = self.socket.getsockname()[1]
+        threading.Thread(target=self.run, daemon=True).start()
+
+    def run(self):
+        """Takes connections, one after another."""
+        while True:
+            try:
+                line, _ = self.socket.accept()
+            except OSError:
+                return
+            self.connections += 1
+            with line:
+                self.talk(line)
+
+    def talk(self, line):
+        """Answers what comes over a connection."""
+        left = b""
+        while True:
+            data = line.recv(4096)
+            if not data:
+                return
+            left += data
+            while b"\x1c\r" in left:
+                block, _, left = left.partition(b"\x1c\r")
+                key = block.split(b"|")[9]
+                self.taken.append(key.decode())
+                answer = self.answer(len(self.taken), key)
+                if answer is None:
+                    return
+                line.sendall(answer)
+
+    def close(self):
+        """Takes no more connections."""
+        self.socket.close()
+
+
+def ack(code, key, more=b""):
+    """An acknowledgement."""
+    return b"\x0bMSH|^~\\&|R||||20260101||ACK^R01^ACK|9|P|2.5.1\rMSA|" + code + b"|" + key + more + b"\r\x1c\r"
+
+
+class Receivers(WithLibrary):
+    """MLLP, with its acknowledgements."""
+
+    def sent(self, answer, keys=("k1",), seconds=60.0):
+        """What became of messages to a receiver that answers so: for each what was wrong, empty if nothing was."""
+        told, receiver = [], Scripted(answer)
+        one = mllp.Mllp("127.0.0.1", receiver.port, seconds)
+        for key in keys:
+            try:
+                one.deliver(oru.oru_of(stored(records(["A"]), key)), key)
+                told.append("")
+            except deliver.Refused as error:
+                told.append(type(error).__name__ + ": " + str(error).split(": ", 1)[1])
+        one.close()
+        receiver.close()
+        return told, receiver
+
+    def test_answers(self):
+        """What is accepted, and what is a failure."""
+        secret = b"|unknown patient Doe\rERR||OBX^1^3|207^Application internal error^HL70357|E|||Doe isn't there"
+        for name, answer, wanted in (
+            ("AA", lambda at, key: ack(b"AA", key), ""),
+            ("CA", lambda at, key: ack(b"CA", key), ""),
+            ("AE", lambda at, key: ack(b"AE", key), "Refused: AE"),
+            ("AR", lambda at, key: ack(b"AR", key), "Refused: AR"),
+            ("an error's codes, and not its texts", lambda at, key: ack(b"AE", key, secret),
+             "Refused: AE, error 207 at OBX^1^3"),
+            ("another code", lambda at, key: ack(b"ZZ", key), "Refused: an answer without AA, AE or AR"),
+            ("no message", lambda at, key: b"\x0bhello\x1c\r", "Refused: an answer that can't be read"),
+            ("no code", lambda at, key: b"\x0bMSH|^~\\&|R\r\x1c\r", "Refused: an answer that can't be read"),
+            ("a late answer first", lambda at, key: ack(b"AE", b"another") + ack(b"AA", key), ""),
+            ("in two parts", lambda at, key: b"noise" + ack(b"AA", key), ""),
+            ("closed", lambda at, key: None, "Refused: the connection was closed without an answer"),
+        ):
+            self.same(name, self.sent(answer)[0], [wanted])
+        told, _ = self.sent(lambda at, key: b"", seconds=0.3)
+        self.same("silence", told, ["Refused: no answer within 0.3 seconds"])
+        told, _ = self.sent(lambda at, key: ack(b"AA", b"another"), seconds=0.3)
+        self.same("the answer to another message", told, ["Refused: no answer within 0.3 seconds"])
+        told, receiver = self.sent(lambda at, key: ack(b"AA", key), ("k1", "k2", "k3"))
+        self.same("one connection for all", (told, receiver.connections), (["", "", ""], 1))
+
+    def test_closed_between(self):
+        """A receiver that closes the connection between two messages gets the second over a new one, at once."""
+        told, receiver = self.sent(lambda at, key: None if at == 2 else ack(b"AA", key), ("k1", "k2"))
+        self.same("both are accepted", told, ["", ""])
+        self.same("the second was sent twice, by the same id", receiver.taken, ["k1", "k2", "k2"])
+        free = socket.create_server(("127.0.0.1", 0))
+        one = mllp.Mllp("127.0.0.1", free.getsockname()[1], 5.0)
+        free.close()
+        self.raises("nobody listens", deliver.Unreachable, lambda: one.deliver(b"MSH|", "k"))
+
+    def test_rejected(self):
+        """A message that a receiver rejects is set aside by --aside, and the others go on."""
+        store, cursor = self.path("rejected.db"), self.path("rejected.cursor")
+        keys = keep(store, [records([one]) for one in "ABAC"])
+        receiver = Scripted(lambda at, key: ack(b"AR" if key == keys[0].encode() else b"AA", key))
+        words = ["--cursor", cursor, "--to", f"mllp://127.0.0.1:{receiver.port}", "--once", "--aside", "1"]
+        done = self.run_it("deliver", "--store", store, *words)
+        receiver.close()
+        self.same("the status", done.returncode, 1)
+        self.has("it is said", done.stderr, f"{keys[0]} is set aside: 127.0.0.1:{receiver.port}: AR\n")
+        self.same("what was sent", receiver.taken, [keys[0], keys[1], keys[3]])
+        wrong = self.run_it("deliver", "--store", store, "--cursor", cursor, "--to", "mllp://h:1", "--format", "csv")
+        self.same("another format", (wrong.returncode, "--format oru" in wrong.stderr), (2, True))
+
+    def run_it(self, *words):
+        """Runs a command with the library."""
+        command = [sys.executable, "-m", "lislink", *words]
+        return subprocess.run(command, capture_output=True, text=True, env=self.env, timeout=120, check=False)
+
+    def test_kills(self):
+        """A receiver on the same library that is killed at random, and before and after it takes a message: each message
+        at least once, in order by sample, none under two ids."""
+        size, rng = hosts.size("mllp"), random.Random(11)
+        samples = [rng.choice("ABCDEFGH") for _ in range(size)]
+        store, log = self.path("kills.db"), self.path("kills.log")
+        keys = keep(store, [records([one], str(at)) for at, one in enumerate(samples)])
+        receiver, port = self.receiver(0, log)
+        words = ["--store", store, "--cursor", self.path("kills.cursor"), "--to", f"mllp://127.0.0.1:{port}"]
+        process(["-m", "lislink", "deliver", *words], env=self.env)
+        kills = size // 100 + 2
+        for kill in range(1, kills + 1):
+            count = size * kill // (kills + 1)
+            self.need(wait_for(lambda: len(self.taken(log)) >= count, 60), lambda: f"before kill {kill}")
+            if kill % 3:
+                with open(log + ".new", "w", encoding="ascii") as file:
+                    file.write(("", "before", "after")[kill % 3])
+                os.rename(log + ".new", log + ".die")
+                self.need(wait_for(lambda one=receiver: one.poll() is not None, 60), lambda: f"at kill {kill}")
+            else:
+                time.sleep(rng.random() * 0.02)
+                receiver.kill()
+            receiver.wait()
+            receiver, _ = self.receiver(port, log)
+        wait_for(lambda: len({row[0] for row in self.taken(log)}) == size, 60)
+        found = self.taken(log)
+        hosts.say(f"{size} messages, {kills} kills of the receiver, {len(found) - size} came twice")
+        self.same("each at least once", sorted({row[0] for row in found}), keys)
+        ids = [(key, str(at)) for at, key in enumerate(keys)]
+        self.same("under one id", sorted({(row[0], row[2]) for row in found}), ids)
+        firsts = list(dict.fromkeys((row[1], row[0]) for row in found))
+        for sample in "ABCDEFGH":
+            mine = [key for key, one in zip(keys, samples) if one == sample]
+            self.same(f"in order: {sample}", [key for one, key in firsts if one == sample], mine)
+
+    def receiver(self, port, log):
+        """A receiver that runs, and its port."""
+        for _ in range(100):
+            one = process([RECEIVER, str(port), log], stdout=subprocess.PIPE, env=self.env)
+            told = one.stdout.readline()
+            one.stdout.close()
+            if told:
+                return one, int(told)
+            time.sleep(0.1)
+        raise RuntimeError("the receiver doesn't start")
+
+    @staticmethod
+    def taken(log):
+        """The rows of a receiver's log."""
+        if not os.path.exists(log):
+            return []
+        with open(log, encoding="utf-8") as file:
+            return [tuple(row.split()) for row in file if row.endswith("\n")]
