@@ -42,7 +42,9 @@ FAULTS = {
         "host/deliver.py", "            grant(self._cursor.path, key)\n", ""
     ),
     "test_aside.Asides.test_random": Edit(
-        "host/deliver.py", "                blocked |= set(held.samples)\n                continue\n            try", "                continue\n            try"
+        "host/deliver.py",
+        "                blocked |= set(held.samples)\n                continue\n            try",
+        "                continue\n            try",
     ),
     "test_aside.Asides.test_what_is_not_counted": Edit(
         "host/deliver.py",
@@ -55,7 +57,9 @@ FAULTS = {
         "    except (OSError, ValueError):\n        return {}",
     ),
     "test_aside.Cursors.test_once": Edit(
-        "host/deliver.py", "            if once:\n                raise\n            failed = str(error)", "            failed = str(error)"
+        "host/deliver.py",
+        "            if once:\n                raise\n            failed = str(error)",
+        "            failed = str(error)",
     ),
     "test_aside.Cursors.test_service": Edit(
         "host/deliver.py",
@@ -91,6 +95,21 @@ FAULTS = {
     "test_connect.Connect.test_a_call_to_itself": Edit(
         "host/serve.py", 'name == transport.get_extra_info("sockname") or', 'name == () or'
     ),
+    "test_fhir.Fhir.test_fields": Edit("delivery/fhir.py", 'return f"{data:f}"', "return str(float(data))"),
+    "test_fhir.Fhir.test_structure": Edit(
+        "delivery/fhir.py", '_STATUS.get(result.status, "unknown")', "_STATUS.get(result.status, result.status)"
+    ),
+    "test_fhir.Https.test_answers": Edit("delivery/https.py", "422, 500)", "422, 500, 503)"),
+    "test_fhir.Https.test_certificate": Edit(
+        "delivery/https.py",
+        "return ssl.create_default_context(cafile=authority)",
+        "return ssl._create_unverified_context()",
+    ),
+    "test_fhir.Https.test_mllps": Edit(
+        "delivery/mllp.py", "            if self._context is not None:\n", "            if self._context is None:\n"
+    ),
+    "test_fhir.Https.test_posts": Edit("delivery/https.py", '"X-Request-ID": key', '"X-Request-ID": kind'),
+    "test_fhir.Https.test_words": Edit("delivery/https.py", "or parts.username or", "or"),
     "test_files.Whole.test_damaged": Edit(
         "host/commands.py", "return writing(path)", 'return contextlib.nullcontext(open(path, "wb"))'
     ),
@@ -208,7 +227,9 @@ FAULTS = {
         "host/options.py", "tuple(one for one in NAMES if one in given)", "tuple(given)"
     ),
     "test_mllp.Oru.test_fields": Edit("delivery/oru.py", "10: one.key,", "10: one.line,"),
-    "test_mllp.Oru.test_no_library": Edit("delivery/oru.py", "        raise LibraryMissing(why) from None", "        raise"),
+    "test_mllp.Oru.test_no_library": Edit(
+        "delivery/oru.py", "        raise LibraryMissing(why) from None", "        raise"
+    ),
     "test_mllp.Oru.test_page": Edit("delivery/oru.py", "25: _report(order),", "24: _report(order),"),
     "test_mllp.Oru.test_random": Edit("delivery/oru.py", ', "&": "\\\\T\\\\"}', "}"),
     "test_mllp.Oru.test_values": Edit(
@@ -580,6 +601,8 @@ HARMLESS = (
     ),
     Edit("host/deliver.py", "        elif not found:\n", "        elif found == 0:\n"),
     Edit("delivery/aside.py", "sorted([*others, row])", "sorted([row, *others])"),
+    Edit("delivery/mllp.py", "if len(self._left) > _MOST:", "if _MOST < len(self._left):"),
+    Edit("delivery/fhir.py", "for name, one in data.items()) +", "for name, one in [*data.items()]) +"),
     Edit(
         "host/export.py",
         "        if one is None:\n            return line(None)",

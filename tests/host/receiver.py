@@ -1,6 +1,6 @@
-"""A receiver of MLLP on the library hl7: receiver.py PORT LOG. It writes the control id, the sample and the value of each
-message into its log, and then acknowledges it. It prints its port. A file LOG.die kills it: `before` in it at the next
-message, `after` when that is in the log and not acknowledged."""
+"""A receiver of MLLP on the library hl7: receiver.py PORT LOG. It writes the control id, the sample and the value of
+each message into its log, and then acknowledges it. It prints its port. A file LOG.die kills it: `before` in it at the
+next message, `after` when that is in the log and not acknowledged."""
 import asyncio
 import importlib.util
 import os

@@ -191,7 +191,7 @@ class Cursors(HostTest):
         self.raises("it is stopped by the test", Stopped, lambda: deliver.run(one, False))
         self.same("each once", taken, keys)
         self.same("it says so", len(said), 3)
-        self.has("and which", said[0], f"cursor: No such file or directory: message 1 {keys[0]} is done, and the cursor")
+        self.has("and which", said[0], f"cursor: No such file or directory: message 1 {keys[0]} is done, and the")
         self.same("the cursor", place.key, keys[1])
         opened.close()
 

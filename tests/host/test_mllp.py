@@ -144,8 +144,8 @@ class Scripted:
     """A receiver that answers each message by a function of its number and control id: bytes, None to close the
     connection, or nothing at all."""
 
-    def __init__(self, answer):
-        self.answer, self.taken, self.connections = answer, [], 0
+    def __init__(self, answer, context=None):
+        self.answer, self.taken, self.connections, self.context = answer, [], 0, context
         self.socket = socket.create_server(("127.0.0.1", 0))
         self.port = self.socket.getsockname()[1]
         threading.Thread(target=self.run, daemon=True).start()
@@ -159,7 +159,10 @@ class Scripted:
                 return
             self.connections += 1
             with line:
-                self.talk(line)
+                try:
+                    self.talk(line if self.context is None else self.context.wrap_socket(line, server_side=True))
+                except OSError:
+                    continue
 
     def talk(self, line):
         """Answers what comes over a connection."""
@@ -260,8 +263,8 @@ class Receivers(WithLibrary):
         return subprocess.run(command, capture_output=True, text=True, env=self.env, timeout=120, check=False)
 
     def test_kills(self):
-        """A receiver on the same library that is killed at random, and before and after it takes a message: each message
-        at least once, in order by sample, none under two ids."""
+        """A receiver on the same library that is killed at random, and before and after it takes a message: each
+        message at least once, in order by sample, none under two ids."""
         size, rng = hosts.size("mllp"), random.Random(11)
         samples = [rng.choice("ABCDEFGH") for _ in range(size)]
         store, log = self.path("kills.db"), self.path("kills.log")

@@ -10,17 +10,18 @@ from ..host.files import is_locked
 from ..host.options import OptionError, split_peer
 from ..host.said import say
 from ..host.store import StoreError, Stored, open_store
-from . import aside, mllp
+from . import aside, https, mllp
 
 #: Exit statuses, as those of the other commands.
 GOOD, WRONG = 0, 1
 #: Where messages go, and the form that they have there if none is named.
-_SCHEMES = {"mllp": "oru"}
+_SCHEMES = {"mllp": "oru", "mllps": "oru", "https": "fhir"}
 
 
 def add_commands(commands: Any) -> None:
     """Adds the commands to those of lislab."""
-    _add_deliver(commands.add_parser("deliver", help="delivers each whole message: to a command, a directory or MLLP"))
+    where = "delivers each whole message: to a command, a directory, MLLP or HTTPS"
+    _add_deliver(commands.add_parser("deliver", help=where))
 
 
 def _add_deliver(one: argparse.ArgumentParser) -> None:
@@ -29,10 +30,14 @@ def _add_deliver(one: argparse.ArgumentParser) -> None:
     one.add_argument(
         "--to",
         metavar="WHERE",
-        help="mllp://HOST:PORT, or a directory: a file for each message",
+        help="mllp://HOST:PORT, mllps://HOST:PORT (TLS), https://.., or a directory: a file for each message",
     )
     one.add_argument("--directory", metavar="DIR", help="the same as --to DIR")
-    one.add_argument("--format", choices=export.FORMATS, help="(oru over MLLP, else records)")
+    one.add_argument(
+        "--format", choices=export.FORMATS, help="(oru over MLLP, fhir over HTTPS, else records)"
+    )
+    one.add_argument("--ca", metavar="FILE", help="the authorities of a certificate, in PEM; else the system's")
+    one.add_argument("--headers", metavar="FILE", help="header fields for HTTPS, rows of Name: value")
     one.add_argument(
         "--seconds", type=_FACTOR, default=60.0, help="how long a command or an answer may take (%(default)s)"
     )
@@ -62,22 +67,28 @@ def _target_of(ask: argparse.Namespace) -> Callable[[Stored], None]:
     scheme = scheme if slashes else ""
     if scheme not in ("", *_SCHEMES):
         raise OptionError(f"{where}: {', '.join(f'{one}://' for one in _SCHEMES)} or a directory is wanted")
+    if (ask.ca and scheme not in ("mllps", "https")) or (ask.headers and scheme != "https"):
+        raise OptionError("--ca is for mllps:// and https://, --headers for https://")
     form: str = ask.format or _SCHEMES.get(scheme, "records")
-    if scheme:
-        return _receiver_of(rest, form, ask)
+    if scheme in ("mllp", "mllps"):
+        return _receiver_of(scheme, rest, form, ask)
     write = export.writer_of(form)
+    if scheme == "https":
+        headers = https.headers_of(ask.headers) if ask.headers else {}
+        return https.to_https(https.Https(where, ask.seconds, https.context_of(ask.ca), headers), write, form)
     if where:
         return deliver.to_directory(where, form, write)
     words: List[str] = ask.words
     return deliver.to_command(words, write, ask.seconds)
 
 
-def _receiver_of(rest: str, form: str, ask: argparse.Namespace) -> Callable[[Stored], None]:
+def _receiver_of(scheme: str, rest: str, form: str, ask: argparse.Namespace) -> Callable[[Stored], None]:
     """A receiver of MLLP."""
     if form != "oru":
         raise OptionError(f"MLLP carries messages of HL7, --format oru, and not {form}")
     host, port = split_peer(rest.rstrip("/"))
-    return mllp.to_mllp(mllp.Mllp(host, port, ask.seconds), export.writer_of(form))
+    context = https.context_of(ask.ca) if scheme == "mllps" else None
+    return mllp.to_mllp(mllp.Mllp(host, port, ask.seconds, context), export.writer_of(form))
 
 
 def run_deliver(ask: argparse.Namespace) -> int:

@@ -2,6 +2,7 @@
 a failure: AE, AR, an answer that can't be read, silence."""
 import contextlib
 import socket
+import ssl
 import time
 from typing import Callable, Optional
 
@@ -22,8 +23,8 @@ class _Closed(Exception):
 class Mllp:
     """A receiver. The connection stays open from one message to the next."""
 
-    def __init__(self, host: str, port: int, seconds: float) -> None:
-        self._host, self._port, self._seconds = host, port, seconds
+    def __init__(self, host: str, port: int, seconds: float, context: Optional[ssl.SSLContext] = None) -> None:
+        self._host, self._port, self._seconds, self._context = host, port, seconds, context
         self._line: Optional[socket.socket] = None
         self._left = b""
 
@@ -61,6 +62,8 @@ class Mllp:
         try:
             line = socket.create_connection((self._host, self._port), _CONNECT)
             line.setsockopt(socket.IPPROTO_TCP, socket.TCP_NODELAY, 1)
+            if self._context is not None:
+                line = self._context.wrap_socket(line, server_hostname=self._host)
         except (OSError, ValueError) as error:
             raise Unreachable(f"{self._host}:{self._port}: {getattr(error, 'strerror', None) or error}") from None
         self._line, self._left = line, b""

@@ -177,8 +177,8 @@ class _Round:
             self._to.say(f"message {one.number} {one.key} is set aside: {error}")
 
     def again(self, key: str) -> bool:
-        """Sends a message that is set aside, with those of its samples, in order; whether none of them is left. One that
-        fails holds up those of its samples."""
+        """Sends a message that is set aside, with those of its samples, in order; whether none of them is left. One
+        that fails holds up those of its samples."""
         assert self._aside is not None
         blocked: Set[str] = set()
         asked = self._aside.together(key)

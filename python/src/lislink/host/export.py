@@ -7,7 +7,7 @@ from ..field import table
 from ..message import Fault, read_all
 from .store import UNFINISHED, UNREADABLE, WHOLE, Store, Stored
 
-FORMATS = ("records", "json", "csv", "tsv", "oru")
+FORMATS = ("records", "json", "csv", "tsv", "oru", "fhir")
 #: What makes the bytes of a message; of None those at the head of all.
 Writer = Callable[[Optional[Stored]], bytes]
 #: The columns of a table before those of a result, and after them.
@@ -59,8 +59,8 @@ def writer_of(form: str) -> Writer:
         return lambda one: b"" if one is None else one.body
     if form == "json":
         return lambda one: b"" if one is None else (json.dumps(_as_data(one), ensure_ascii=False) + "\n").encode()
-    if form == "oru":
-        return _oru_writer()
+    if form in ("oru", "fhir"):
+        return _message_writer(form)
     columns = table.columns_of(list(table.USUAL))
     own, last = ([table.Column(name, lambda where: "") for name in names] for names in (OWN, LAST))
     line = table.line_writer(form, [*own, *columns, *last])
@@ -76,12 +76,14 @@ def writer_of(form: str) -> Writer:
     return rows
 
 
-def _oru_writer() -> Writer:
-    """What writes each message by itself as one of HL7. A message without results gives nothing."""
-    from ..delivery import oru
+def _message_writer(form: str) -> Writer:
+    """What writes each message by itself in a form of HL7. A message without results gives nothing."""
+    from ..delivery import fhir, oru
 
-    oru.library()
-    return lambda one: b"" if one is None else oru.oru_of(one)
+    if form == "oru":
+        oru.library()
+    write = oru.oru_of if form == "oru" else fhir.bundle_of
+    return lambda one: b"" if one is None else write(one)
 
 
 def _as_data(one: Stored) -> "dict[str, object]":

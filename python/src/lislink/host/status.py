@@ -151,7 +151,8 @@ def text_of(data: Dict[str, Any]) -> str:
         oldest = f", the oldest of {one['oldest']}" if one["messages"] else ""
         aside = f"; {len(one['aside'])} set aside" if one["aside"] else ""
         rows.append(f"{one['cursor']}: {one['messages']} messages not delivered{oldest}{aside}")
-        rows += [f"  {held['key']} failed {held['tries']} times: {held['why']}" for held in one["aside"] if held["tries"]]
+        for held in one["aside"]:
+            rows += [f"  {held['key']} failed {held['tries']} times: {held['why']}"] if held["tries"] else []
     for name, settings in sorted(data["would"].items()):
         rows += [f"{name}: {setting} would deliver {count} messages" for setting, count in sorted(settings.items())]
     for name, kinds in sorted(data["not_said"].items()):

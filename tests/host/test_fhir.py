@@ -1,0 +1,248 @@
+"""Messages as Bundles of FHIR R4, against the published structure, and over HTTPS to a server with a certificate of its
+own."""
+import decimal
+import http.server
+import json
+import os
+import random
+import shutil
+import socketserver
+import ssl
+import subprocess
+import threading
+import time
+
+from lislink.host import deliver
+from lislink.host.options import OptionError
+from lislink.delivery import aside, fhir, https, mllp
+from tests.host import fhir_r4
+from tests.host.hosts import HostTest, lislab
+from tests.host.test_aside import keep, records
+from tests.host.test_mllp import Scripted, WithLibrary, ack, message, stored
+
+
+def observations(data):
+    """The Observations of a Bundle."""
+    return [one["resource"] for one in json.loads(data, parse_float=decimal.Decimal)["entry"]]
+
+
+class Fhir(HostTest):
+    """Bundles of Observations."""
+
+    def test_fields(self):
+        """A message's fields."""
+        rows = ["P|1|4711|L9", "O|1|S7|I3|^^^GLU|R", 
+                "R|1|^^^GLU^1|5.40|mmol/L|3.9 to 6.10|H\\A||F||op1||20261127103500|A7", "C|1|I|a comment|G", "R|2|^^^NA|neg|mmol/L|usual|!||W", "R|3|^^^K||mmol/L", "P|2", "O|1|QC|||||||||Q",
+                "R|1|^^^K|>500|U/L|<5"]
+        out = fhir.bundle_of(stored(message(*rows), again_of="00ff")).decode()
+        bundle = json.loads(out)
+        self.same("the Bundle", (bundle["type"], bundle["identifier"]["value"]), ("transaction", "0000000000000001"))
+        one, two, three, four = observations(out)
+        self.same("no fault", fhir_r4.faults(out), [])
+        self.same("a quantity", one["valueQuantity"], {"value": decimal.Decimal("5.40"), "unit": "mmol/L"})
+        self.has("its digits stay", out, '"valueQuantity":{"value":5.40,')
+        self.same("status", [it["status"] for it in (one, two, three)], ["final", "unknown", "final"])
+        self.same("the patient", one["subject"], {"type": "Patient", "identifier": {"value": "4711"}})
+        self.same("the sample", one["specimen"]["identifier"]["value"], "S7")
+        self.same("the range", one["referenceRange"], [{"low": {"value": decimal.Decimal("3.9"), "unit": "mmol/L"},
+                                                        "high": {"value": decimal.Decimal("6.10"), "unit": "mmol/L"}}])
+        self.same("flags", [it["coding"][0]["code"] for it in one["interpretation"]], ["H", "A"])
+        self.true("the time has a zone", one["effectiveDateTime"].startswith("2026-11-27T10:35:00") and
+                  len(one["effectiveDateTime"]) == 25, one["effectiveDateTime"])
+        self.same("notes", [it["text"] for it in one["note"]], ["a comment", "repeat of message 00ff"])
+        self.same("a text has its unit", (two["valueString"], two["interpretation"], two["referenceRange"]),
+                  ("neg mmol/L", [{"text": "!"}], [{"text": "usual"}]))
+        self.has("a status that FHIR hasn't", str(two["note"]), "the analyzer's status is W")
+        self.true("without a value", "dataAbsentReason" in three and "valueString" not in three)
+        self.same("a comparator", four["valueQuantity"]["comparator"], ">")
+        self.true("a control, without a patient", "subject" not in four and "a control" in str(four["note"]))
+        entry = bundle["entry"][1]["request"]
+        self.same("it is created once", (entry["method"], entry["url"], entry["ifNoneExist"]),
+                  ("POST", "Observation", "identifier=urn:lislab:message|0000000000000001-2"))
+        self.same("the same bytes again", fhir.bundle_of(stored(message(*rows), again_of="00ff")).decode(), out)
+        self.same("a query has none", fhir.bundle_of(stored(message("Q|1|^S7||ALL"))), b"")
+
+    def test_structure(self):
+        """Random messages are as published; and what isn't, is noticed."""
+        rng = random.Random(5)
+        words = ("", "5.4", "-.5", "+007.10", ">5", "<=.3", "1e3", "neg", " ", "a &F& b", "3-4", "20261127",
+                 "2026", "H", "\u03bc")
+        for at in range(400):
+            rows = []
+            for letter, count in (("P", 11), ("O", 26), ("R", 14), ("C", 5)):
+                cells = [rng.choice(words) + rng.choice(("", "", "^x", "\\y")) for _ in range(count)]
+                rows.append("|".join([letter, "1", *cells]))
+            out = fhir.bundle_of(stored(message(*rows))).decode()
+            self.need(fhir_r4.faults(out) == [], lambda: f"{at}: {fhir_r4.faults(out)}: {rows}")
+        good = fhir.bundle_of(stored(message("P|1|4711", "O|1|S7", "R|1|^^^A|<5.4|U/L|1-2|H", "C|1|I|x"))).decode()
+        self.same("a good one", fhir_r4.faults(good), [])
+        for old, new in (
+            ('"status":"final"', '"status":"done"'), ('"status":"final",', ""),
+            ('"code":{"coding":[{"code":"A"}],"text":"A"},', ""), ('"value":5.4', '"value":"5.4"'),
+            ('"comparator":"<"', '"comparator":"="'), ('"type":"transaction"', '"type":"batched"'),
+            ('"type":"transaction"', '"type":"collection"'),
+            ('"resourceType":"Observation"', '"resourceType":"Result"'),
+            ('"note":[{"text":"x"}]', '"note":{"text":"x"}'), ('"note":[{"text":"x"}]', '"note":[]'),
+            ('"low":{"value":1', '"low":{"comparator":"<","value":1'), ('"method":"POST",', ""),
+            ('"unit":"U/L"', '"units":"U/L"'), ('"text":"x"', '"text":""'), ('"issued":"20', '"issued":"'),
+        ):
+            self.true(f"{old} as {new}", old in good and fhir_r4.faults(good.replace(old, new)), good)
+
+
+class Server(http.server.BaseHTTPRequestHandler):
+    """Answers each POST by a function of its number and its key: a status, None to close the connection."""
+
+    protocol_version = "HTTP/1.1"
+
+    def do_POST(self):
+        """Takes a message."""
+        body = self.rfile.read(int(self.headers["Content-Length"]))
+        key = self.headers["X-Request-ID"]
+        self.server.taken.append((self.path, key, self.headers["Content-Type"], self.headers["X-Test"], body))
+        status = self.server.answer(len(self.server.taken), key)
+        if status is None:
+            self.close_connection = True
+            return
+        self.send_response(status)
+        self.send_header("Content-Length", "0")
+        self.end_headers()
+
+    def log_message(self, *_):
+        """Says nothing."""
+
+
+class Threads(socketserver.ThreadingMixIn, http.server.HTTPServer):
+    """A server with a thread for each connection."""
+
+    daemon_threads = True
+
+    def handle_error(self, request, client_address):
+        """Says nothing: a client that doesn't trust it goes away."""
+
+
+class Https(WithLibrary):
+    """HTTPS, and MLLP over TLS."""
+
+    @classmethod
+    def setUpClass(cls):
+        super().setUpClass()
+        cls.store = os.path.join(cls.folder.name, "https.db")
+        cls.keys = keep(cls.store, [records([one]) for one in "ABAC"])
+
+    def certificate(self, name, *names):
+        """The files of a certificate of its own, and of its key."""
+        self.needs("openssl", shutil.which("openssl"), self.checks, "HTTPS with a certificate of its own")
+        path, key = self.path(f"{name}.pem"), self.path(f"{name}.key")
+        words = ["req", "-x509", "-newkey", "rsa:2048", "-nodes", "-days", "3650", "-subj", "/CN=test", "-addext",
+                 f"subjectAltName={','.join(names)}", "-keyout", key, "-out", path]
+        subprocess.run(["openssl", *words], check=True, capture_output=True)
+        return path, key
+
+    def served(self, files, answer=lambda at, key: 201):
+        """A server with this certificate."""
+        server = Threads(("127.0.0.1", 0), Server)
+        server.taken, server.answer = [], answer
+        context = ssl.SSLContext(ssl.PROTOCOL_TLS_SERVER)
+        context.load_cert_chain(*files)
+        server.socket = context.wrap_socket(server.socket, server_side=True, do_handshake_on_connect=False)
+        threading.Thread(target=server.serve_forever, args=(0.05,), daemon=True).start()
+        self.addCleanup(server.server_close)
+        self.addCleanup(server.shutdown)
+        return server
+
+    def deliver(self, cursor, server, *words, host="localhost"):
+        """Delivers what there is to a server."""
+        to = f"https://{host}:{server.server_address[1]}/fhir?x=1"
+        return lislab("deliver", "--store", self.store, "--cursor", self.path(cursor), "--once", "--to", to, *words)
+
+    def test_posts(self):
+        """Each message is posted, in order, by its key."""
+        self.checks = 5
+        files = self.certificate("posts", "DNS:localhost")
+        server, headers = self.served(files), self.path("headers")
+        with open(headers, "w", encoding="ascii") as file:
+            file.write("X-Test: a secret\n")
+        done = self.deliver("posts.cursor", server, "--ca", files[0], "--headers", headers)
+        self.same("the status", (done.returncode, done.stderr), (0, "lislab: 4 messages delivered\n"))
+        found = [(path, key, kind, more) for path, key, kind, more, _ in server.taken]
+        wanted = [("/fhir?x=1", key, "application/fhir+json; charset=utf-8", "a secret") for key in self.keys]
+        self.same("as they came", found, wanted)
+        self.same("each is a Bundle", [fhir_r4.faults(body) for *_, body in server.taken], [[]] * 4)
+        self.same("of its message", [json.loads(body)["identifier"]["value"] for *_, body in server.taken], self.keys)
+        other = self.deliver("csv.cursor", server, "--ca", files[0], "--format", "csv")
+        self.same("another form", (other.returncode, server.taken[-1][2]), (0, "text/csv; charset=utf-8"))
+
+    def test_certificate(self):
+        """A certificate that isn't the one that is wanted: nothing is sent, and no message is at fault."""
+        self.checks = 8
+        files, others = self.certificate("right", "DNS:localhost"), self.certificate("wrong", "DNS:localhost")
+        server = self.served(files)
+        for name, words, host in (
+            ("the system's authorities", [], "localhost"),
+            ("another's authority", ["--ca", others[0]], "localhost"),
+            ("another name", ["--ca", files[0]], "127.0.0.1"),
+        ):
+            done = self.deliver("certificate.cursor", server, "--aside", "1", *words, host=host)
+            said = "certificate verify failed" in done.stderr
+            self.same(f"{name}: it is said", (done.returncode, said), (1, True))
+            self.same(f"{name}: nothing was sent", server.taken, [])
+        self.same("nothing is set aside", aside.held_of(self.path("certificate.cursor")), [])
+        good = self.deliver("certificate.cursor", server, "--ca", files[0])
+        self.same("with the right one it is", (good.returncode, len(server.taken)), (0, 4))
+
+    def test_answers(self):
+        """What is a failure of a message, and what is the server's."""
+        self.checks = 12
+        files = self.certificate("answers", "DNS:localhost")
+        good, bad, away = "", "Refused", "Unreachable"
+        for status, wanted in ((200, good), (201, good), (400, bad), (422, bad), (500, bad), (None, bad), (404, away),
+                               (401, away), (503, away), (302, away)):
+            server = self.served(files, lambda at, key, status=status: status)
+            self.same(f"status {status}", self.told(server, files, ["k"]), [wanted])
+        server = self.served(files, lambda at, key: None if at == 2 else 200)
+        self.same("closed between two messages", self.told(server, files, ["k1", "k2"]), ["", ""])
+        server = self.served(files, lambda at, key: time.sleep(3.0) or 200)
+        self.same("silence", self.told(server, files, ["k"], 0.3), ["Refused"])
+
+    def told(self, server, files, keys, seconds=60.0):
+        """What became of messages to a server: what each failed with."""
+        told, port = [], server.server_address[1]
+        one = https.Https(f"https://localhost:{port}/", seconds, https.context_of(files[0]), {})
+        for key in keys:
+            try:
+                one.deliver(b"{}", key, "text/plain")
+                told.append("")
+            except deliver.Refused as error:
+                told.append(type(error).__name__)
+        return told
+
+    def test_mllps(self):
+        """MLLP over TLS, and not to a receiver with another certificate."""
+        self.checks = 3
+        files, others = self.certificate("mllps", "DNS:localhost"), self.certificate("others", "DNS:localhost")
+        context = ssl.SSLContext(ssl.PROTOCOL_TLS_SERVER)
+        context.load_cert_chain(*files)
+        receiver = Scripted(lambda at, key: ack(b"AA", key), context)
+        self.addCleanup(receiver.close)
+        wrong = mllp.Mllp("localhost", receiver.port, 60.0, https.context_of(others[0]))
+        self.raises("another's", deliver.Unreachable, lambda: wrong.deliver(b"MSH|^~\\&||||||||k", "k"))
+        right = mllp.Mllp("localhost", receiver.port, 60.0, https.context_of(files[0]))
+        right.deliver(b"MSH|^~\\&||||||||k", "k")
+        right.close()
+        self.same("what came", receiver.taken, ["k"])
+        words = ["--cursor", self.path("c"), "--to", "mllp://h:1", "--ca", files[0]]
+        self.same("--ca without TLS", lislab("deliver", "--store", self.store, *words).returncode, 2)
+
+    def test_words(self):
+        """Words that make no sense, and files that can't be read."""
+        path = self.path("wrong headers")
+        with open(path, "w", encoding="ascii") as file:
+            file.write("A: b\nno colon\n")
+        self.raises("a header without a colon", OptionError, lambda: https.headers_of(path))
+        for words in (["--to", "http://h/x"], ["--to", "https:///x"], ["--to", "https://u:p@h/"],
+                      ["--to", "https://h:x/"], ["--to", "d", "--headers", path], ["--to", "d", "--", "true"]):
+            done = lislab("deliver", "--store", self.store, "--cursor", self.path("words.cursor"), *words)
+            self.same(" ".join(words), done.returncode, 2)
+        words = ["--to", "https://h/", "--ca", self.path("none.pem")]
+        done = lislab("deliver", "--store", self.store, "--cursor", self.path("words.cursor"), *words)
+        self.same("no authorities", (done.returncode, "none.pem: No such file" in done.stderr), (3, True))
