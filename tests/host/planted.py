@@ -66,6 +66,30 @@ FAULTS = {
         "        if self._unnoted is not None:\n            self._note(self._unnoted)\n",
         "",
     ),
+    "test_codes.Codes.test_command": Edit(
+        "delivery/codes.py", "found[name] = found.get(name, 0) + 1", "found[name] = 1"
+    ),
+    "test_codes.Codes.test_forms": Edit("host/export.py", "lambda where: mark_of(where[3])", 'lambda where: ""'),
+    "test_codes.Table.test_encoding": Edit(
+        "delivery/codes.py", "escape + names[data] + escape if data in names else data", "data"
+    ),
+    "test_codes.Table.test_faults": Edit(
+        "delivery/codes.py", 'if factor != _ONE and not given.get("unit"):', 'if factor > 9 and not given.get("unit"):'
+    ),
+    "test_codes.Table.test_random": Edit(
+        "delivery/numbers.py",
+        "_EXACT.multiply(one.value, factor)",
+        "decimal.Decimal(str(float(one.value) * float(factor)))",
+    ),
+    "test_codes.Table.test_ranges": Edit(
+        "delivery/codes.py", "changes[6] = row.written(6) + _bytes", "changes[6] = row.written(6) or _bytes"
+    ),
+    "test_codes.Table.test_values": Edit("delivery/codes.py", "if unit == found.unit:", "if not unit:"),
+    "test_codes.Table.test_which_row": Edit(
+        "delivery/codes.py",
+        '(line, code, ""), ("", code, unit), ("", code, "")]',
+        '("", code, unit), (line, code, ""), ("", code, "")]',
+    ),
     "test_connect.Connect.test_two_lines": Edit(
         "host/serve.py", "in self._places.items() if isinstance(one, Listen)]", "in self._places.items() if one]"
     ),
@@ -601,6 +625,11 @@ HARMLESS = (
     ),
     Edit("host/deliver.py", "        elif not found:\n", "        elif found == 0:\n"),
     Edit("delivery/aside.py", "sorted([*others, row])", "sorted([row, *others])"),
+    Edit(
+        "delivery/numbers.py",
+        'turned.get(one.comparator, "") if factor < 0 else one.comparator',
+        'one.comparator if factor > 0 else turned.get(one.comparator, "")',
+    ),
     Edit("delivery/mllp.py", "if len(self._left) > _MOST:", "if _MOST < len(self._left):"),
     Edit("delivery/fhir.py", "for name, one in data.items()) +", "for name, one in [*data.items()]) +"),
     Edit(

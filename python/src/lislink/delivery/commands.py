@@ -1,4 +1,4 @@
-"""The commands that bring messages out of a store: `lislab deliver`."""
+"""The commands that bring messages out of a store: `lislab deliver` and `lislab codes`."""
 import argparse
 import os
 from typing import Any, Callable, List
@@ -10,7 +10,7 @@ from ..host.files import is_locked
 from ..host.options import OptionError, split_peer
 from ..host.said import say
 from ..host.store import StoreError, Stored, open_store
-from . import aside, https, mllp
+from . import aside, codes, https, mllp
 
 #: Exit statuses, as those of the other commands.
 GOOD, WRONG = 0, 1
@@ -20,6 +20,7 @@ _SCHEMES = {"mllp": "oru", "mllps": "oru", "https": "fhir"}
 
 def add_commands(commands: Any) -> None:
     """Adds the commands to those of lislab."""
+    _add_codes(commands.add_parser("codes", help="checks a table of codes, and what a store has that it lacks"))
     where = "delivers each whole message: to a command, a directory, MLLP or HTTPS"
     _add_deliver(commands.add_parser("deliver", help=where))
 
@@ -36,6 +37,7 @@ def _add_deliver(one: argparse.ArgumentParser) -> None:
     one.add_argument(
         "--format", choices=export.FORMATS, help="(oru over MLLP, fhir over HTTPS, else records)"
     )
+    one.add_argument("--codes", metavar="FILE", help="the laboratory's codes and units, as lislab codes checks them")
     one.add_argument("--ca", metavar="FILE", help="the authorities of a certificate, in PEM; else the system's")
     one.add_argument("--headers", metavar="FILE", help="header fields for HTTPS, rows of Name: value")
     one.add_argument(
@@ -72,7 +74,7 @@ def _target_of(ask: argparse.Namespace) -> Callable[[Stored], None]:
     form: str = ask.format or _SCHEMES.get(scheme, "records")
     if scheme in ("mllp", "mllps"):
         return _receiver_of(scheme, rest, form, ask)
-    write = export.writer_of(form)
+    write = export.writer_of(form, ask.codes)
     if scheme == "https":
         headers = https.headers_of(ask.headers) if ask.headers else {}
         return https.to_https(https.Https(where, ask.seconds, https.context_of(ask.ca), headers), write, form)
@@ -88,7 +90,7 @@ def _receiver_of(scheme: str, rest: str, form: str, ask: argparse.Namespace) -> 
         raise OptionError(f"MLLP carries messages of HL7, --format oru, and not {form}")
     host, port = split_peer(rest.rstrip("/"))
     context = https.context_of(ask.ca) if scheme == "mllps" else None
-    return mllp.to_mllp(mllp.Mllp(host, port, ask.seconds, context), export.writer_of(form))
+    return mllp.to_mllp(mllp.Mllp(host, port, ask.seconds, context), export.writer_of(form, ask.codes))
 
 
 def run_deliver(ask: argparse.Namespace) -> int:
@@ -148,3 +150,27 @@ def _is_taken(cursor: str) -> bool:
         return os.path.exists(cursor + ".lock") and is_locked(cursor + ".lock")
     except OSError as error:
         raise StoreError(f"{cursor}.lock: {error.strerror or error}") from None
+
+
+def _add_codes(one: argparse.ArgumentParser) -> None:
+    one.add_argument("--store", metavar="STORE", help="print each code of its results that the table lacks")
+    one.add_argument("file", metavar="FILE", help=f"CSV with a row of names: {', '.join(codes.COLUMNS)}")
+    one.set_defaults(run=run_codes)
+
+
+def run_codes(ask: argparse.Namespace) -> int:
+    """Prints the faults of a table and the codes that it lacks; status 1 if there are some."""
+    read = codes.read_codes(ask.file)
+    for fault in read.faults:
+        print(fault)
+    unknown = {}
+    if ask.store:
+        store = open_store(ask.store)
+        try:
+            unknown = codes.unknown_of(codes.Codes(read.codes), store.messages())
+        finally:
+            store.close()
+    for name in sorted(unknown):
+        print(f"unknown {name} {unknown[name]}")
+    print(f"codes {len(read.codes)} unknown {len(unknown)}", flush=True)
+    return WRONG if read.faults or unknown else GOOD

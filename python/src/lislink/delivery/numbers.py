@@ -28,10 +28,10 @@ class Range(NamedTuple):
     low: Optional[Number]
     high: Optional[Number]
 
-    def text(self) -> str:
+    def text(self, between: str = "-") -> str:
         """As `3.9-6.1`, `<5` or `>60`."""
         if self.low is not None and self.high is not None:
-            return f"{self.low.text()}-{self.high.text()}"
+            return self.low.text() + between + self.high.text()
         one = self.high if self.low is None else self.low
         return "" if one is None else one.text()
 

@@ -341,6 +341,7 @@ def _add_export(one: argparse.ArgumentParser) -> None:
     one.add_argument("--line", metavar="NAME", help="of this line alone")
     one.add_argument("--state", choices=(WHOLE, UNFINISHED, UNREADABLE, "all"), default=WHOLE, help="(%(default)s)")
     one.add_argument("--without-repeats", action="store_true", help="leave out messages that came again")
+    one.add_argument("--codes", metavar="FILE", help="the laboratory's codes and units, as lislab codes checks them")
     one.add_argument("-o", "--output", metavar="FILE")
     one.set_defaults(run=run_export)
 
@@ -353,7 +354,7 @@ def run_export(ask: argparse.Namespace) -> int:
         raise OptionError(f"--since {ask.since}: a time is 2026-11-27 or 2026-11-27T10:30") from None
     states = [WHOLE, UNFINISHED, UNREADABLE] if ask.state == "all" else [ask.state]
     wanted = export.Wanted(states, ask.after, since, ask.line, not ask.without_repeats)
-    write = export.writer_of(ask.format)
+    write = export.writer_of(ask.format, ask.codes)
     store = open_store(ask.store)
     try:
         with _output(ask.output) as out:

@@ -53,15 +53,26 @@ def _is_wanted(one: Stored, wanted: Wanted) -> bool:
     return (wanted.line is None or one.line == wanted.line) and (wanted.repeats or one.again_of is None)
 
 
-def writer_of(form: str) -> Writer:
-    """What writes messages in this form."""
+def writer_of(form: str, codes: Optional[str] = None) -> Writer:
+    """What writes messages in this form, with the codes of a table."""
+    if codes is None:
+        return _plain_writer(form, [])
+    from ..delivery.codes import codes_of, mark_of
+
+    table_of_codes = codes_of(codes)
+    write = _plain_writer(form, [table.Column("mark", lambda where: mark_of(where[3]))])
+    return lambda one: write(one if one is None or one.state != WHOLE else table_of_codes.applied(one))
+
+
+def _plain_writer(form: str, more: List[table.Column]) -> Writer:
+    """The same without; more are the last columns of a table."""
     if form == "records":
         return lambda one: b"" if one is None else one.body
     if form == "json":
         return lambda one: b"" if one is None else (json.dumps(_as_data(one), ensure_ascii=False) + "\n").encode()
     if form in ("oru", "fhir"):
         return _message_writer(form)
-    columns = table.columns_of(list(table.USUAL))
+    columns = [*table.columns_of(list(table.USUAL)), *more]
     own, last = ([table.Column(name, lambda where: "") for name in names] for names in (OWN, LAST))
     line = table.line_writer(form, [*own, *columns, *last])
 
