@@ -6,6 +6,7 @@ from typing import List, NamedTuple, Optional
 
 from ..link import FRAME_TEXT, LONG_FRAME_TEXT, FrameFault, LinkError, Status, frame_bytes
 from ..records import MessageError, Reason
+from ..watch.verdicts import Verdict
 from .endings import ending_at
 from .log import CONTROL
 
@@ -23,10 +24,9 @@ def words(data: bytes, most: int = 0) -> str:
 
 
 class Cause(NamedTuple):
-    """The likely cause of a fault: a short name, words for a person, and for a checksum the other way to sum that
-    gives it."""
+    """The likely cause of a fault, in words for a person, and for a checksum the other way to sum that gives it."""
 
-    name: str
+    verdict: Verdict
     words: str
     way: str = ""
 
@@ -55,23 +55,23 @@ def cause_of_frame(body: bytes, fault: FrameFault, place: int, limit: int = FRAM
     if fault is FrameFault.TOO_LONG:
         length = len(body) - 5
         hint = " (`--long` takes it)" if limit < length <= LONG_FRAME_TEXT else ""
-        return Cause("long", f"frame too long: {length} bytes of text, {limit} are allowed{hint}")
+        return Cause(Verdict.LONG, f"frame too long: {length} bytes of text, {limit} are allowed{hint}")
     if fault is FrameFault.SHAPE:
         return _shape(body)
     if fault is FrameFault.NUMBER:
         if body[:1] in (b"8", b"9"):
-            return Cause("number-over-7", f"frame number {body[:1].decode()}: after 7 comes 0")
+            return Cause(Verdict.NUMBER_OVER_7, f"frame number {body[:1].decode()}: after 7 comes 0")
         return Cause(
-            "number", f"no frame number: the frame begins with '{words(body[:1])}', not with a digit 0 to 7"
+            Verdict.NUMBER, f"no frame number: the frame begins with '{words(body[:1])}', not with a digit 0 to 7"
         )
     if fault is FrameFault.FORBIDDEN:
         byte = body[1 + place] if 1 + place < len(body) else 0
         name = words(bytes([byte]))
         if byte in (17, 19):
             return Cause(
-                "flow-control", f"{name} in the text at byte {place}: software flow control is on, turn it off"
+                Verdict.FLOW_CONTROL, f"{name} in the text at byte {place}: software flow control is on, turn it off"
             )
-        return Cause("forbidden", f"forbidden byte {name} in the text at byte {place}")
+        return Cause(Verdict.FORBIDDEN, f"forbidden byte {name} in the text at byte {place}")
     return _sum(body)
 
 
@@ -79,45 +79,46 @@ def _shape(body: bytes) -> Cause:
     end = max(body.rfind(3), body.rfind(23))
     if end < 0:
         if len(body) < 5:
-            return Cause("short", f"{len(body)} bytes between STX and LF are no frame")
+            return Cause(Verdict.SHORT, f"{len(body)} bytes between STX and LF are no frame")
         return Cause(
-            "lf-in-text", "LF inside the text: a record ends in CR LF or LF within the frame, and LF ends the frame"
+            Verdict.LF_IN_TEXT,
+            "LF inside the text: a record ends in CR LF or LF within the frame, and LF ends the frame",
         )
     name, tail = words(body[end : end + 1]), body[end + 1 :]
     if tail[-1:] != b"\r":
-        return Cause("no-cr", f"no CR before LF: '{words(tail)}' follows {name}")
+        return Cause(Verdict.NO_CR, f"no CR before LF: '{words(tail)}' follows {name}")
     digits = tail[:-1]
     if not digits:
-        return Cause("no-sum", f"no checksum between {name} and CR")
+        return Cause(Verdict.NO_SUM, f"no checksum between {name} and CR")
     if len(digits) != 2:
-        return Cause("sum-digits", f"{len(digits)} characters of checksum ('{words(digits)}'), two are due")
-    return Cause("shape", "no frame: fewer than five bytes, or ETX or ETB not where it belongs")
+        return Cause(Verdict.SUM_DIGITS, f"{len(digits)} characters of checksum ('{words(digits)}'), two are due")
+    return Cause(Verdict.SHAPE, "no frame: fewer than five bytes, or ETX or ETB not where it belongs")
 
 
 def _sum(body: bytes) -> Cause:
     told = checksum_of(body)
     if told is None:
-        return Cause("sum", "checksum wrong")
+        return Cause(Verdict.SUM, "checksum wrong")
     text = f"checksum wrong: {words(told.found.encode('latin-1'))} found, {told.wanted} wanted"
     ways = {
-        "sum-without-end": ("it leaves out ETX or ETB", sum(body[:-4])),
-        "sum-with-stx": ("it counts STX", sum(body[:-3]) + 2),
-        "sum-with-stx-without-end": ("it counts STX and leaves out ETX or ETB", sum(body[:-4]) + 2),
-        "sum-without-number": ("it leaves out the frame number", sum(body[1:-3])),
-        "sum-of-text": ("it counts the text alone", sum(body[1:-4])),
-        "sum-xor": ("it is an exclusive or", functools.reduce(operator.xor, body[:-3], 0)),
-        "sum-xor-text": ("it is an exclusive or without the number", functools.reduce(operator.xor, body[1:-3], 0)),
-        "sum-complement": ("it is the two's complement", -sum(body[:-3])),
-        "sum-with-cr": ("it counts the CR after it", sum(body[:-3]) + 13),
+        Verdict.SUM_WITHOUT_END: sum(body[:-4]),
+        Verdict.SUM_WITH_STX: sum(body[:-3]) + 2,
+        Verdict.SUM_WITH_STX_WITHOUT_END: sum(body[:-4]) + 2,
+        Verdict.SUM_WITHOUT_NUMBER: sum(body[1:-3]),
+        Verdict.SUM_OF_TEXT: sum(body[1:-4]),
+        Verdict.SUM_XOR: functools.reduce(operator.xor, body[:-3], 0),
+        Verdict.SUM_XOR_TEXT: functools.reduce(operator.xor, body[1:-3], 0),
+        Verdict.SUM_COMPLEMENT: -sum(body[:-3]),
+        Verdict.SUM_WITH_CR: sum(body[:-3]) + 13,
     }
-    for name, (why, value) in ways.items():
+    for verdict, value in ways.items():
         if f"{value % 256:02X}" == told.found.upper():
-            return Cause(name, text, why)
+            return Cause(verdict, text, verdict.live)
     if not all(chr(one) in "0123456789abcdefABCDEF" for one in body[-3:-1]):
-        return Cause("sum-no-digits", f"{text}: no hexadecimal digits")
+        return Cause(Verdict.SUM_NO_DIGITS, f"{text}: no hexadecimal digits")
     if any(one > 127 for one in body[1:-4]):
-        return Cause("sum", text + " (bytes over 127 are in the text: were they changed on the way?)")
-    return Cause("sum", text)
+        return Cause(Verdict.SUM, text + " (bytes over 127 are in the text: were they changed on the way?)")
+    return Cause(Verdict.SUM, text)
 
 
 _CODES = {

@@ -6,6 +6,7 @@ from typing import Dict, Iterator, List, NamedTuple, Optional, Tuple, Union
 from ..capture import Capture, Line
 from ..link import FRAME_TEXT, Kind, Note, Readiness, Receiver, Scanner, Signal, Step
 from ..message import Fault, Found, read_all
+from ..watch.verdicts import BAD, Meaning, Verdict
 from .faults import Cause, Sum, cause_of_frame, checksum_of, words
 from .log import SECOND
 
@@ -14,7 +15,8 @@ ENQ, ACK, NAK, EOT, STX = 5, 6, 0x15, 4, 2
 
 class Row(NamedTuple):
     """A row of a ladder. `side` is `>` for the analyzer, `<` for the computer, `-` for an event. `level` is `good`,
-    `plain`, `warn` or `bad`. `reply` is what the proved receiver answers to it, `heard` what it meant to it."""
+    `plain`, `warn` or `bad`, and `note` the sentence of its meaning. `reply` is what the proved receiver answers to it,
+    `heard` what it meant to it."""
 
     line: int
     time: Optional[int]
@@ -31,6 +33,18 @@ class Row(NamedTuple):
     number: int = -1
     last: bool = True
     heard: Note = Note.QUIET
+    meaning: Meaning = Meaning.NOTHING
+
+
+#: Why the receiver rejects a frame that is one.
+_REJECTED = {
+    Note.OUT_OF_TURN: Verdict.OUT_OF_TURN,
+    Note.NO_ROOM: Verdict.NO_ROOM,
+    Note.TEXT_TOO_LONG: Verdict.TEXT_TOO_LONG,
+    Note.TOO_MANY: Verdict.TOO_MANY,
+    Note.REFUSED_MEMORY: Verdict.MEMORY,
+}
+_READY = {"ready": Meaning.READY, "busy": Meaning.IS_BUSY, "contending": Meaning.CONTENDING}
 
 
 class Text(NamedTuple):
@@ -112,52 +126,41 @@ class Ladder:
             step = receiver.timer()
             self._due += step.reply
             self.notes[step.note] = self.notes.get(step.note, 0) + 1
-            opened = step.note is Note.TIMED_OUT
-            self._event(
-                number,
-                time,
-                "the receiver's 30 seconds are over: the line is given up"
-                if opened
-                else "the receiver's timer runs out: the line wasn't open",
-                "warn" if opened else "plain",
-            )
+            self._event(number, time, Meaning.TIMED_OUT if step.note is Note.TIMED_OUT else Meaning.TIMER)
         elif line.mark == "R":
             self._note_dropped(receiver, number)
             receiver.restart()
             self._busy = Readiness.READY
-            self._event(number, time, "the receiver is restarted", "plain")
+            self._event(number, time, Meaning.RESTARTED)
         elif line.mark == "S":
             self._busy = Readiness[line.ready.upper()]
             receiver.set_ready(self._busy)
-            self._event(
-                number,
-                time,
-                {
-                    "ready": "the computer is ready",
-                    "busy": "the computer is busy: ENQ is answered NAK",
-                    "contending": "the computer wants to send: ENQ is answered ENQ",
-                }[line.ready],
-                "plain",
-            )
+            self._event(number, time, _READY[line.ready])
 
-    def _event(self, number: int, time: Optional[int], note: str, level: str) -> None:
-        self.rows.append(Row(number, time, "-", "event", note, "", level))
+    def _event(self, number: int, time: Optional[int], meaning: Meaning) -> None:
+        self.rows.append(Row(number, time, "-", "event", meaning.says(), "", meaning.level, meaning=meaning))
 
     def _silence(self, receiver: Receiver, number: int, time: Optional[int]) -> None:
         if time is not None and self._heard is not None and time - self._heard > 30 * SECOND and receiver.is_open:
-            seconds = (time - self._heard) / SECOND
-            self.rows.append(
-                Row(
-                    number,
-                    time,
-                    "-",
-                    "silence",
-                    f"{seconds:.1f} seconds of silence",
-                    "a receiver gives the line up after 30 (a line T here says so)",
-                    "warn",
-                )
-            )
+            title = f"{(time - self._heard) / SECOND:.1f} seconds of silence"
+            self._row(number, time, "-", "silence", title, Meaning.SILENCE)
         self._heard = time if time is not None else self._heard
+
+    def _row(
+        self, number: int, time: Optional[int], side: str, kind: str, title: str, meaning: Meaning, raw: bytes = b""
+    ) -> None:
+        """A row at the end that no answer is due to."""
+        self.rows.append(
+            Row(number, time, side, kind, title, meaning.says(), meaning.level, raw, meaning=meaning)
+        )
+
+    def _insert_dropped(
+        self, begun: Tuple[int, Optional[int], int], piece: bytes, meaning: Meaning
+    ) -> None:
+        """A frame that no LF ends, at the row where it began."""
+        line, since, place = begun
+        row = Row(line, since, ">", "dropped", words(piece), meaning.says(), BAD, piece, meaning=meaning)
+        self.rows.insert(place, row)
 
     def _note_dropped(self, receiver: Receiver, number: int) -> None:
         if receiver.held:
@@ -197,38 +200,13 @@ class Ladder:
             cut = data.find(2, 1)
             piece, data = (data, b"") if cut < 0 else (data[:cut], data[cut:])
             if piece[0] == STX:
-                line, since, place = self._begun if was_open else (number, time, len(self.rows))
-                self.rows.insert(
-                    place,
-                    Row(
-                        line,
-                        since,
-                        ">",
-                        "dropped",
-                        words(piece),
-                        "dropped: no LF ended this frame, no reply",
-                        "bad",
-                        piece,
-                    ),
-                )
+                begun = self._begun if was_open else (number, time, len(self.rows))
+                self._insert_dropped(begun, piece, Meaning.DROPPED)
                 was_open = False
             elif self._computer_sends and set(piece) <= {ACK, NAK, EOT}:
-                self.rows.append(
-                    Row(
-                        number,
-                        time,
-                        ">",
-                        "answer",
-                        words(piece),
-                        "the analyzer answers the computer's own session",
-                        "plain",
-                        piece,
-                    )
-                )
+                self._row(number, time, ">", "answer", words(piece), Meaning.ANSWERS, piece)
             else:
-                self.rows.append(
-                    Row(number, time, ">", "outside", words(piece), "bytes outside frames: ignored", "warn", piece)
-                )
+                self._row(number, time, ">", "outside", words(piece), Meaning.OUTSIDE, piece)
 
     def _unit(
         self,
@@ -259,10 +237,10 @@ class Ladder:
         raw: bytes,
         note: Note,
         reply: bytes,
-        said: Tuple[str, str, Optional[Cause]],
+        said: Tuple[Meaning, str, Optional[Cause]],
     ) -> None:
         """The row of a frame, or of what should be one."""
-        why, level, cause = said
+        meaning, why, cause = said
         if signal.kind is Kind.FRAME:
             end = "" if signal.last else " intermediate (ETB)"
             title = f"frame {signal.number}{end} {len(signal.text)} bytes '{words(signal.text)}'"
@@ -279,7 +257,7 @@ class Ladder:
                 kind,
                 title,
                 why,
-                level,
+                meaning.level,
                 raw,
                 signal.text,
                 reply,
@@ -288,44 +266,31 @@ class Ladder:
                 signal.number if signal.kind is Kind.FRAME else -1,
                 signal.last,
                 note,
+                meaning,
             )
         )
 
     def _why(
         self, receiver: Receiver, signal: Signal, step: Optional[Step], body: bytes, note: Note
-    ) -> Tuple[str, str, Optional[Cause]]:
+    ) -> Tuple[Meaning, str, Optional[Cause]]:
         due = (receiver.accepted + 1) % 8
         bad = signal.kind is Kind.BAD_FRAME
         cause = cause_of_frame(body, signal.fault, signal.place, self.frame_limit) if bad else None
-        if cause and note is Note.REFUSED:
-            return f"rejected: {cause.words}", "bad", cause
-        if cause:
-            return f"the line isn't open: no reply (and rejected otherwise: {cause.words})", "bad", cause
+        if cause is None and note in _REJECTED:
+            cause = Cause(_REJECTED[note], _REJECTED[note].live.format(due=due))
+        if cause is not None:
+            meaning = Meaning.NOT_OPEN_WRONG if bad and note is not Note.REFUSED else Meaning.REJECTED
+            return meaning, meaning.says(why=cause.words), cause
         if note is Note.ACCEPTED:
             if step is not None and step.text is not None:
-                return f"accepted, text of {len(step.text)} bytes delivered", "good", None
-            return f"accepted, {receiver.held} bytes held until the frame with ETX", "good", None
+                return Meaning.DELIVERED, Meaning.DELIVERED.says(size=len(step.text)), None
+            return Meaning.HELD, Meaning.HELD.says(size=receiver.held), None
         if note is Note.DUPLICATE:
-            if self._last_text is not None and signal.text != self._last_text:
-                return (
-                    (
-                        f"duplicate of {signal.number} by its number, but another text: acknowledged and lost "
-                        f"({due} is due)"
-                    ),
-                    "bad",
-                    Cause("lost", "lost"),
-                )
-            return f"duplicate of {signal.number}: acknowledged, not taken again", "warn", None
-        cause = {
-            Note.OUT_OF_TURN: Cause("out-of-turn", f"out of turn, {due} is due"),
-            Note.NO_ROOM: Cause("no-room", "no room"),
-            Note.TEXT_TOO_LONG: Cause("text-too-long", "the text passes 1,048,576 bytes"),
-            Note.TOO_MANY: Cause("too-many", "too many frames"),
-            Note.REFUSED_MEMORY: Cause("memory", "out of memory"),
-        }.get(note)
-        if cause:
-            return f"rejected: {cause.words}", "bad", cause
-        return "the line isn't open (no ENQ before): no reply", "bad", None
+            is_lost = self._last_text is not None and signal.text != self._last_text
+            meaning = Meaning.LOST if is_lost else Meaning.DUPLICATE
+            lost = Cause(Verdict.LOST, Verdict.LOST.key) if is_lost else None
+            return meaning, meaning.says(number=signal.number, due=due), lost
+        return Meaning.NOT_OPEN, Meaning.NOT_OPEN.says(), None
 
     def _signal(
         self,
@@ -338,46 +303,45 @@ class Ladder:
         receiver: Receiver,
     ) -> None:
         if signal.kind is Kind.ENQ:
-            why, level = ("the line is opened", "good") if note is Note.OPENED else ("not ready: no line", "warn")
+            meaning = Meaning.OPENED if note is Note.OPENED else Meaning.NOT_READY
             self._last_text = None
         else:
-            why, level = (
-                ("the session is ended", "good") if note is Note.ENDED else ("the line isn't open", "plain")
-            )
-        name = signal.kind.name
-        self.rows.append(Row(number, time, ">", name, name, why, level, raw, b"", reply, heard=note))
+            meaning = Meaning.ENDED if note is Note.ENDED else Meaning.EOT_IGNORED
+        name, said = signal.kind.name, (meaning.says(), meaning.level)
+        self.rows.append(Row(number, time, ">", name, name, *said, raw, b"", reply, heard=note, meaning=meaning))
 
     def _reply(self, number: int, data: bytes, time: Optional[int]) -> None:
         wanted, self._due = self._due, b""
-        title = words(data)
+        if wanted != data:
+            self.differences.append((number, data, wanted))
+        kind, meaning = self._answer(data, wanted)
+        if meaning is Meaning.AFTER_ECHO:
+            wanted = b""
+        note = meaning.says(wanted=words(wanted) or "nothing")
+        said = (words(data), note, meaning.level, data, b"", wanted)
+        self.rows.append(Row(number, time, "<", kind, *said, meaning=meaning))
+
+    def _answer(self, data: bytes, wanted: bytes) -> Tuple[str, Meaning]:
+        """What bytes of the computer mean where these are due."""
         if wanted == data:
-            self.rows.append(Row(number, time, "<", "reply", title, "", "plain", data, b"", wanted))
-            return
-        self.differences.append((number, data, wanted))
+            return "reply", Meaning.NOTHING
         if self._is_echo(data):
-            note = "the bytes of the analyzer come back: an echo"
-            self.rows.append(Row(number, time, "<", "echo", title, note, "bad", data, b"", wanted))
             self._echoed = wanted or self._echoed
-            return
+            return "echo", Meaning.ECHO
         if data == self._echoed:
             self._echoed = b""
-            self.rows.append(Row(number, time, "<", "reply", title, "the answer, after an echo", "plain", data))
-            return
+            return "reply", Meaning.AFTER_ECHO
         if STX in data or ENQ in data and wanted != b"\x05" or self._computer_sends and data == b"\x04":
-            note, level = "the computer's own session: not part of what the analyzer sends", "plain"
             self._computer_sends = data != b"\x04"
-        elif len(data) < len(wanted) and wanted.endswith(data):
-            note, level = "an earlier unit wasn't answered", "plain"
-        else:
-            note = f"the receiver would answer {words(wanted)}" if wanted else "the receiver would answer nothing"
-            level = "bad"
-            if data == b"\x15" and wanted == b"\x06":
-                note += self._nak()
-            elif data == b"\x06" and wanted == b"\x15":
-                note += ": the computer took what must be rejected"
-            elif data == b"\x04" and wanted == b"\x06":
-                note, level = "the computer acknowledges and asks to interrupt (EOT)", "warn"
-        self.rows.append(Row(number, time, "<", "reply", title, note, level, data, b"", wanted))
+            return "reply", Meaning.OWN_SESSION
+        if len(data) < len(wanted) and wanted.endswith(data):
+            return "reply", Meaning.UNANSWERED
+        if data == b"\x15" and wanted == b"\x06":
+            last = next((row for row in reversed(self.rows) if row.side == ">"), None)
+            return "reply", Meaning.BUSY if last is not None and last.kind == "ENQ" else Meaning.REJECTS_GOOD
+        if data == b"\x06" and wanted == b"\x15":
+            return "reply", Meaning.TAKES_BAD
+        return "reply", Meaning.INTERRUPT if data == b"\x04" and wanted == b"\x06" else Meaning.OTHER
 
     def _is_echo(self, data: bytes) -> bool:
         """Whether the computer sends what the analyzer has sent since the last answer, from its beginning on."""
@@ -385,48 +349,18 @@ class Ladder:
         self._sent = self._sent[len(data) :] if is_same else b""
         return is_same and self._echoes
 
-    def _nak(self) -> str:
-        last = next((row for row in reversed(self.rows) if row.side == ">"), None)
-        if last is not None and last.kind == "ENQ":
-            return ": the computer is busy (a line S busy says so in version 2)"
-        return ": the computer rejects a good frame"
-
     def _end(self, receiver: Receiver, capture: Capture) -> None:
         number = capture.lines[-1][0] if capture.lines else 0
         if self._carry:
-            line, since, place = self._begun
-            self.rows.insert(
-                place,
-                Row(
-                    line,
-                    since,
-                    ">",
-                    "dropped",
-                    words(self._carry),
-                    "unfinished: the capture ends before its LF",
-                    "bad",
-                    self._carry,
-                ),
-            )
+            self._insert_dropped(self._begun, self._carry, Meaning.CUT_OFF)
         self._note_dropped(receiver, number)
         self.is_open = receiver.is_open
         if self._due:
             self.differences.append((0, b"", self._due))
             if self.has_replies:
-                self.rows.append(
-                    Row(
-                        number,
-                        None,
-                        "-",
-                        "silence",
-                        "no answer",
-                        f"the receiver would answer {words(self._due)}",
-                        "bad",
-                        b"",
-                        b"",
-                        self._due,
-                    )
-                )
+                note = Meaning.OTHER.says(wanted=words(self._due))
+                said = ("no answer", note, Meaning.OTHER.level, b"", b"", self._due)
+                self.rows.append(Row(number, None, "-", "silence", *said, meaning=Meaning.OTHER))
 
     def units(self) -> Iterator[Row]:
         """The rows of units that the analyzer sent."""
