@@ -3,6 +3,8 @@
     commit        one commit of ten fails
     full          each commit fails
     slow          a commit takes up to a twentieth of a second longer
+    stalled       each commit takes two seconds
+    gone          each commit fails, since nobody answers
     early         a text is acknowledged before it is kept (and commits are slow)
     careless      three commits of ten fail, and its texts are acknowledged all the same
     forgetful     what can't be read isn't kept
@@ -22,24 +24,24 @@ from lislink import cli
 from lislink.host import deliver, intake, line, sql, sqlite, store
 
 
-def failing_commits(share):
+def failing_commits(share, why="the disk is full, as the test has it"):
     """A store that fails now and then."""
     whole = sqlite.SqliteStore.commit
 
     def commit(self, units):
         if random.random() < share:
-            raise store.StoreError("the disk is full, as the test has it")
+            raise store.StoreError(why)
         whole(self, units)
 
     sqlite.SqliteStore.commit = commit
 
 
-def slow_commits(seconds):
-    """A store that takes its time."""
+def slow_commits(most, least=0.0):
+    """A store that takes its time, in seconds."""
     whole = sqlite.SqliteStore.commit
 
     def commit(self, units):
-        time.sleep(random.random() * seconds)
+        time.sleep(random.uniform(least, most))
         whole(self, units)
 
     sqlite.SqliteStore.commit = commit
@@ -134,6 +136,8 @@ FAULTS = {
     "commit": lambda: failing_commits(0.1),
     "full": lambda: failing_commits(1.0),
     "slow": lambda: slow_commits(0.05),
+    "stalled": lambda: slow_commits(2.0, 2.0),
+    "gone": lambda: failing_commits(1.0, "PostgreSQL: server closed the connection unexpectedly"),
     "early": early,
     "careless": careless,
     "forgetful": forgetful,

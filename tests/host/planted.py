@@ -578,6 +578,27 @@ FAULTS = {
     "test_status.Status.test_running": Edit(
         "host/status.py", "return not store.held_to_the_end and ", "return "
     ),
+    "test_watch.Watch.test_a_ladder_as_it_goes": Edit(
+        "watch/live.py", "over = self._begun[2] if self._carry else len(self.rows)", "over = len(self.rows)"
+    ),
+    "test_watch.Watch.test_faults": Edit(
+        "watch/pulse.py", "verdict if isinstance(error, StoreError) else Verdict.TOO_BIG", "Verdict.STORE_GONE"
+    ),
+    "test_watch.Watch.test_last_bytes": Edit("watch/ring.py", 'lines.append(Line("R"))', 'lines.append(Line("T"))'),
+    "test_watch.Watch.test_no_reply_to_the_host": Edit("host/duplex.py", "        self._probe.in_vain(why)\n", ""),
+    "test_watch.Watch.test_no_socket": Edit(
+        "host/serve.py", 'say(f"lislab watch can\'t look: {error}")', "raise"
+    ),
+    "test_watch.Watch.test_noise_is_not_bad": Edit(
+        "watch/pulse.py", "            if pulse.polls < EMPTY:\n", "            if pulse.polls < 2:\n"
+    ),
+    "test_watch.Watch.test_ring": Edit(
+        "watch/ring.py", "while len(self._held) - drop > self._most:", "while len(self._held) - drop > 2 * self._most:"
+    ),
+    "test_watch.Watch.test_rows": Edit(
+        "watch/commands.py", "return WRONG if client.is_bad(data) else GOOD", "return GOOD"
+    ),
+    "test_watch.Watch.test_socket": Edit("watch/unix.py", "os.umask(0o177)", "os.umask(0o022)"),
 }
 #: Changes that mean nothing.
 HARMLESS = (
@@ -642,6 +663,12 @@ HARMLESS = (
         '                "whole": one.whole if one else 0,\n                "again": one.again if one else 0,\n',
         '                "again": one.again if one else 0,\n                "whole": one.whole if one else 0,\n',
     ),
+    Edit(
+        "watch/pulse.py",
+        "        self.verdict, self.since, self.count = verdict, time.time(), 0\n",
+        "        self.verdict, self.count, self.since = verdict, 0, time.time()\n",
+    ),
+    Edit("watch/ring.py", "        self.next += 1\n", "        self.next = 1 + self.next\n"),
     Edit("host/options.py", "return found[1] or found[2] or", "return found[2] or found[1] or"),
     Edit(
         "host/mend.py",

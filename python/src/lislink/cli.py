@@ -20,6 +20,8 @@ from .link import FRAME_TEXT, LONG_FRAME_TEXT
 from .orders import commands as order_commands
 from .delivery import commands as delivery_commands
 from .play import command as play_command
+from .watch import commands as watch_commands
+from .watch.unix import WatchError
 
 #: Exit statuses: as those of lislink.
 GOOD, LOOKS_WRONG, USAGE, STOPPED = 0, 1, 2, 3
@@ -333,6 +335,7 @@ def parser() -> argparse.ArgumentParser:
     delivery_commands.add_commands(commands)
     order_commands.add_commands(commands)
     play_command.add_command(commands)
+    watch_commands.add_command(commands)
     return top
 
 
@@ -346,7 +349,7 @@ def main(words: Optional[List[str]] = None) -> int:
     except BrokenPipeError:
         os.dup2(os.open(os.devnull, os.O_WRONLY), 1)
         return STOPPED
-    except (LogError, CaptureError, LibraryMissing, StoreError, WrongStore, Refused, OSError) as error:
+    except (LogError, CaptureError, LibraryMissing, StoreError, WrongStore, Refused, WatchError, OSError) as error:
         say(str(error))
         return STOPPED
     except (table.TableError, OptionError) as error:

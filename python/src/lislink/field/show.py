@@ -23,7 +23,8 @@ def _clock(time: Optional[int]) -> str:
     return time_text(time).split("T")[-1][:12]
 
 
-def _row(row: Row) -> Iterator[str]:
+def row_text(row: Row) -> Iterator[str]:
+    """The line of a row."""
     head = f"{row.line:6} {_clock(row.time):12} {_MARKS[row.level]} "
     if row.side == ">":
         title = row.title if len(row.title) <= _WIDTH - 6 else row.title[: _WIDTH - 7] + "…"
@@ -47,12 +48,12 @@ def ladder_lines(ladder: Ladder, only_wrong: bool = False) -> Iterator[str]:
     before: Optional[int] = None
     for row in ladder.rows:
         if only_wrong:
-            yield from _row(row) if row.level in ("bad", "warn") else ()
+            yield from row_text(row) if row.level in ("bad", "warn") else ()
             continue
         if row.time is not None and before is not None and row.time - before > SECOND:
             yield f"{'':19}   │" + f"{(row.time - before) / SECOND:.1f} s later".center(_WIDTH) + "│"
         before = row.time if row.time is not None else before
-        yield from _row(row)
+        yield from row_text(row)
 
 
 def _tree(entry: Entry, depth: int) -> Iterator[str]:

@@ -13,6 +13,7 @@ from typing import Any, Callable, ContextManager, Iterator, List, Optional, Sequ
 
 from .._library import calls
 from ..orders.book import open_book
+from ..watch.unix import socket_of
 from . import asker, export, lines, options, send, serve, status
 from .outbox import Outbox
 from .files import Output, writing
@@ -123,7 +124,8 @@ def _add_limits(one: argparse.ArgumentParser, usual: Limits) -> None:
     seconds("--grace", type=_SECONDS, default=usual.grace, help="for open sessions at a stop (%(default)s)")
 
 
-def _state_file(store: str, named: Optional[str]) -> Optional[str]:
+def state_file(store: str, named: Optional[str]) -> Optional[str]:
+    """Where a host writes its state; None if it has no file for it."""
     if named is not None or "://" in store:
         return named
     return (store[len("spool:") :].rstrip("/") if store.startswith("spool:") else store) + ".status"
@@ -159,8 +161,9 @@ def _asked_of(ask: argparse.Namespace) -> serve.Asked:
     connects = [one for one in places if isinstance(one, options.Connect)]
     serials = [one for one in places if isinstance(one, options.Serial)]
     limits = Limits(most, ask.message_bytes, ask.idle, ask.reply_within, ask.grace, ask.scale, ask.address_lines)
-    state, outbox = _state_file(ask.store, ask.status), _outbox_of(ask, places)
+    state, outbox = state_file(ask.store, ask.status), _outbox_of(ask, places)
     asked = serve.Asked(listens, serials, networks, limits, ask.capture, state, ask.host_name, outbox, connects)
+    asked = asked._replace(watch=socket_of(state))
     return asked._replace(again=functools.partial(_asked_of, ask)) if files else asked
 
 
@@ -324,7 +327,7 @@ def run_status(ask: argparse.Namespace) -> int:
 
     store = open_store(ask.store)
     try:
-        data = status.data_of(store, status.read_state(_state_file(ask.store, ask.status)), ask.cursor)
+        data = status.data_of(store, status.read_state(state_file(ask.store, ask.status)), ask.cursor)
     finally:
         store.close()
     sys.stdout.write(json.dumps(data, ensure_ascii=False) + "\n" if ask.json else status.text_of(data))

@@ -251,4 +251,5 @@ class TwoWayLine(Line):
         batch, self._sending = self._sending, None
         assert batch is not None
         self._counts["failed_sessions"] += 1
+        self._probe.in_vain(why)
         self._outbox.failed(self._site, batch, why)

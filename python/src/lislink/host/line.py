@@ -5,14 +5,14 @@ from collections import Counter, deque
 from typing import Callable, Deque, Dict, List, Optional, Sequence, Tuple
 
 from ..link import RECEIVER, Note, Receiver, Step
+from ..watch.pulse import Probe
 from .commits import Committer
 from .feeds import AsItComes, LineFeeds
 from .intake import Intake, TooLong
 from .mend import LINE_FEEDS, Bodies, Mender, seems_over
-from .notices import CONNECTION, MESSAGE, REJECTED, REPLY, Watch
+from .notices import CONNECTION, MESSAGE, REJECTED, REPLY
 from .options import Limits
 from .store import MENDED, WHOLE, Add, Change, End, StoreError
-from .tape import Tape
 
 #: How many bytes may wait to be heard before the line is read no further; for how many seconds one line is heard before
 #: the others have their turn; how many bytes of a long text are kept in one row.
@@ -97,7 +97,7 @@ class Line:
         committer: Committer,
         limits: Limits,
         counts: "Counter[str]",
-        tape: Optional[Tape],
+        probe: Probe,
         frame: int,
         say: Callable[[str, str], None],
         turns: Turns,
@@ -107,8 +107,8 @@ class Line:
         #: Whether the last frame was taken, and when a reply went out last.
         self._is_taken, self._replied = False, 0.0
         self._wire, self._intake, self._committer, self._limits = wire, intake, committer, limits
-        self._counts, self._tape, self._say, self._turns = counts, tape, say, turns
-        self._watch = Watch(say)
+        self._counts, self._say, self._turns = counts, say, turns
+        self._tape = self._watch = self._probe = probe
         self._feeds = self._feeds_of(frame)
         self._loop = asyncio.get_running_loop()
         self._begin(frame)
@@ -247,8 +247,7 @@ class Line:
             came = f"bytes {self._watch.heard}, sessions {self._watch.sessions}"
             self._say(f"closed {self._closed or 'after a fault'}; {came}", CONNECTION)
             self._wire.close()
-            if self._tape is not None:
-                self._tape.close()
+            self._tape.close()
 
     async def _nothing_left(self) -> bool:
         """Waits until there is something to do; whether the line is over."""
@@ -271,13 +270,11 @@ class Line:
         return self._lost and not self._pieces
 
     async def _timer(self, now: float) -> None:
-        if self._tape is not None:
-            self._tape.event("T")
+        self._tape.event("T")
         await self._timed(now)
 
     async def _hear(self, data: bytes, arrived: float) -> None:
-        if self._tape is not None:
-            self._tape.bytes(">", data)
+        self._tape.bytes(">", data)
         self._watch.hears(data)
         self._over = self._loop.time() + TURN
         await self._heard(data, arrived)
@@ -313,15 +310,16 @@ class Line:
             self._counts["late"] += 1
             byte = f"byte {self._watch.at} of the connection"
             self._say(f"a reply is late and isn't sent: {byte} came {age:.1f} s ago", REPLY)
+            self._probe.late()
             self._restart("the reply would have been late")
             return False
+        self._probe.replied(self._loop.time() - arrived)
         self._send(reply)
         self._replied = self._loop.time()
         return True
 
     def _send(self, data: bytes) -> None:
-        if self._tape is not None:
-            self._tape.bytes("<", data)
+        self._tape.bytes("<", data)
         self._wire.write(data)
 
     async def _keep(self, text: bytes) -> bool:
@@ -331,6 +329,7 @@ class Line:
             await self._keep_in_parts(text)
         except (StoreError, TooLong) as error:
             self._counts["not_kept"] += 1
+            self._probe.not_kept(error)
             self._is_long = False
             undone = self._intake.undo(f"a text could not be kept: {error}")
             if undone:
@@ -338,6 +337,7 @@ class Line:
                 self._note_ends(undone)
             self._restart("a text could not be kept")
             return False
+        self._probe.kept()
         return True
 
     async def _keep_in_parts(self, text: bytes) -> None:
@@ -385,6 +385,8 @@ class Line:
             if not isinstance(change, End):
                 continue
             self._counts["messages" if change.state == WHOLE else "quarantined"] += 1
+            if change.state == WHOLE or change.size:
+                self._probe.ended(change)
             if change.state == WHOLE:
                 self.last = change.at
                 if change.reason:
@@ -402,8 +404,7 @@ class Line:
         self._begin_anew()
         self._set_timer()
         self._counts["restarts"] += 1
-        if self._tape is not None:
-            self._tape.event("R")
+        self._tape.event("R")
         self._watch.session_over()
         self._drop(reason)
 

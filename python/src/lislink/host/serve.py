@@ -13,6 +13,7 @@ from collections import Counter
 from concurrent.futures import ThreadPoolExecutor
 from typing import Any, Callable, Dict, Iterable, List, NamedTuple, Optional, Sequence, Set, Tuple, Union
 
+from ..watch.board import Board
 from .commits import Committer
 from .duplex import TwoWayLine
 from .files import write_whole
@@ -52,6 +53,8 @@ class Asked(NamedTuple):
     connects: Sequence[Connect] = ()
     #: What reads the file of lines again, if there is one: the same with its lines. OptionError if it has faults.
     again: Optional[Callable[[], "Asked"]] = None
+    #: The socket through which `lislab watch` looks.
+    watch: Optional[str] = None
 
     @property
     def places(self) -> List[Place]:
@@ -110,6 +113,7 @@ class Host:
         self.outbox: Optional[Outbox] = None
         self.turns = Turns()
         self.ticks = Ticks(max(0.02, self.limits.reply * self.limits.scale / 40))
+        self.board = Board(self.limits.scale)
         self.counts: Dict[str, "Counter[str]"] = {}
         self.last: Dict[str, float] = {}
         self.lines: "Dict[Line, asyncio.Task[None]]" = {}
@@ -140,8 +144,8 @@ class Host:
         mender = self._mender(place)
         intake = Intake(place.name, peer, place.encoding, self.limits.message, time.time, mender.most)
         notice = functools.partial(self._notice, place.name, peer)
-        tape = self._tape(place.name)
-        given = (wire, intake, self.committer, self.limits, counts, tape, place.frame, notice, self.turns, mender)
+        probe = self.board.probe(place, self._tape(place.name), notice)
+        given = (wire, intake, self.committer, self.limits, counts, probe, place.frame, notice, self.turns, mender)
         line = self._line(place, peer, given)
         notice("connected" if wire.is_tcp else "open", CONNECTION)
         task = asyncio.ensure_future(line.run())
@@ -220,6 +224,7 @@ class Host:
         for connect in self.asked.connects:
             self._devices[connect[:2]] = self._task(self._serve_connect(connect))
         self._task(self._look_now_and_then())
+        await self._open_board()
         self._ready = False
         self._say_ready()
 
@@ -229,6 +234,18 @@ class Host:
             outbox = asked.outbox(functools.partial(self.notices.say, "orders"))
             await outbox.start()
             self.outbox = outbox
+
+    async def _open_board(self) -> None:
+        """Lets `lislab watch` look. A host that can't be looked at serves all the same."""
+        try:
+            if self.asked.watch is not None:
+                await self.board.open(self.asked.watch, self.look)
+        except OSError as error:
+            say(f"lislab watch can't look: {error}")
+
+    def look(self) -> Dict[str, Any]:
+        """How each line does."""
+        return self.board.data(self.asked.places, self._said, self.state())
 
     async def _listen(self, place: Listen) -> None:
         port = Port(place)
@@ -426,6 +443,7 @@ class Host:
             await mender.finish()
         self._mending.shutdown()
         self.ticks.stop()
+        await self.board.close()
         if self.outbox is not None:
             await self.outbox.stop()
         await self.committer.stop()

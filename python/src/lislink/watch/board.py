@@ -1,0 +1,78 @@
+"""The board of a host that runs: the pulse of each line, as data for who looks, and the pieces of a line's ring."""
+import json
+import time
+from typing import Any, Callable, Dict, Iterable, Mapping, Optional
+
+from ..host.options import Place
+from ..host.tape import Tape
+from .pulse import Probe, Pulse
+from .unix import Door
+
+
+class Board:
+    """The pulses of a host's lines, by the lines' names. `scale` is that of the host's timers."""
+
+    def __init__(self, scale: float) -> None:
+        self._scale = scale
+        self._pulses: Dict[str, Pulse] = {}
+        self._door: Optional[Door] = None
+
+    def probe(self, place: Place, tape: Optional[Tape], say: Callable[[str, str], None]) -> Probe:
+        """What sees a connection of a line."""
+        pulse = self._pulse(place)
+        pulse.frame = place.frame
+        return Probe(pulse, tape, say)
+
+    def _pulse(self, place: Place) -> Pulse:
+        return self._pulses.setdefault(place.name, Pulse(place.frame, self._scale))
+
+    def data(self, places: Iterable[Place], unusable: Mapping[str, str], state: Dict[str, Any]) -> Dict[str, Any]:
+        """How the lines do that are asked for or connected, with the host's state."""
+        asked = {place.name: self._pulse(place) for place in places}
+        self._pulses = {name: one for name, one in self._pulses.items() if name in asked or one.probes}
+        lines = {
+            name: self._line(one, unusable.get(name, ""), state["lines"].get(name, {}))
+            for name, one in sorted(self._pulses.items())
+        }
+        return {**state, "scale": self._scale, "lines": lines}
+
+    @staticmethod
+    def _line(one: Pulse, unusable: str, counts: Dict[str, Any]) -> Dict[str, Any]:
+        found = one.says(unusable)
+        return {
+            **counts,
+            "state": found.state,
+            "verdict": found.verdict.key,
+            "since": found.since,
+            "says": found.text,
+            "advice": found.advice,
+            "connected": len(one.probes),
+            "last": one.last,
+            "ended": dict(one.messages),
+            "causes": dict(one.rejected),
+            "replies": one.replies,
+            "reply_seconds": round(one.reply_seconds, 6),
+            "frame": one.frame,
+        }
+
+    async def open(self, path: str, look: Callable[[], Dict[str, Any]]) -> None:
+        """Lets who may open a socket look: at all lines, or at the pieces of one. OSError if there can be no socket."""
+
+        def answer(asked: Dict[str, Any]) -> bytes:
+            if asked.get("ask") == "lines":
+                return json.dumps(look()).encode() + b"\n"
+            one = self._pulses.get(str(asked.get("line")))
+            if asked.get("ask") != "ring" or one is None:
+                return json.dumps({"error": "there is no such line"}).encode() + b"\n"
+            first, held = one.ring.after(int(asked.get("after", 0)))
+            head = {"first": first, "next": one.ring.next, "frame": one.frame, "size": len(held), "at": time.time()}
+            return json.dumps(head).encode() + b"\n" + held
+
+        door = Door(path, answer)
+        await door.open()
+        self._door = door
+
+    async def close(self) -> None:
+        """Lets nobody look any more."""
+        if self._door is not None:
+            await self._door.close()

@@ -1,0 +1,143 @@
+"""`lislab watch`: what goes on on a host's lines, at a glance."""
+import argparse
+import sys
+import time
+from typing import Any, Iterator, List
+
+from ..capture import Capture, write_lines
+from ..field.log import time_text
+from ..host.commands import state_file
+from ..host.files import write_whole
+from ..host.options import OptionError
+from ..host.said import say
+from . import client
+from .client import Host
+from .unix import WatchError, socket_of
+
+#: Exit statuses, as those of the other commands.
+GOOD, WRONG = 0, 1
+#: What a terminal does before a picture is painted anew, and with a bad line, a quiet one, and after each.
+CLEAR, COLOURS, PLAIN = "\x1b[H\x1b[J", {"bad": "\x1b[1;31m", "quiet": "\x1b[2m", "good": "\x1b[32m"}, "\x1b[0m"
+
+
+def add_command(commands: Any) -> None:
+    """Adds the command to those of lislab."""
+    one = commands.add_parser("watch", help="what goes on on a host's lines: a row a line, good, quiet or bad, and why")
+    one.add_argument("--store", required=True, metavar="STORE", help="as serve has it")
+    one.add_argument("--status", metavar="FILE", help="where the host writes its state (STORE.status)")
+    one.add_argument("--once", action="store_true", help="print once; status 1 if a line is bad")
+    one.add_argument("--every", type=float, default=2.0, metavar="SECONDS", help="how often it looks (%(default)s)")
+    one.add_argument("--line", metavar="NAME", help="the ladder of a line as it goes")
+    one.add_argument("--save", metavar="FILE", help="with --line: write its last bytes as a capture, and end")
+    one.set_defaults(run=run_watch)
+
+
+def run_watch(ask: argparse.Namespace) -> int:
+    """Shows the lines, or one of them."""
+    if ask.save and not ask.line:
+        raise OptionError("--save writes the last bytes of a line: name it by --line")
+    host = Host(ask.store, socket_of(state_file(ask.store, ask.status)))
+    every = max(0.1, ask.every)
+    if ask.save:
+        return _save(host, ask.line, ask.save)
+    if ask.line:
+        return _ladder_once(host, ask.line) if ask.once else _ladder(host, ask.line, every)
+    if ask.once:
+        data = host.look()
+        _print(client.rows_of(data))
+        return WRONG if client.is_bad(data) else GOOD
+    return _stay(host, every)
+
+
+def _print(rows: List[str]) -> None:
+    sys.stdout.write("".join(row + "\n" for row in rows))
+    sys.stdout.flush()
+
+
+def _stay(host: Host, every: float) -> int:
+    """Paints the rows anew as long as it runs. What is no terminal gets a row when its line changes."""
+    before: List[str] = []
+    while True:
+        data = host.look()
+        rows = client.rows_of(data)
+        if sys.stdout.isatty():
+            states = [""] * (len(rows) - len(data["lines"])) + [one["state"] for one in data["lines"].values()]
+            painted = [f"{COLOURS.get(state, '')}{row}{PLAIN}" for state, row in zip(states, rows)]
+            sys.stdout.write(CLEAR)
+            _print([time.strftime("%Y-%m-%d %H:%M:%S"), *painted])
+        else:
+            _print([f"{time.strftime('%H:%M:%S')}  {row}" for row in rows if row not in before])
+        before = rows
+        time.sleep(every)
+
+
+# ---- one line
+
+
+def _captured(host: Host, line: str) -> "tuple[Capture, int]":
+    from .ring import capture_of
+
+    head, pieces = host.ring(line)
+    return capture_of(pieces, int(head["first"]) > 0), int(head["frame"])
+
+
+def _save(host: Host, line: str, path: str) -> int:
+    """Writes a capture of a line's last bytes, and their times next to it."""
+    capture, _ = _captured(host, line)
+    head = ["" for _ in range(capture.lines[0][0] - 1)] if capture.lines else []
+    rows = [*head, *(time_text(at) for at in capture.times)]
+    write_whole(path, write_lines(row for _, row in capture.lines).encode())
+    write_whole(path + ".times", "".join(row + "\n" for row in rows).encode())
+    say(f"capture: {path}, {len(capture.lines)} lines; times: {path}.times")
+    return GOOD
+
+
+def _ladder_once(host: Host, line: str) -> int:
+    """The ladder of what the host holds of a line."""
+    from ..field.ladder import Ladder
+    from ..field.looks import looks_of
+    from ..field.show import text_of
+
+    capture, frame = _captured(host, line)
+    ladder = Ladder(capture, frame_limit=frame)
+    sys.stdout.buffer.write(text_of(ladder).encode("utf-8"))
+    sys.stdout.buffer.flush()
+    return WRONG if any(look.level == "bad" for look in looks_of(ladder)) else GOOD
+
+
+def rows_as_they_come(host: Host, line: str, every: float) -> Iterator[str]:
+    """The rows of a line's ladder, as they are complete. It waits for a host that isn't there."""
+    from ..field.show import row_text
+    from .live import LiveLadder
+
+    ladder, after = None, 0
+    while True:
+        try:
+            head, pieces = host.ring(line, after)
+        except WatchError as error:
+            if ladder is None:
+                raise
+            yield f"-- {client.shown(str(error))}"
+            time.sleep(every)
+            after = 0
+            continue
+        if int(head["next"]) < after:  # another host runs now
+            ladder, after = None, 0
+            continue
+        if ladder is None:
+            ladder = LiveLadder(int(head["frame"]))
+        elif int(head["first"]) > after:
+            yield f"-- {int(head['first']) - after} pieces went by unseen"
+        after = int(head["next"])
+        for row in ladder.grow(pieces):
+            yield from row_text(row)
+        yield ""
+        time.sleep(every)
+
+
+def _ladder(host: Host, line: str, every: float) -> int:
+    for row in rows_as_they_come(host, line, every):
+        if row:
+            _print([row])
+    return GOOD
+

@@ -1,0 +1,417 @@
+"""How each line of a host does, while it runs: what came last, and what is wrong since when. A probe sees what one
+connection hears and what that meant; the pulse of a line has what its probes saw."""
+import re
+import time
+from collections import Counter
+from typing import Any, Callable, Dict, List, NamedTuple, Optional
+
+from ..field.faults import cause_of_frame
+from ..field.looks import has_bare_frames, is_hl7, parity_of, telnet_in
+from ..host.notices import Watch
+from ..host.store import WHOLE, End, StoreError
+from ..host.tape import Tape
+from ..link import FrameFault, Note, Step
+from .ring import Ring
+from .verdicts import BAD, GOOD, Verdict
+
+#: For so many seconds nothing may follow an acknowledged ENQ, and stray bytes may be without an ENQ; after so many
+#: seconds without a message a line is quiet. They are as many times as long as the timers of a test.
+PATIENCE, QUIET = 10.0, 1800.0
+#: So many rejected frames in a row are bad; so many sessions in a row that end without a frame; so many echoes.
+IN_A_ROW, EMPTY, ECHOES = 3, 5, 3
+#: So many reasons are told apart.
+REASONS = 16
+#: The most bytes that are looked at for another protocol; the most of a frame that is open.
+LOOKED_AT, OPEN_FRAME = 4096, 70_000
+#: The upper ends of the buckets of reply times, in seconds.
+BUCKETS = (0.005, 0.01, 0.025, 0.05, 0.1, 0.25, 0.5, 1.0, 2.5, 5.0, 10.0)
+#: How a disk is full, in the words of SQLite, PostgreSQL and the system.
+_FULL = re.compile("disk is full|no space left|file too large|quota exceeded", re.I)
+_SIGNALS = bytes([4, 5, 6, 0x15])
+_FRAMES = {
+    Note.OUT_OF_TURN: Verdict.OUT_OF_TURN,
+    Note.NO_ROOM: Verdict.NO_ROOM,
+    Note.TEXT_TOO_LONG: Verdict.TEXT_TOO_LONG,
+    Note.TOO_MANY: Verdict.TOO_MANY,
+    Note.REFUSED_MEMORY: Verdict.MEMORY,
+}
+
+
+class Trouble:
+    """Something that goes wrong again and again: its verdict, since when, how often, and why."""
+
+    def __init__(self, verdict: Verdict) -> None:
+        self.verdict, self.since, self.count = verdict, time.time(), 0
+        #: Why, how often each; why it was the last time.
+        self.why: "Counter[str]" = Counter()
+        self.last = ""
+
+
+class Says(NamedTuple):
+    """What is said of a line: the verdict, since when it holds, its sentence, and what to do."""
+
+    verdict: Verdict
+    since: float
+    text: str
+    advice: str
+
+    @property
+    def state(self) -> str:
+        """`good`, `quiet` or `bad`."""
+        return self.verdict.level if self.verdict.level in (GOOD, BAD) else "quiet"
+
+
+def clock(at: float) -> str:
+    """A time of the clock on the wall; with its day, if that isn't today."""
+    there, now = time.localtime(at), time.localtime()
+    return time.strftime("%H:%M" if there[:3] == now[:3] else "%Y-%m-%d %H:%M", there)
+
+
+def span(seconds: float) -> str:
+    """How long something is ago."""
+    for most, unit, name in ((120, 1, "s"), (7200, 60, "min"), (172_800, 3600, "h")):
+        if seconds < most:
+            return f"{max(0, int(seconds / unit))} {name}"
+    return f"{int(seconds / 86400)} days"
+
+
+def many(count: int, name: str) -> str:
+    """So many of something."""
+    return f"{count} {name}" if count == 1 else f"{count} {name}s"
+
+
+def says(verdict: Verdict, since: float, count: int = 0, **values: Any) -> Says:
+    """What a verdict says of a line."""
+    told = {f"{name}s": many(count, name) for name in ("frame", "byte", "message")}
+    told["times"] = "once" if count == 1 else f"{count} times"
+    told.update({"since": clock(since), **values})
+    return Says(verdict, since, verdict.live.format(**told), verdict.advice.format(**told))
+
+
+class Pulse:
+    """How a line does: whatever connection it has. `scale` is that of its timers."""
+
+    def __init__(self, frame: int, scale: float) -> None:
+        self.frame, self.scale, self.ring = frame, scale, Ring()
+        self.begun, self.last = time.time(), None  # type: float, Optional[float]
+        self.troubles: Dict[str, Trouble] = {}
+        self.probes: "List[Probe]" = []
+        #: How many connections there were; sessions in a row that had no byte between ENQ and EOT.
+        self.connections = self.polls = 0
+        #: When a frame was accepted last, by the clock that only goes on.
+        self.good_at = 0.0
+        #: Frames by why they were rejected; messages by their state; replies by their time, and the sum of these.
+        self.rejected: "Counter[str]" = Counter()
+        self.messages: "Counter[str]" = Counter()
+        self.replies, self.reply_seconds = [0] * (len(BUCKETS) + 1), 0.0
+
+    def wrong(self, kind: str, verdict: Verdict, why: str = "") -> Trouble:
+        """Something went wrong once more."""
+        one = self.troubles.setdefault(kind, Trouble(verdict))
+        one.verdict, one.count, one.last = verdict, one.count + 1, why
+        one.why[why if len(one.why) < REASONS else "another reason"] += 1
+        return one
+
+    def right(self, *kinds: str) -> None:
+        """Something went right: what was wrong before is over."""
+        for kind in kinds:
+            self.troubles.pop(kind, None)
+
+    def says(self, unusable: str = "") -> Says:
+        """What is said of the line now; `unusable` is why its device can't be had, if it can't."""
+        if unusable:
+            return says(Verdict.NO_DEVICE, self.begun, why=unusable)
+        host = self._of("store") or self._of("late") or self._of("own")
+        line = host or self._strange() or self._frames() or self._silent() or self._echo()
+        return line or self._of("messages") or self._well()
+
+    def _of(self, kind: str) -> Optional[Says]:
+        """What is said of a kind of trouble, if there is some."""
+        one = self.troubles.get(kind)
+        return None if one is None else says(one.verdict, one.since, one.count, why=one.last, **_parity(one.last))
+
+    def _frames(self) -> Optional[Says]:
+        one = self.troubles.get("frames")
+        if one is None or (one.count < IN_A_ROW and "hopeless" not in self.troubles):
+            return None
+        return says(one.verdict, one.since, one.count, why="; ".join(why for why, _ in one.why.most_common(2)))
+
+    def _strange(self) -> Optional[Says]:
+        """Bytes that came without a session, on a connection that has no other since."""
+        for probe in self.probes:
+            found = probe.strange()
+            if found is not None:
+                return found
+        return self._of("strange")
+
+    def _silent(self) -> Optional[Says]:
+        """Sessions in which no frame came."""
+        for probe in self.probes:
+            found = probe.silent()
+            if found is not None:
+                return found
+        return self._of("silent")
+
+    def _echo(self) -> Optional[Says]:
+        one = self.troubles.get("echo")
+        return says(one.verdict, one.since, one.count) if one is not None and one.count >= ECHOES else None
+
+    def _well(self) -> Says:
+        now = time.time()
+        session = next((probe for probe in self.probes if probe.is_open), None)
+        if session is not None:
+            return says(Verdict.GOES_ON, session.opened, session.units)
+        if self.last is None:
+            who = "" if self.probes else ", and nobody is connected"
+            return says(Verdict.NEVER, self.begun, ago=span(now - self.begun), who=who)
+        if now - self.last < QUIET * self.scale:
+            return says(Verdict.WHOLE, self.last, ago=span(now - self.last))
+        verdict = Verdict.ONLINE if self.probes else Verdict.AWAY
+        return says(verdict, self.last, ago=span(now - self.last))
+
+
+def _parity(word: str) -> Dict[str, str]:
+    return {"parity": word, "letter": word[:1].upper()}
+
+
+def protocol_of(data: bytes, otherwise: Verdict) -> "tuple[Verdict, str]":
+    """What bytes are that make no frame, and which parity they carry."""
+    if is_hl7(data):
+        return Verdict.HL7, ""
+    parity = parity_of(data)
+    if parity:
+        return Verdict.PARITY, parity
+    return (Verdict.TELNET if telnet_in(data) > 1 else otherwise), ""
+
+
+class Probe:
+    """Sees what a connection hears and sends, and what that means. It is the tape of the connection, too."""
+
+    def __init__(self, pulse: Pulse, tape: Optional[Tape], say: Callable[[str, str], None]) -> None:
+        self._pulse, self._file, self._notices = pulse, tape, Watch(say)
+        pulse.connections += 1
+        self._number = pulse.connections
+        pulse.probes.append(self)
+        #: Whether a session is open, since when, how many frames it had, and how many of them were accepted.
+        self.is_open, self.opened, self.units, self._good = False, 0.0, 0, 0
+        #: What came since ENQ before a frame, or without a session, and since when it is so; what was sent last.
+        self._got, self._stray, self._since, self._sent = bytearray(), bytearray(), (0.0, 0.0), b""
+        #: The bytes of the unit that is open, those that are heard now, and where the next unit begins in them.
+        self._carry, self._now, self._start = b"", b"", 0
+        #: The number that is due; whether a text is kept that wasn't answered yet.
+        self._due, self._is_kept = 1, False
+
+    # ---- what came, and what it meant
+
+    @property
+    def at(self) -> int:
+        """The place in the connection of the byte that was answered last."""
+        return self._notices.at
+
+    @property
+    def heard(self) -> int:
+        """How many bytes came."""
+        return self._notices.heard
+
+    @property
+    def sessions(self) -> int:
+        """How many sessions there were."""
+        return self._notices.sessions
+
+    def hears(self, data: bytes) -> None:
+        """Bytes that are heard from here on."""
+        self._notices.hears(data)
+        self._carry = (self._carry + self._now[self._start :])[-OPEN_FRAME:]
+        self._now, self._start = data, 0
+        if self.is_open and not self.units:
+            self._got += data[: LOOKED_AT - len(self._got)]
+        elif not self.is_open:
+            self._strays(data)
+
+    def _strays(self, data: bytes) -> None:
+        """Bytes came without a session. Answers to sessions of the host are none of them."""
+        if data.translate(None, _SIGNALS):
+            self._since = self._since if self._stray else (time.time(), time.monotonic())
+            self._stray += data[: LOOKED_AT - len(self._stray)]
+
+    def step(self, place: int, step: Step) -> None:
+        """What a byte meant, at this place of the bytes that are heard."""
+        self._notices.step(place, step)
+        raw = self._carry + self._now[self._start : place + 1]
+        if step.note is not Note.TIMED_OUT:
+            self._carry, self._start = b"", place + 1
+        if step.note in (Note.OPENED, Note.ENDED, Note.TIMED_OUT):
+            self._session(step.note)
+        elif step.note in (Note.ACCEPTED, Note.DUPLICATE):
+            self.units, self._good = self.units + 1, self._good + 1
+            self._pulse.right("silent", "strange")
+            if step.note is Note.ACCEPTED:
+                self._due, self._pulse.polls, self._pulse.good_at = (self._due + 1) % 8, 0, time.monotonic()
+                self._pulse.right("frames", "hopeless")
+        elif step.note is Note.REFUSED or step.note in _FRAMES:
+            self.units += 1
+            self._pulse.right("silent", "strange")
+            self._reject(step, raw)
+
+    def _reject(self, step: Step, raw: bytes) -> None:
+        """A frame is rejected: the reason is that of a ladder."""
+        if step.note in _FRAMES:
+            verdict = _FRAMES[step.note]
+            why = verdict.live.format(due=self._due)
+        else:
+            body = raw[raw.rfind(2) + 1 : -1]
+            cause = cause_of_frame(body, FrameFault(step.detail), step.place, self._pulse.frame)
+            verdict = cause.verdict
+            why = f"the checksum is wrong: {cause.way}" if cause.way else verdict.live
+        self._pulse.rejected[verdict.key] += 1
+        self._pulse.wrong("frames", Verdict.NONE_ACCEPTED, why)
+
+    def _session(self, note: Note) -> None:
+        """A session begins, or is over."""
+        self._over(note)
+        if note is not Note.OPENED:
+            self._strays(self._now[self._start :])
+            return
+        self._pulse.right("strange")
+        self.is_open, self.opened, self.units, self._good, self._due = True, time.time(), 0, 0, 1
+        self._since, self._stray = (self.opened, time.monotonic()), bytearray()
+        self._got = bytearray(self._now[self._start : self._start + LOOKED_AT])
+
+    def _over(self, note: Optional[Note] = None) -> None:
+        """The session is over: what it says of the line, if no frame of it was accepted."""
+        if not self.is_open:
+            return
+        verdict, parity = self._without_frame(note is Note.OPENED)
+        self.is_open, pulse = False, self._pulse
+        if self.units:
+            if not self._good:
+                pulse.wrong("hopeless", Verdict.NONE_ACCEPTED)
+            return
+        if note is Note.ENDED and verdict is Verdict.NO_FRAME:
+            pulse.polls += 1
+            if pulse.polls < EMPTY:
+                return
+        one = pulse.wrong("silent", verdict, parity)
+        one.since = min(one.since, self.opened)
+
+    def _without_frame(self, is_again: bool = False) -> "tuple[Verdict, str]":
+        """What is wrong with a session in which no frame came; whether ENQ came again in it."""
+        got = bytes(self._got)
+        if got.translate(None, _SIGNALS):
+            return protocol_of(got, Verdict.NO_UNIT if 2 in got else Verdict.NO_STX)
+        before = self._pulse.troubles.get("silent")
+        is_heard = not is_again and (before is None or before.verdict is not Verdict.NOT_HEARD)
+        return (Verdict.NO_FRAME if is_heard else Verdict.NOT_HEARD), ""
+
+    def silent(self) -> Optional[Says]:
+        """What is said of a session that goes on without a frame."""
+        if not self.is_open or self.units or not self._is_long_ago():
+            return None
+        verdict, parity = self._without_frame()
+        before = self._pulse.troubles.get("silent")
+        since = before.since if before else self.opened
+        return says(verdict, since, before.count if before else 1, **_parity(parity))
+
+    def strange(self) -> Optional[Says]:
+        """What is said of bytes without a session."""
+        if not self._stray or not self._is_long_ago():
+            return None
+        verdict, parity = self._stranger()
+        return says(verdict, self._since[0], len(self._stray), **_parity(parity))
+
+    def _stranger(self) -> "tuple[Verdict, str]":
+        data = bytes(self._stray)
+        has_frames = 2 in data or has_bare_frames(data)
+        return protocol_of(data, Verdict.NOT_OPEN if has_frames else Verdict.NO_PROTOCOL)
+
+    def _is_long_ago(self) -> bool:
+        """Whether it is so for long, and no connection of the line had a good frame since."""
+        since = self._since[1]
+        return since > self._pulse.good_at and time.monotonic() - since >= PATIENCE * self._pulse.scale
+
+    # ---- what the host did
+
+    def replied(self, seconds: float) -> None:
+        """A reply went out so long after the bytes came that it answers."""
+        pulse = self._pulse
+        pulse.replies[next((at for at, most in enumerate(BUCKETS) if seconds <= most), len(BUCKETS))] += 1
+        pulse.reply_seconds += seconds
+        if self._is_kept:
+            self._is_kept = False
+            pulse.right("late")
+
+    def late(self) -> None:
+        """A reply was not sent, since it would have been late."""
+        self._pulse.wrong("late", Verdict.LATE)
+
+    def kept(self) -> None:
+        """A text is kept."""
+        self._is_kept = True
+        self._pulse.right("store")
+
+    def not_kept(self, error: Exception) -> None:
+        """A text could not be kept."""
+        why = str(error)
+        is_full = _FULL.search(why) is not None
+        verdict = Verdict.DISK_FULL if is_full else Verdict.STORE_GONE
+        self._pulse.wrong("store", verdict if isinstance(error, StoreError) else Verdict.TOO_BIG, why)
+
+    def ended(self, end: End) -> None:
+        """A message ended."""
+        pulse = self._pulse
+        pulse.messages[end.state] += 1
+        if end.state == WHOLE:
+            pulse.last = end.at
+            pulse.right("messages")
+        else:
+            pulse.wrong("messages", Verdict.NOT_WHOLE, f"{end.state}: {end.reason}")
+
+    def session_over(self) -> None:
+        """The receiver begins anew."""
+        self._notices.session_over()
+        self.is_open = False
+
+    def over(self) -> None:
+        """No more is heard of the connection."""
+        self._notices.over()
+
+    def answered(self) -> None:
+        """A session of the host's own was answered."""
+        self._notices.answered()
+        self._pulse.right("own")
+
+    def in_vain(self, why: str) -> None:
+        """A session of the host's own failed."""
+        self._pulse.wrong("own", Verdict.NO_REPLY, why)
+
+    # ---- the tape
+
+    def event(self, row: str) -> None:
+        """The timer's end (`T`), or a restart of the receiver (`R`)."""
+        self._pulse.ring.add(self._number, row)
+        if self._file is not None:
+            self._file.event(row)
+
+    def close(self) -> None:
+        """The connection is over."""
+        self._over()
+        if self.strange() is not None:
+            one = self._pulse.wrong("strange", *self._stranger())
+            one.since, one.count = min(one.since, self._since[0]), one.count - 1 + len(self._stray)
+        self._pulse.probes.remove(self)
+        if self._file is not None:
+            self._file.close()
+
+    def bytes(self, mark: str, data: bytes) -> None:
+        """Bytes of the analyzer (`>`) or of the host (`<`)."""
+        self._pulse.ring.add(self._number, mark, data)
+        if self._file is not None:
+            self._file.bytes(mark, data)
+        if mark == "<":
+            self._sent = data
+        elif self._sent:
+            if data.startswith(self._sent):
+                self._pulse.wrong("echo", Verdict.ECHO)
+            else:
+                self._pulse.right("echo")
+            self._sent = b""
