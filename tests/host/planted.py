@@ -238,6 +238,9 @@ FAULTS = {
     "test_mends.Mends.test_each": Edit(
         "host/mend.py", "for name in NAMES if name in self.names or name in more)", "for name in more)"
     ),
+    "test_mends.Mends.test_last_records": Edit(
+        "host/mend.py", "_LAST.search(text, max(0, len(text) - 64))", "_LAST.search(text)"
+    ),
     "test_mends.Mends.test_line_feeds": Edit(
         "host/feeds.py", "(int(digits, 16) + count) % 256", "sum(body[1:].replace(_LF, _VT) + end) % 256"
     ),

@@ -10,7 +10,7 @@ from typing import NamedTuple
 
 from lislink import Receiver, frame_bytes
 from lislink.capture import read_capture
-from lislink.host import lines, options
+from lislink.host import lines, mend, options
 from lislink.host.feeds import LineFeeds
 from lislink.link import FRAME_TEXT, LONG_FRAME_TEXT
 from tests.host.hosts import ROOT, Found, Host, HostTest, lislab, wait_for
@@ -228,6 +228,15 @@ class Mends(HostTest):
             one[byte] ^= 1 << rng.randrange(8)
             found = heard(rng, b"".join([*sent[:damaged], bytes(one), *sent[damaged + 1 :]]))
             self.true(f"{turn}: a damaged frame {bytes(one)}", found in (texts[: damaged - 1], texts), repr(found))
+
+    def test_last_records(self):
+        """The last record of a message is looked for at the end of a text, and a unit isn't one."""
+        ends = [b"\r", b"\r\n", b"\n", b"<CR>", b"[0D] ", b"^M", b"\\r", b"%0d", "␍".encode(), b"\r5"]
+        for text in (b"L|1|N\r", b"L|1|N", b"l!1", b"\r\0L\0|\0" b"1\0", *(b"R|1" + end + b"L|1" for end in ends)):
+            self.true(f"{text!r} has one", mend.seems_over(text))
+        units = (b"R|1|^^^GLU|5.4|mmol/L||N\r", b"R|1|^^^L|5\r", b"C|1|I|L\r", b"R|7L|1")
+        for text in (*units, b"LOT|1\r", b"", b"L|1\r" + b"x" * 99 + b"\r"):
+            self.true(f"{text!r} has none", not mend.seems_over(text))
 
     def test_words(self):
         """The names of a line's mends, in its words and in a file of lines."""

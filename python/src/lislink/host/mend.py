@@ -19,13 +19,14 @@ NAMES, SAME = tuple(CHANGES), {"escape": "bytes"}
 #: Those of lines whose frames may hold LF.
 LINE_FEEDS = frozenset(("lf", "crlf"))
 #: The most bytes of a message that is mended, and of one of which it is tried which setting would mend it.
-MOST, MOST_TRIED = 4 << 20, 1 << 18
+MOST, MOST_TRIED = 2 << 20, 1 << 18
 #: So many messages of a line are tried at once, and then one each so many seconds.
 AT_ONCE, SECONDS = 5, 10.0
 #: So many changes of a message are named one by one.
 MOST_NAMED = 50
-#: A record L near the end of a text.
-_LAST = re.compile(rb"(?:\A|[^0-9A-Za-z])[0-7]?[Ll]\0?[^0-9A-Za-z]")
+#: A record L near the end of a text: after its beginning, after CR, LF or a word for one of them.
+_END = rb"\A|[\r\n\0>\])};\x8d]|\\r|\\n|\^M|[=%]0D|\\x0D|\\u000D|\\015"
+_LAST = re.compile(rb"(?:" + _END + rb")[ \t\0]*[0-7]?L\0?[^0-9A-Za-z\s]", re.I)
 #: Those that end a message, which may go on as long as its session does; and that which makes an end of its own.
 _AT_THE_END, _MAKES_AN_END = frozenset(("last-l", "last-cr")), frozenset(("last-l",))
 
@@ -43,8 +44,8 @@ class Mended(NamedTuple):
 
 
 def seems_over(text: bytes) -> bool:
-    """Whether a text seems to have the last record of a message near its end."""
-    return _LAST.search(text[-64:]) is not None
+    """Whether a text seems to have the last record of a message near its end. What that is worth is seen by mending."""
+    return _LAST.search(text, max(0, len(text) - 64)) is not None
 
 
 def mended(body: bytes, names: FrozenSet[str]) -> Optional[Mended]:
