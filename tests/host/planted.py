@@ -250,6 +250,9 @@ FAULTS = {
     "test_mends.Mends.test_not_mended": Edit("host/mend.py", "if any(changed_lines(body, kept)):", "if not kept:"),
     "test_mends.Mends.test_query": Edit("host/duplex.py", "Asking().take(body[: QUERY + 1])", "Asking().take(body[:9])"),
     "test_mends.Mends.test_repeats": Edit("host/line.py", "_join(part, await self._ends_now(text))", "_join(part, [])"),
+    "test_mends.Mends.test_streams": Edit(
+        "host/mend.py", "data[one.start : one.ends[-1]]", "data[one.start : one.ends[-1] - 1]"
+    ),
     "test_mends.Mends.test_words": Edit(
         "host/options.py", "tuple(one for one in NAMES if one in given)", "tuple(given)"
     ),

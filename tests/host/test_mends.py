@@ -1,20 +1,27 @@
 """Makers' deviations that a line mends: a message that can't be read without a setting and is delivered with it, what
 came kept as it came. Each sample of samples/mends is an analyzer's session, named by the mend that it needs."""
+import asyncio
 import csv
 import glob
 import io
 import json
 import os
 import random
+from collections import Counter
 from typing import NamedTuple
 
-from lislink import Receiver, frame_bytes
+import lislink
+from lislink import Receiver, frame_bytes, read_all
 from lislink.capture import read_capture
 from lislink.host import lines, mend, options
 from lislink.host.feeds import LineFeeds
+from lislink.host.intake import Intake
+from lislink.host.mend import Mender
+from lislink.host.store import WHOLE, Add, End
 from lislink.link import FRAME_TEXT, LONG_FRAME_TEXT
 from tests.host.hosts import ROOT, Found, Host, HostTest, lislab, wait_for
 from tests.host.plain import frame
+from tests.host.test_intake import random_stream, random_texts
 from tests.host.test_lines import ACK, ENQ, EOT, NAK, Client, frames
 
 SAMPLES = os.path.join(ROOT, "samples", "mends")
@@ -229,6 +236,19 @@ class Mends(HostTest):
             found = heard(rng, b"".join([*sent[:damaged], bytes(one), *sent[damaged + 1 :]]))
             self.true(f"{turn}: a damaged frame {bytes(one)}", found in (texts[: damaged - 1], texts), repr(found))
 
+    def test_streams(self):
+        """Of random texts every byte is kept as it came, whatever is mended, and what is made of them can be read."""
+        rng, made = random.Random(17), 0
+        for turn in range(300):
+            stream = random_stream(rng).replace(b"|5", rng.choice((b"|5", b"|\x1d", b"|5\0")))
+            names = rng.sample(options.NAMES, rng.randrange(len(options.NAMES)))
+            came, whole, mended = asyncio.run(kept(random_texts(rng, stream), names))
+            self.same(f"{turn}: {names}: what came", came, stream)
+            found = [[type(one) for one in read_all(body)] for body in [*whole, *mended]]
+            self.same(f"{turn}: {names}: what can be read", found, [[lislink.Found]] * len(found))
+            made += len(mended)
+        self.true("some are mended", made > 50, str(made))
+
     def test_last_records(self):
         """The last record of a message is looked for at the end of a text, and a unit isn't one."""
         ends = [b"\r", b"\r\n", b"\n", b"<CR>", b"[0D] ", b"^M", b"\\r", b"%0d", "␍".encode(), b"\r5"]
@@ -267,6 +287,23 @@ def mends_again(test, store):
     test.same(f"{name}: unmarked repeats", found.unmarked(), [])
     test.same(f"{name}: counted", [(one.mended, one.unreadable) for one in found.counts], [(3, 0)])
     test.same(f"{name}: kept as they came", len({one.body for one in found.others}), 1)
+
+
+async def kept(texts, names):
+    """What is kept of texts: all bytes as they came, the messages that are whole as they came, and those that are
+    mended."""
+    intake, mender = Intake("line", "peer", "latin-1", 1 << 20, lambda: 0.0, 1 << 20), Mender(names, None, Counter())
+    changes = []
+    for some in [*(some for text in texts for some in intake.take(text)), intake.drop("the end")]:
+        changes += await mender.of_all(some, intake.bodies, True)
+    bodies, whole = {}, {}
+    for change in changes:
+        if isinstance(change, Add):
+            bodies[change.key] = bodies.get(change.key, b"") + change.body
+        elif isinstance(change, End) and change.state == WHOLE:
+            whole[change.key] = change.reason
+    came = b"".join(body for key, body in bodies.items() if not whole.get(key))
+    return came, *([bodies[key] for key in whole if bool(whole[key]) is is_made] for is_made in (False, True))
 
 
 def random_text(rng):
