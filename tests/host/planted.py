@@ -289,6 +289,9 @@ FAULTS = {
     "test_notices.Said.test_frames": Edit(
         "host/notices.py", "if self._rejected_at != self._taken:", "if self._taken >= 0:"
     ),
+    "test_notices.Said.test_late_reply": Edit(
+        "host/duplex.py", "if was_unanswered and data[:1] in _REPLIES:", "if data[:1] not in _REPLIES:"
+    ),
     "test_notices.Said.test_lines_that_come_and_go": Edit(
         "host/notices.py",
         "            self._dropped[name, kind] += 1\n            self.not_said",

@@ -1,12 +1,19 @@
 """What a host says of lines with trouble: where, and which byte or code; never what a record says, and not too
 often."""
 import json
+import os
+import pty
 import re
+import select
+import termios
 import time
+import tty
 
 from lislink import FrameFault
 from lislink.host.notices import CONNECTION, FRAME, Notices, Watch
 from lislink.link import Note, Step
+from lislink.orders.book import open_book
+from lislink.orders.order import Order
 from tests.host.hosts import Found, Host, HostTest, lislab, trouble, wait_for
 from tests.host.test_lines import ACK, ENQ, EOT, NAK, Client, frames, session
 
@@ -166,3 +173,33 @@ class Said(HostTest):
         self.same("all are said or counted", sum(map(int, left_out)), data["not_said"]["other"][CONNECTION])
         self.true("not all are said", data["not_said"]["other"][CONNECTION] >= 40)
         self.has("for a reader", shown.stdout, "other: notices that were not said: ")
+
+    def test_late_reply(self):
+        """A reply that comes after the host gave its own session up is said, and counted by the status."""
+        master, slave = pty.openpty()
+        self.addCleanup(os.close, master)
+        self.addCleanup(os.close, slave)
+        tty.setraw(slave, termios.TCSANOW)
+        store = self.path("late.db")
+        book = open_book(store)
+        book.add([Order("S7", ("GLU",))])
+        book.close()
+        host = Host(store, "--serial", f"{os.ttyname(slave)}:9600,name=late,orders=send", listen=False)
+
+        def byte():
+            """What the host sends next."""
+            ready, _, _ = select.select([master], [], [], 60)
+            return os.read(master, 1) if ready else b""
+
+        self.same("a session that isn't answered", [byte(), byte()], [ENQ, EOT])
+        os.write(master, b"x" + ACK)
+        self.same("the next one", byte(), ENQ)
+        self.true("another byte is no reply", "after the host had given" not in host.says(), host.says())
+        self.same("it isn't answered either", byte(), EOT)
+        os.write(master, ACK)
+        said = "a reply came after the host had given its session up: byte 2 of the connection is 0x06\n"
+        said = f"lislab: late: {os.ttyname(slave)}: {said}"
+        self.true("it is said", wait_for(lambda: said in host.says(), 60), host.says())
+        self.same("the host's status", host.stop(), 0)
+        data = json.loads(lislab("status", "--store", store, "--json").stdout)
+        self.same("it is counted", [one["late"] for one in data["lines"]], [1])
