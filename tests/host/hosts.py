@@ -105,11 +105,13 @@ def process(words, **how):
 
 
 class Host:
-    """`lislab serve` as a process; with a fault, a wrong one."""
+    """`lislab serve` as a process; with a fault, a wrong one. What it says goes to a file, or, where its files may not
+    grow, through a pipe."""
 
-    def __init__(self, store, *words, fault=None, scale=SCALE, listen=True, errors=None, each=250, **how):
+    def __init__(self, store, *words, fault=None, scale=SCALE, listen=True, errors=None, each=250, piped=False, **how):
         self.store, self.words, self.fault, self.scale = store, words, fault, scale
-        self.port, self.listen, self.how, self.errors_to = 0, listen, how, errors
+        self.port, self.listen, self.how = 0, listen, how
+        self.errors_to = subprocess.PIPE if piped else errors
         self.errors = []
         if each is not None:  # all analyzers of a test have one address
             self.words = ("--address-lines", str(each), *words)
@@ -122,7 +124,7 @@ class Host:
         if self.listen:
             words += ["--listen", f"127.0.0.1:{self.port},name=fire"]
         self.said = tempfile.TemporaryFile("w+", encoding="utf-8")
-        errors = subprocess.PIPE if self.errors_to is None else self.errors_to
+        errors = self.said if self.errors_to is None else self.errors_to
         self.process = process([*words, *self.words], stdout=subprocess.PIPE, stderr=errors, **self.how)
         self.hears = threading.Thread(target=self._hear, args=(self.process.stderr, self.said), daemon=True)
         self.hears.start()
@@ -139,7 +141,7 @@ class Host:
 
     @staticmethod
     def _hear(errors, said):
-        """Takes what it says on standard error. A pipe has no size that a limit on its files could cut."""
+        """Takes what it says through a pipe."""
         with contextlib.suppress(ValueError):  # closed with the host, whose programs may still have its pipe
             for row in errors or ():
                 said.write(row)

@@ -1,4 +1,5 @@
 """Hosts that are killed at random moments, and stores that fail: what was acknowledged is kept, repeats are marked."""
+import functools
 import random
 import resource
 import subprocess
@@ -65,9 +66,9 @@ class Kills(HostTest):
     def gets_full(self, store, room):
         """Without room no acknowledgement goes out; once there is room the line goes on."""
         log, unlimited = self.path(f"full{room}.log"), (resource.RLIM_INFINITY, resource.RLIM_INFINITY)
-        host = Host(
-            store, preexec_fn=lambda: resource.setrlimit(resource.RLIMIT_FSIZE, (room, resource.RLIM_INFINITY))
-        )
+        # What a host says goes to a file in other tests, which would be as full.
+        limit = functools.partial(resource.setrlimit, resource.RLIMIT_FSIZE, (room, resource.RLIM_INFINITY))
+        host = Host(store, piped=True, preexec_fn=limit)
         one = sending(host.port, "--analyzers", "5", "--made", "40", "--tries", "0", "--log", log)
         full = wait_for(lambda: "not kept" in host.says() or len(acknowledged(log)) == 200, 60)
         self.true("it gets full", full and wait_for(lambda: stuck(log), 30))
