@@ -496,7 +496,7 @@ class Unheard(HostTest):
     def line(self, outbox, sent):
         """A line with orders, over a wire that takes what is sent."""
         wire = unittest.mock.Mock(is_tcp=True, write=sent.append)
-        intake, committer, probe, mender = (unittest.mock.Mock(names=frozenset()) for _ in range(4))
+        intake, committer, probe, mender = (unittest.mock.Mock(names=frozenset(), bodies={}) for _ in range(4))
         given = (wire, intake, committer, Limits(), Counter(), probe, 240, print, Turns(), mender)
         line = TwoWayLine(outbox, Site("asks", "x", "latin-1", True, "L-I", "1"), *given)
         line._intake.drop.return_value = line._intake.take.return_value = []
