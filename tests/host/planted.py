@@ -38,6 +38,9 @@ WITH_THEIR_OWN = (
 #: The other tests, and what each must notice.
 FAULTS = {
     "test_aside.Asides.test_aside": Edit("delivery/aside.py", "if tries < self.most:", "if tries <= self.most:"),
+    "test_aside.Asides.test_aside_of_a_spool": Edit(
+        "host/deliver.py", "self._to.store.messages(held.number - 1, 1)", "self._to.store.messages(held.number, 1)"
+    ),
     "test_aside.Asides.test_again_of_one_that_runs": Edit(
         "host/deliver.py", "            grant(self._cursor.path, key)\n", ""
     ),

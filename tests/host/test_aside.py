@@ -21,6 +21,7 @@ def records(samples, value="5.4"):
 
 def keep(store, bodies, line="fire"):
     """Puts whole messages into a store: their keys."""
+    bodies = list(bodies)
     keys = [f"{at:016x}" for at in range(1, len(bodies) + 1)]
     one = open_store(store)
     one.start("h")
@@ -51,8 +52,8 @@ with open(sys.argv[1], "a") as file:
 class Taker:
     """A delivery to a command that fails for some messages."""
 
-    def __init__(self, test, name, bodies):
-        self.store, self.cursor = test.path(f"{name}.db"), test.path(f"{name}.cursor")
+    def __init__(self, test, name, bodies, spool=""):
+        self.store, self.cursor = spool + test.path(f"{name}.db"), test.path(f"{name}.cursor")
         self.path, self.bad = test.path(f"{name}.taken"), test.path(f"{name}.bad")
         self.keys = keep(self.store, bodies)
 
@@ -79,7 +80,16 @@ class Asides(HostTest):
 
     def test_aside(self):
         """A message that fails twice is set aside with later ones of its sample, and sent again with them."""
-        one = Taker(self, "aside", [records(it) for it in (["A"], ["B"], ["A"], ["C"], ["B", "A"], ["B"], ["D"])])
+        samples = (["A"], ["B"], ["A"], ["C"], ["B", "A"], ["B"], ["D"])
+        self.is_set_aside(Taker(self, "aside", map(records, samples)))
+
+    def test_aside_of_a_spool(self):
+        """The same out of a spool."""
+        samples = (["A"], ["B"], ["A"], ["C"], ["B", "A"], ["B"], ["D"])
+        self.is_set_aside(Taker(self, "aside of a spool", map(records, samples), "spool:"))
+
+    def is_set_aside(self, one):
+        """The first message fails."""
         one.fails(0)
         first = lislab(*one.words("--aside", "2", "--once"))
         self.same("it fails once", (first.returncode, one.taken()), (1, []))

@@ -71,7 +71,8 @@ class Table(HostTest):
             ("0.1", "0.1", "0.01|new", ""), ("5.4", "1", "5.4|new", ""), ("+05.4", "1", "+05.4|new", ""),
             ("neg", "1", "neg|new", ""), (">500", "0.5", ">250.0|new", ""), ("<= .30", "2", "<=0.60|new", ""),
             (">5", "-1", "<-5|new", ""), ("1e2", "2", "200|new", ""), ("neg", "2", "neg|old", no),
-            ("5,4", "2", "5,4|old", no), ("1:40", "2", "1:40|old", no), ("5^4", "2", "5^4|old", no), ("", "2", "|new", ""),
+            ("5,4", "2", "5,4|old", no), ("1:40", "2", "1:40|old", no),
+            ("5^4", "2", "5^4|old", no), ("", "2", "|new", ""),
             ("123456789012345678901234567890.1", "1.1", "135802467913580246791358024679.11|new", ""),
         ):
             table = self.table(f"A,B,new,{factor}")
@@ -100,7 +101,8 @@ class Table(HostTest):
     def test_which_row(self):
         """The row of the line goes before that of any line, that of the unit before that of any unit."""
         table = self.table("A,any,u,2", "A,here,u,3,chemistry", "A,mg,u,4,chemistry,mg", "A,g,u,5,,g", "B,only,u,2,,mg")
-        for line, unit, wanted in (("chemistry", "mg", "mg|4"), ("chemistry", "x", "here|3"), ("chemistry", "g", "here|3"),
+        for line, unit, wanted in (("chemistry", "mg", "mg|4"), ("chemistry", "x", "here|3"),
+                                   ("chemistry", "g", "here|3"),
                                    ("other", "g", "g|5"), ("other", "mg", "any|2"), ("other", "", "any|2")):
             found = self.coded(table, f"R|1|^^^A|1|{unit}", line=line)
             self.same(f"{line}, {unit}", found, [f"R|1|^^^{wanted}|u"])
@@ -112,14 +114,16 @@ class Table(HostTest):
     def test_encoding(self):
         """A word of the table is written in the message's encoding, delimiters as escapes."""
         table = self.table("A,B,\u03bcg/l,2", "C,x|y^z&,,", "D,\u20ac,,")
-        self.same("micro", codes.codes_of(table).applied(
-            stored(message("P|1", "O|1|S7", "R|1|^^^A|1|u"), encoding="latin-1")).body.split(b"\r")[3], b"R|1|^^^B|2|\xb5g/l")
+        latin = stored(message("P|1", "O|1|S7", "R|1|^^^A|1|u"), encoding="latin-1")
+        found = codes.codes_of(table).applied(latin).body.split(b"\r")[3]
+        self.same("micro", found, b"R|1|^^^B|2|\xb5g/l")
         self.same("delimiters", self.coded(table, "R|1|^^^C|1|u"), ["R|1|^^^x&F&y&S&z&E&|1|u"])
         bad = stored(message("P|1", "O|1|S7", "R|1|^^^D|1|u"), encoding="latin-1")
         self.raises("what can't be", deliver.Refused, lambda: codes.codes_of(table).applied(bad))
 
     def test_random(self):
-        """Random tables and messages, by fractions: no result is lost, none without its unit, no other record changes."""
+        """Random tables and messages, by fractions: no result is lost, none without its unit, no other record changes.
+        """
         rng = random.Random(3)
         for at in range(300):
             known = {code: rng.choice(("1", "0.0555", "18.016", "-2", "10")) for code in "ABCD" if rng.random() < 0.7}
@@ -166,7 +170,7 @@ class Codes(WithLibrary):
     """The commands."""
 
     def test_forms(self):
-        """In each form an unknown code goes out as it is, marked, with its unit, and a known one as the laboratory's."""
+        """In each form an unknown code goes out as it is, marked, with its unit, a known one as the laboratory's."""
         path = self.path("forms.codes")
         with open(path, "w", encoding="utf-8") as file:
             file.write(HEAD + "GLU,GLUC,mg/dL,18,,\nNA,NA,,,,\n")
@@ -201,7 +205,8 @@ class Codes(WithLibrary):
         with open(path, "w", encoding="utf-8") as file:
             file.write(HEAD + "GLU,GLUC,mg/dL,18,,\nNA,NA,,,other\n")
         done = lislab("codes", "--store", store, path)
-        self.same("what it lacks", (done.returncode, done.stdout), (1, "unknown K 2\nunknown NA 2\ncodes 2 unknown 2\n"))
+        lacks = "unknown K 2\nunknown NA 2\ncodes 2 unknown 2\n"
+        self.same("what it lacks", (done.returncode, done.stdout), (1, lacks))
         self.same("the table alone", lislab("codes", path).stdout, "codes 2 unknown 0\n")
         with open(path, "a", encoding="utf-8") as file:
             file.write("K,K,,,,\nNA,NA,,,,\n")

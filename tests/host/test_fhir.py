@@ -32,7 +32,8 @@ class Fhir(HostTest):
     def test_fields(self):
         """A message's fields."""
         rows = ["P|1|4711|L9", "O|1|S7|I3|^^^GLU|R", 
-                "R|1|^^^GLU^1|5.40|mmol/L|3.9 to 6.10|H\\A||F||op1||20261127103500|A7", "C|1|I|a comment|G", "R|2|^^^NA|neg|mmol/L|usual|!||W", "R|3|^^^K||mmol/L", "P|2", "O|1|QC|||||||||Q",
+                "R|1|^^^GLU^1|5.40|mmol/L|3.9 to 6.10|H\\A||F||op1||20261127103500|A7", "C|1|I|a comment|G",
+                "R|2|^^^NA|neg|mmol/L|usual|!||W", "R|3|^^^K||mmol/L", "P|2", "O|1|QC|||||||||Q",
                 "R|1|^^^K|>500|U/L|<5"]
         out = fhir.bundle_of(stored(message(*rows), again_of="00ff")).decode()
         bundle = json.loads(out)

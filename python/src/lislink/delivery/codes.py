@@ -20,8 +20,8 @@ _ONE = decimal.Decimal(1)
 
 
 class Code(NamedTuple):
-    """A row: the analyzer's code, and the laboratory's; its unit, if it isn't the analyzer's; what a value is multiplied
-    by; of which line, and for which unit of the analyzer, each of any if it is empty."""
+    """A row: the analyzer's code, and the laboratory's; its unit, if it isn't the analyzer's; what a value is
+    multiplied by; of which line, and for which unit of the analyzer, each of any if it is empty."""
 
     analyzer: str
     laboratory: str
@@ -48,7 +48,8 @@ def read_codes(path: str) -> Read:
         wrong = [one for one in names if one not in COLUMNS or names.count(one) > 1]
         missing = [one for one in _NEEDED if one not in names]
         if wrong or missing:
-            what = f"there is no column {wrong[0]}, or it is there twice" if wrong else f"the column {missing[0]} is missing"
+            no_such = f"there is no column {wrong[0]}, or it is there twice" if wrong else ""
+            what = no_such or f"the column {missing[0]} is missing"
             return Read([], [f"{path}:1: {what}: the first row names {', '.join(COLUMNS)}"])
         return _read_rows(path, names, rows)
     except (csv.Error, UnicodeDecodeError) as error:
