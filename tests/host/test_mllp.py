@@ -10,8 +10,8 @@ import threading
 import time
 import unittest
 
-from lislink.host import deliver
-from lislink.host.store import WHOLE, Stored
+from lislink.host import deliver, export
+from lislink.host.store import UNFINISHED, WHOLE, Stored
 from lislink.delivery import mllp, oru
 from tests import kit
 from tests.host import hosts
@@ -109,6 +109,8 @@ class Oru(WithLibrary):
         self.same("a control", (str(control["OBR"][0](11)), "PID" in str(control)), ("Q", False))
         query = oru.oru_of(stored(message("Q|1|^S7||ALL")))
         self.same("a query has no results", query, b"")
+        half = stored(b"H|\\^&\rP|1\r", state=UNFINISHED)
+        self.same("one that isn't whole isn't written", [export.writer_of(one)(half) for one in ("oru", "fhir")], [b"", b""])
         again = self.read(oru.oru_of(stored(message("P|1", "O|1|S7", "R|1|^^^A|1"), again_of="00ff")))
         self.same("a repeat is marked", str(again["NTE"][0](3)), "repeat of message 00ff")
 
@@ -228,7 +230,7 @@ class Receivers(WithLibrary):
             self.same(name, self.sent(answer)[0], [wanted])
         told, _ = self.sent(lambda at, key: b"", seconds=0.3)
         self.same("silence", told, ["Refused: no answer within 0.3 seconds"])
-        told, _ = self.sent(lambda at, key: ack(b"AA", b"another"), seconds=0.3)
+        told, _ = self.sent(lambda at, key: ack(b"AA", b"another") * 5000, seconds=0.3)
         self.same("the answer to another message", told, ["Refused: no answer within 0.3 seconds"])
         told, receiver = self.sent(lambda at, key: ack(b"AA", key), ("k1", "k2", "k3"))
         self.same("one connection for all", (told, receiver.connections), (["", "", ""], 1))

@@ -72,7 +72,7 @@ class Mllp:
     def _answered(self, line: socket.socket, key: str) -> None:
         """Waits for the answer to the message with this key. One to another message is late, and not looked at."""
         until = time.monotonic() + self._seconds
-        while True:
+        while time.monotonic() < until:
             told = acknowledgement(self._block(line, until))
             if told is None:
                 self.close()
@@ -84,11 +84,15 @@ class Mllp:
                 return
             words = code if code in _REJECTED else "an answer without AA, AE or AR"
             raise Refused(f"{self._host}:{self._port}: {words}" + (f", error {error}" if error else ""))
+        raise socket.timeout
 
     def _block(self, line: socket.socket, until: float) -> bytes:
         """The next block that comes, without the bytes around it."""
         while _END not in self._left:
-            line.settimeout(max(0.001, until - time.monotonic()))
+            left = until - time.monotonic()
+            if left <= 0:
+                raise socket.timeout
+            line.settimeout(left)
             data = line.recv(1 << 16)
             if not data:
                 raise _Closed("the connection was closed without an answer")

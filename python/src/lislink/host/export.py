@@ -88,13 +88,13 @@ def _plain_writer(form: str, more: List[table.Column]) -> Writer:
 
 
 def _message_writer(form: str) -> Writer:
-    """What writes each message by itself in a form of HL7. A message without results gives nothing."""
+    """What writes each message by itself in a form of HL7. One that isn't whole, or has no results, gives nothing."""
     from ..delivery import fhir, oru
 
     if form == "oru":
         oru.library()
     write = oru.oru_of if form == "oru" else fhir.bundle_of
-    return lambda one: b"" if one is None else write(one)
+    return lambda one: b"" if one is None or one.state != WHOLE else write(one)
 
 
 def _as_data(one: Stored) -> "dict[str, object]":
