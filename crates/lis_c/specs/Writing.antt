@@ -123,8 +123,8 @@ refused_with None None fault = fault
 abbrev pub put_fault : DelimiterBytes → Option Position → Option RecordBuilder → Option PutFault
 put_fault d position None = Some (record { status = NO_RECORD; field = 0 })
 put_fault d position (Some record_builder) =
-    refused_with record_builder.repeats record_builder.parts (refused_at (misplaced (level_at position) record_builder.entry.kind)
-    (check_fault d record_builder.entry))
+    refused_with record_builder.repeats record_builder.parts
+    (refused_at (misplaced (level_at position) record_builder.entry.kind) (check_fault d record_builder.entry))
 
 -- a record that can be put after so many texts: they are as many as a session has, or it was, or memory ran out
 abbrev pub PutStatus : Option PutFault → ℕ → ℕ → ℕ → Type 0
