@@ -31,7 +31,8 @@ class Part(NamedTuple):
     soak: int
 
 
-#: Kills of a host on each store, seconds of a store that fails, seconds of 200 analyzers, messages, random streams.
+#: Kills of a host on each store, seconds of a store that fails, seconds of 200 analyzers, messages, kills under orders,
+#: reloads of a file of lines, messages over MLLP, random streams.
 PARTS = {
     "kills": Part("test_kills.Kills.test_sqlite", 20, 1000),
     "spool": Part("test_kills.Kills.test_spool", 5, 250),
@@ -41,6 +42,7 @@ PARTS = {
     "messages": Part("test_load.Load.test_memory", 3000, 1000000),
     "orders": Part("test_orders.Fire.test_kills", 10, 1000),
     "orders_postgres": Part("test_orders_postgres.PostgresBooks.test_two_hosts_are_killed", 4, 200),
+    "reloads": Part("test_lines_file.LinesFile.test_reloads", 20, 100),
     "mllp": Part("test_mllp.Receivers.test_kills", 200, 1000),
     "streams": Part("test_intake.Streams.test_random_streams", 2000, 20000),
 }

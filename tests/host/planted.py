@@ -329,7 +329,7 @@ FAULTS = {
         "orders/folder.py", "WHERE file = ?\", (file,)).fetchone():", "WHERE file = ?\", (path,)).fetchone():"
     ),
     "test_orders.Answers.test_spool": Edit(
-        "orders/folder.py", "return [self._take_file(name) for name in names]", "return [name for name in names if not name]"
+        "orders/folder.py", "[self._take_file(name) for name in names]", "[name for name in names if not name]"
     ),
     "test_orders.SqliteBooks.test_two_connections_of_one_process": Edit(
         "host/sqlite.py",

@@ -13,6 +13,7 @@ import unittest.mock
 from lislink import frame_bytes
 from lislink.host import lines, options, serve
 from lislink.link import LONG_FRAME_TEXT
+from tests.host import hosts
 from tests.host.hosts import (
     ENV,
     Found,
@@ -187,15 +188,16 @@ class LinesFile(HostTest):
             self.same(f"{given}: 10.0.5.7 is let in", host.add.call_count == 1, wanted)
 
     def test_reloads(self):
-        """Read again 20 times while five analyzers send: no acknowledged message is lost, no session is cut, and no
+        """Read again and again while analyzers send: no acknowledged message is lost, no session is cut, and no
         connection of the line that stays is closed."""
-        stays = "listen = 127.0.0.1:0"
+        stays, turns = "listen = 127.0.0.1:0", hosts.size("reloads")
+        staying, changing = 3 * turns // 20, turns // 10
         host, file = self.begun("load", sections(stays=stays, changes=stays))
         log = self.path("load.log")
         words = ["--made", "1000000", "--rate", "8", "--tries", "0", "--log", log]
         senders = [
-            sending(self.port(host, name), *words, "--analyzers", count, "--name", name, scale=SLOW)
-            for name, count in (("stays", "3"), ("changes", "2"))
+            sending(self.port(host, name), *words, "--analyzers", str(count), "--name", name, scale=SLOW)
+            for name, count in (("stays", staying), ("changes", changing))
         ]
 
         def done(name):
@@ -203,7 +205,7 @@ class LinesFile(HostTest):
             return sum(one[0].startswith(name) for one in acknowledged(log))
 
         self.true("they send", wait_for(lambda: done("stays") and done("changes"), 20))
-        for turn in range(20):
+        for turn in range(turns):
             before, encoding = done("changes"), ("gbk", "latin-1")[turn % 2]
             self.reload(host, file, sections(stays=stays, changes=f"{stays}\nencoding = {encoding}"))
             if turn % 2:
@@ -217,8 +219,11 @@ class LinesFile(HostTest):
         self.same("the host's status", host.stop(), 0)
         self.same("acknowledged messages that are lost", Found(host.store).lost(log), [])
         states = self.states(host)
-        self.same("connections of the line that stays", states["stays"]["connections"], 3)
-        self.true("those of the other one were closed", states["changes"]["connections"] > 4, repr(states["changes"]))
+        self.same("connections of the line that stays", states["stays"]["connections"], staying)
+        self.true("those of the other one were closed", states["changes"]["connections"] > 2 * changing,
+                  repr(states["changes"]))
+        kept = len(acknowledged(log))
+        hosts.say(f"lines: {turns} reloads under {staying + changing} analyzers, {kept} messages acknowledged")
 
     def test_changes(self):
         """A session that goes on ends as it began; then the new settings are in force. Lines come and go."""

@@ -195,7 +195,8 @@ class SqliteBooks(Books, HostTest):
         self.addCleanup(store.close)
         book = open_book(where, "one")
         self.addCleanup(book.close)
-        code = "import sqlite3, sys; print(sqlite3.connect(sys.argv[1]).execute('SELECT count(*) FROM orders').fetchone()[0])"
+        rows = "sqlite3.connect(sys.argv[1]).execute('SELECT count(*) FROM orders')"
+        code = f"import sqlite3, sys; print({rows}.fetchone()[0])"
 
         def seen():
             words = [hosts.sys.executable, "-c", code, where]
@@ -242,7 +243,8 @@ class SpoolBooks(Books, HostTest):
                 one.take_in()
         self.same("told", one.take_in(), [
             "orders of a.orders: 1", "orders of b.orders: 2",
-            "orders of c.orders: none is taken, line 3: it has no test", "orders of d.orders: none is taken, it has no order",
+            "orders of c.orders: none is taken, line 3: it has no test",
+            "orders of d.orders: none is taken, it has no order",
         ])
         self.same("taken once", [placed.order.sample for placed in one.listed()], ["S1", "S2", "S3"])
         folder = os.path.join(where[len("spool:") :], "orders")
