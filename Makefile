@@ -1,7 +1,7 @@
 # make          proves and builds the program into build/lislink
 # make demo     shows a sample within a minute, by a build without proofs
 # make test     the gate: proves everything, tries the mutants of must-fail/, runs all tests
-# make check CRATE=lis_frame   proves one crate with its tests, and tries its mutants of must-fail/
+# make check CRATE=lis_frame   proves one crate, tries its mutants of must-fail/, and runs the tests that use it
 # make library  proves and builds the library for C and Python into build/
 # make install  puts what was built under $(PREFIX): program, library, headers, Python package, manual pages
 # make uninstall  removes these again
@@ -52,6 +52,7 @@ check:
 	@tools/needed rt room
 	cd crates/$(CRATE) && rt check --test
 	rt must-fail $(CRATE)
+	for it in $$(tools/tests-of $(CRATE)); do (cd crates/$$it && rt try --test) || exit 1; done
 
 test:
 	@tools/needed python rt gcc room
