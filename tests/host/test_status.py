@@ -53,19 +53,31 @@ class Status(HostTest):
         """It is said once, and again after it could be written."""
         folder, away = self.path("folder"), self.path("away")
         asked = serve.Asked([], [], [], options.Limits(), None, os.path.join(folder, "state"))
+        tried = []
+
+        def write(path, state):
+            """Writes the state, and notes how it went."""
+            tried.append(write_state(path, state))
+            return tried[-1]
+
+        async def in_vain(is_it, times):
+            """Done when the last so many tries were in vain, or weren't."""
+            over = time.monotonic() + 60
+            while [bool(one) for one in tried[-times:]] != [is_it] * times and time.monotonic() < over:
+                await asyncio.sleep(0.01)
 
         async def serve_it():
             os.mkdir(away)
             host = serve.Host(asked, open_store(self.path("state.db")))
             await host.start()
-            for names in ((away, folder), (folder, away), (away, folder)):
-                await asyncio.sleep(0.1)
+            for is_it, *names in ((True, away, folder), (False, folder, away), (True, away, folder)):
+                await in_vain(is_it, 4)
                 os.rename(*names)
             await host.stop()
 
-        with unittest.mock.patch.object(serve, "STATUS", 0.02), unittest.mock.patch.object(
-            serve, "say"
-        ) as say, unittest.mock.patch.object(serve, "announce", create=True):
+        write_state = serve.write_state
+        named = {"STATUS": 0.02, "write_state": write, "announce": unittest.mock.Mock()}
+        with unittest.mock.patch.multiple(serve, **named), unittest.mock.patch.object(serve, "say") as say:
             asyncio.run(serve_it())
         said = [call.args[0].partition(":")[0] for call in say.call_args_list]
         self.same("what is said", said, ["the state can't be written"] * 2)
