@@ -309,6 +309,9 @@ class Lines(HostTest):
             serve.TcpWire(host, serve.Port(options.listen_of("0"))).connection_made(transport)
             found = transport.abort.call_count, host.add.call_count, host.refused
             self.same(f"{peer}: broken off, a line, refused", found, wanted)
+            said = [call.args[1] for call in host.notices.say.call_args_list]
+            refused = ["192.0.3.1: a connection is refused: the address isn't allowed"]
+            self.same(f"{peer}: what is said", said, refused[: wanted[2]])
 
     def test_quarantine(self):
         """What can't be read is kept with its reason, and hides nothing that follows."""

@@ -80,7 +80,7 @@ class Port:
         networks, is_over = [*host.asked.networks, *place.allow], host.stopping or self.is_closed
         is_known = is_allowed(peer, networks)
         if not is_known:
-            host.notices.say(place.name, f"{peer}: a connection is refused: no network has it", CONNECTION)
+            host.notices.say(place.name, f"{peer}: a connection is refused: the address isn't allowed", CONNECTION)
         if is_over or not is_known or not host.has_room(place, peer):
             host.refused += 1
             return False
