@@ -50,6 +50,8 @@ class Fhir(HostTest):
         self.same("flags", [it["coding"][0]["code"] for it in one["interpretation"]], ["H", "A"])
         self.true("the time has a zone", one["effectiveDateTime"].startswith("2026-11-27T10:35:00") and
                   len(one["effectiveDateTime"]) == 25, one["effectiveDateTime"])
+        taken = fhir.bundle_of(stored(message("P|1", "O|1|S7|||||20261127093000", "R|1|^^^A|1|||||||||20261127103500")))
+        self.has("that of the sample goes before", taken.decode(), '"effectiveDateTime":"2026-11-27T09:30:00')
         self.same("notes", [it["text"] for it in one["note"]], ["a comment", "repeat of message 00ff"])
         self.same("a text has its unit", (two["valueString"], two["interpretation"], two["referenceRange"]),
                   ("neg mmol/L", [{"text": "!"}], [{"text": "usual"}]))

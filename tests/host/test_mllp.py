@@ -72,7 +72,8 @@ class Oru(WithLibrary):
             "PID.F5.R1.C1": "Doe", "PID.F5.R1.C2": "Jane", "PID.F5.R1.C7": "L", "PID.F7": "19800131", "PID.F8": "F",
             "NTE1.F3": "of the patient", "OBR.F2": "S7", "OBR.F3": "I3", "OBR.F4": "GLU", "OBR.F25": "F",
             "OBX.F2": "NM", "OBX.F3.R1.C1": "GLU", "OBX.F5": "5.40", "OBX.F6": "mmol/L", "OBX.F7": "3.9-6.1",
-            "OBX.F8": "H", "OBX.F11": "F", "OBX.F14": "20261127103500", "OBX.F16": "op1", "OBX.F18": "A7",
+            "OBX.F8": "H", "OBX.F11": "F", "OBX.F14": "20261127103000", "OBX.F16": "op1", "OBX.F18": "A7",
+            "OBX.F19": "20261127103500", "OBR.F7": "20261127103000",
             "NTE2.F2": "O", "NTE2.F3": "a ^ b~c | \u03bc", "SPM.F4": "serum",
         }
         self.same("as they are read", dict(zip(wanted, self.cells(out, *wanted))), wanted)

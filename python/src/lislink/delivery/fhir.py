@@ -82,7 +82,7 @@ def _observation(one: Stored, name: str, case: Case, order: Ordered, result: Res
         "category": [{"coding": [{"system": f"{_TERMS}observation-category", "code": "laboratory"}]}],
         "code": _code(result),
         "subject": _subject(case),
-        "effectiveDateTime": iso_of(result.at),
+        "effectiveDateTime": iso_of(order.record.text(8)) or iso_of(result.at),
         "issued": _instant(one),
         "performer": [{"identifier": {"value": result.operator}}] if result.operator.strip() else None,
         **_value(result),

@@ -132,14 +132,14 @@ def _components(entry: Entry, field: int) -> List[str]:
 def _order(out: _Builder, number: int, order: Ordered, more: List[Comment]) -> None:
     """OBR, its comments, and its results; SPM if the specimen is described."""
     record = order.record
-    taken = time_of(record.text(8)) or next((one.at for one in order.results if one.at), "")
+    taken = time_of(record.text(8))
     out.add(
         "OBR",
         {
             1: str(number),
             2: order.sample,
             3: order.instrument_sample,
-            4: [order.tests[0]] if len(order.tests) == 1 else ["", " ".join(order.tests) or "results"],
+            4: [order.tests[0], "", "L"] if len(order.tests) == 1 else ["", " ".join(order.tests) or "results"],
             7: taken,
             8: time_of(record.text(9)),
             11: "Q" if order.control else "",
@@ -153,11 +153,10 @@ def _order(out: _Builder, number: int, order: Ordered, more: List[Comment]) -> N
     codes = [one.code for one in order.results]
     for place, result in enumerate(order.results, 1):
         same = codes[: place - 1].count(result.code) + 1 if codes.count(result.code) > 1 else 0
-        _result(out, place, same, result)
+        _result(out, place, same, result, taken)
     if record.text(16):
         identity = [order.sample, order.instrument_sample]
         role = "Q" if order.control else ""
-        taken = time_of(record.text(8))
         out.add("SPM", {1: "1", 2: identity, 4: record.text(16), 11: role, 17: taken, 18: time_of(record.text(15))})
 
 
@@ -169,7 +168,7 @@ def _report(order: Ordered) -> str:
     return named or usual
 
 
-def _result(out: _Builder, place: int, same: int, result: Result) -> None:
+def _result(out: _Builder, place: int, same: int, result: Result, taken: str) -> None:
     kind, value = _value(result.value)
     usual = range_of(result.range)
     out.add(
@@ -185,7 +184,7 @@ def _result(out: _Builder, place: int, same: int, result: Result) -> None:
             8: [[one] for one in result.flags],
             10: result.nature,
             11: _STATUS.get(result.status, "P"),
-            14: result.at,
+            14: taken,
             16: result.operator,
             18: result.instrument,
             19: result.at,
