@@ -611,6 +611,26 @@ FAULTS = {
         "watch/commands.py", "return WRONG if client.is_bad(data) else GOOD", "return GOOD"
     ),
     "test_watch.Watch.test_socket": Edit("watch/unix.py", "os.umask(0o177)", "os.umask(0o022)"),
+    "test_watch_page.Alerts.test_alerts": Edit(
+        "watch/metrics.py", '"lislab_texts_not_kept_total"', '"lislab_not_kept_total"'
+    ),
+    "test_watch_page.Looks.test_a_reader_of_metrics": Edit("watch/metrics.py", ".replace('\"', '\\\\\"')", ""),
+    "test_watch_page.Looks.test_browser": Edit("watch/page.py", "html.escape(shown, quote=True)", "shown"),
+    "test_watch_page.Looks.test_command": Edit(
+        "watch/commands.py", "                notifier.see(pages.data())\n", "                pages.data()\n"
+    ),
+    "test_watch_page.Looks.test_hostile": Edit("watch/page.py", 'f"<{ord(one):02X}>" if _is_odd(one) else one', "one"),
+    "test_watch_page.Looks.test_metrics": Edit(
+        "watch/metrics.py", "            total += count\n", "            total = count\n"
+    ),
+    "test_watch_page.Looks.test_notify": Edit(
+        "watch/notify.py", "if is_bad and self._bad.get(name) is None:", "if is_bad:"
+    ),
+    "test_watch_page.Looks.test_tally": Edit("watch/tally.py", "self._number = found[-1].number", "self._number = found[0].number"),
+    "test_watch_page.Looks.test_who_may_look": Edit(
+        "watch/web.py", "hmac.compare_digest(found, token)", "bool(found)"
+    ),
+    "test_watch_page.Looks.test_words": Edit("watch/commands.py", "not (ask.allow and token)", "not (ask.allow or token)"),
 }
 #: Changes that mean nothing.
 HARMLESS = (

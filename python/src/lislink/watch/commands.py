@@ -1,21 +1,29 @@
 """`lislab watch`: what goes on on a host's lines, at a glance."""
 import argparse
+import os
+import shlex
 import sys
+import threading
 import time
-from typing import Any, Iterator, List
+from typing import Any, Iterator, List, Optional
 
 from ..capture import Capture, write_lines
 from ..field.log import time_text
 from ..host.commands import state_file
 from ..host.files import write_whole
-from ..host.options import OptionError
-from ..host.said import say
+from ..host.options import OptionError, is_loopback, networks_of, split_address
+from ..host.said import announce, say
+from ..host.store import StoreError
 from . import client
 from .client import Host
+from .notify import Notifier
 from .unix import WatchError, socket_of
+from .web import Asked, Pages, Server, token_of
 
 #: Exit statuses, as those of the other commands.
 GOOD, WRONG = 0, 1
+#: The fewest characters of a token.
+SHORTEST = 16
 #: What a terminal does before a picture is painted anew, and with a bad line, a quiet one, and after each.
 CLEAR, COLOURS, PLAIN = "\x1b[H\x1b[J", {"bad": "\x1b[1;31m", "quiet": "\x1b[2m", "good": "\x1b[32m"}, "\x1b[0m"
 
@@ -29,6 +37,13 @@ def add_command(commands: Any) -> None:
     one.add_argument("--every", type=float, default=2.0, metavar="SECONDS", help="how often it looks (%(default)s)")
     one.add_argument("--line", metavar="NAME", help="the ladder of a line as it goes")
     one.add_argument("--save", metavar="FILE", help="with --line: write its last bytes as a capture, and end")
+    one.add_argument("--notify", metavar="COMMAND", help="run once when a line turns bad, once when it is good again")
+    one.add_argument("--http", metavar="HOST:PORT", help="serve pages for a browser, and /metrics")
+    one.add_argument(
+        "--allow", action="append", default=[], metavar="NETWORK", help="with --http: who may look besides this machine"
+    )
+    one.add_argument("--token", metavar="FILE", help="with --http: what a browser must give as its password")
+    one.add_argument("--cursor", action="append", default=[], metavar="FILE", help="with --http: of a delivery")
     one.set_defaults(run=run_watch)
 
 
@@ -38,6 +53,10 @@ def run_watch(ask: argparse.Namespace) -> int:
         raise OptionError("--save writes the last bytes of a line: name it by --line")
     host = Host(ask.store, socket_of(state_file(ask.store, ask.status)))
     every = max(0.1, ask.every)
+    if ask.notify and (ask.once or ask.line):
+        raise OptionError("--notify watches all lines, and goes on")
+    if ask.http:
+        return _serve(host, ask, every)
     if ask.save:
         return _save(host, ask.line, ask.save)
     if ask.line:
@@ -46,7 +65,7 @@ def run_watch(ask: argparse.Namespace) -> int:
         data = host.look()
         _print(client.rows_of(data))
         return WRONG if client.is_bad(data) else GOOD
-    return _stay(host, every)
+    return _stay(host, every, _notifier(ask))
 
 
 def _print(rows: List[str]) -> None:
@@ -54,11 +73,22 @@ def _print(rows: List[str]) -> None:
     sys.stdout.flush()
 
 
-def _stay(host: Host, every: float) -> int:
+def _notifier(ask: argparse.Namespace) -> Optional[Notifier]:
+    words = shlex.split(ask.notify or "")
+    if not words:
+        return None
+    one = Notifier(words, say)
+    one.start()
+    return one
+
+
+def _stay(host: Host, every: float, notifier: Optional[Notifier]) -> int:
     """Paints the rows anew as long as it runs. What is no terminal gets a row when its line changes."""
     before: List[str] = []
     while True:
         data = host.look()
+        if notifier is not None:
+            notifier.see(data)
         rows = client.rows_of(data)
         if sys.stdout.isatty():
             states = [""] * (len(rows) - len(data["lines"])) + [one["state"] for one in data["lines"].values()]
@@ -68,6 +98,46 @@ def _stay(host: Host, every: float) -> int:
         else:
             _print([f"{time.strftime('%H:%M:%S')}  {row}" for row in rows if row not in before])
         before = rows
+        time.sleep(every)
+
+
+# ---- pages
+
+
+def _asked(ask: argparse.Namespace) -> Asked:
+    """Where the pages are, and who may see them."""
+    address, port = split_address(ask.http)
+    token = token_of(ask.token)
+    if ask.token and len(token) < SHORTEST:
+        raise OptionError(f"{ask.token}: a token has at least {SHORTEST} characters")
+    if ask.token and os.stat(ask.token).st_mode & 0o077:
+        raise OptionError(f"{ask.token}: a token is its owner's alone: chmod 600")
+    if not is_loopback(address) and not (ask.allow and token):
+        raise OptionError(f"{ask.http} isn't loopback: say by --allow who may look, and by --token FILE with what")
+    return Asked(address, port, networks_of(ask.allow), token, ask.cursor)
+
+
+def _serve(host: Host, ask: argparse.Namespace, every: float) -> int:
+    """Serves pages, and looks whether a line turns bad, as long as it runs."""
+    asked = _asked(ask)
+    host.look()  # a store that isn't there is said at once
+    pages = Pages(host, asked.cursors)
+    pages.tally.start()
+    server, notifier = Server(asked, pages), _notifier(ask)
+    address, port = server.server_address[:2]
+    threading.Thread(target=server.serve_forever, name="pages", daemon=True).start()
+    shown = f"[{address!s}]" if ":" in str(address) else str(address)
+    announce(f"listening http://{shown}:{port}/")
+    said = ""
+    while True:
+        try:
+            if notifier is not None:
+                notifier.see(pages.data())
+            said = ""
+        except StoreError as error:
+            if said != str(error):
+                said = str(error)
+                say(said)
         time.sleep(every)
 
 

@@ -27,6 +27,8 @@ LOOKED_AT, OPEN_FRAME = 4096, 70_000
 BUCKETS = (0.005, 0.01, 0.025, 0.05, 0.1, 0.25, 0.5, 1.0, 2.5, 5.0, 10.0)
 #: How a disk is full, in the words of SQLite, PostgreSQL and the system.
 _FULL = re.compile("disk is full|no space left|file too large|quota exceeded", re.I)
+#: What to do if frames are too long for a line.
+_LONG = "give the line frame=63993, if the analyzer sends longer frames than the standard has"
 _SIGNALS = bytes([4, 5, 6, 0x15])
 _FRAMES = {
     Note.OUT_OF_TURN: Verdict.OUT_OF_TURN,
@@ -45,6 +47,8 @@ class Trouble:
         #: Why, how often each; why it was the last time.
         self.why: "Counter[str]" = Counter()
         self.last = ""
+        #: What to do, if that isn't what its verdict says.
+        self.advice = ""
 
 
 class Says(NamedTuple):
@@ -134,7 +138,8 @@ class Pulse:
         one = self.troubles.get("frames")
         if one is None or (one.count < IN_A_ROW and "hopeless" not in self.troubles):
             return None
-        return says(one.verdict, one.since, one.count, why="; ".join(why for why, _ in one.why.most_common(2)))
+        found = says(one.verdict, one.since, one.count, why="; ".join(why for why, _ in one.why.most_common(2)))
+        return found._replace(advice=one.advice or found.advice)
 
     def _strange(self) -> Optional[Says]:
         """Bytes that came without a session, on a connection that has no other since."""
@@ -264,7 +269,8 @@ class Probe:
             verdict = cause.verdict
             why = f"the checksum is wrong: {cause.way}" if cause.way else verdict.live
         self._pulse.rejected[verdict.key] += 1
-        self._pulse.wrong("frames", Verdict.NONE_ACCEPTED, why)
+        one = self._pulse.wrong("frames", Verdict.NONE_ACCEPTED, why)
+        one.advice = _LONG if verdict is Verdict.LONG else verdict.advice
 
     def _session(self, note: Note) -> None:
         """A session begins, or is over."""

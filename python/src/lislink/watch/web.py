@@ -1,0 +1,244 @@
+"""The server of `lislab watch --http`: read only, on loopback unless somebody else is named who may look and a token is
+set. The standard library's server is enough: a thread a request, and few who look."""
+import base64
+import hmac
+import ipaddress
+import socket
+import threading
+import time
+from http.server import BaseHTTPRequestHandler, ThreadingHTTPServer
+from typing import Any, Callable, Dict, List, NamedTuple, Optional, Sequence, Tuple
+from urllib.parse import parse_qs, urlsplit
+
+from ..field.ladder import Ladder
+from ..host.options import Network, is_allowed, is_loopback
+from ..host.store import StoreError
+from . import metrics, page, tally
+from .client import Host
+from .ring import capture_of
+from .unix import WatchError
+
+#: How long a request may take to come, in seconds; how many are served at once; how old what is shown may be; how many
+#: bytes of a line are drawn.
+SECONDS, AT_ONCE, FRESH, DRAWN = 10.0, 16, 1.0, 16 << 10
+HEADS = (
+    ("Content-Security-Policy", "default-src 'none'; style-src 'self'; script-src 'self'; connect-src 'self'; "
+     "img-src data:; base-uri 'none'; form-action 'none'; frame-ancestors 'none'"),
+    ("X-Content-Type-Options", "nosniff"),
+    ("Referrer-Policy", "no-referrer"),
+    ("Cross-Origin-Resource-Policy", "same-origin"),
+    ("Cache-Control", "no-store"),
+)
+HTML, CSS, JS = "text/html; charset=utf-8", "text/css; charset=utf-8", "text/javascript; charset=utf-8"
+
+
+class Asked(NamedTuple):
+    """Where the pages are, who may see them, and with which token."""
+
+    host: str
+    port: int
+    networks: Sequence[Network]
+    token: str
+    cursors: Sequence[str]
+
+
+class Answer(NamedTuple):
+    """What is answered to a request."""
+
+    status: int
+    form: str
+    text: str
+
+
+class Pages:
+    """Makes the pages of a host. What it says is asked for once a second at most, however many look."""
+
+    def __init__(self, host: Host, cursors: Sequence[str]) -> None:
+        self.host, self.tally, self._cursors = host, tally.Tally(host.store), cursors
+        self._lock = threading.Lock()
+        self._data: Dict[str, Any] = {}
+        self._at = -FRESH
+        self._drawn: Dict[str, Tuple[int, str]] = {}
+
+    def data(self) -> Dict[str, Any]:
+        """How the lines do."""
+        with self._lock:
+            if time.monotonic() - self._at >= FRESH:
+                self._data, self._at = self.host.look(), time.monotonic()
+            return self._data
+
+    def answer(self, path: str, given: Dict[str, str]) -> Answer:
+        """The page at a path."""
+        one = self._PATHS.get(path)
+        if one is None:
+            return Answer(404, HTML, page.page("There is no such page", ""))
+        try:
+            return one(self, given)
+        except (StoreError, WatchError) as error:
+            return Answer(503, HTML, page.page("It can't be read", f'<p class="alarm">{page.safe(error)}</p>'))
+
+    def _lines(self, _: Dict[str, str]) -> Answer:
+        return Answer(200, HTML, page.lines_page(self.data(), self.tally))
+
+    def _line(self, given: Dict[str, str]) -> Answer:
+        name = given.get("name", "")
+        one = self.data()["lines"].get(name)
+        if one is None:
+            return Answer(404, HTML, page.page("There is no such line", ""))
+
+        def work(store: Any) -> Tuple[List[tally.Head], List[tally.Head]]:
+            return tally.last_heads(store, name, 20), tally.not_whole(store, name, 20)
+
+        heads, trouble = tally.each(self.host.store, work)
+        more = page.LineData(heads, trouble, self._ladder(name))
+        return Answer(200, HTML, page.line_page(name, one, self.tally, more))
+
+    def _ladder(self, name: str) -> str:
+        """The rows of a line's last bytes; drawn anew if there are others."""
+        try:
+            head, pieces = self.host.ring(name)
+        except WatchError as error:
+            return f"<p>{page.safe(error)}</p>"
+        before = self._drawn.get(name)
+        if before is not None and before[0] == head["next"]:
+            return before[1]
+        size, first = 0, len(pieces)
+        while first and size < DRAWN:
+            first -= 1
+            size += len(pieces[first].data) + 17
+        capture = capture_of(pieces[first:], first > 0 or head["first"] > 0)
+        made = page.ladder_table(Ladder(capture, frame_limit=int(head["frame"])).rows)
+        self._drawn = {**self._drawn, name: (int(head["next"]), made)}
+        return made
+
+    def _trouble(self, _: Dict[str, str]) -> Answer:
+        found = tally.each(self.host.store, lambda store: tally.not_whole(store, None))
+        return Answer(200, HTML, page.trouble_page(found))
+
+    def _message(self, given: Dict[str, str]) -> Answer:
+        found = tally.each(self.host.store, lambda store: tally.message(store, given.get("key", "")))
+        if found is None:
+            return Answer(404, HTML, page.page("There is no such message", ""))
+        return Answer(200, HTML, page.message_page(found))
+
+    def _metrics(self, _: Dict[str, str]) -> Answer:
+        def work(store: Any) -> Dict[str, int]:
+            return {cursor: tally.undelivered(store, cursor) for cursor in self._cursors}
+
+        left = tally.each(self.host.store, work) if self._cursors else {}
+        return Answer(200, metrics.FORM, metrics.metrics_of(self.data(), left))
+
+    def _style(self, _: Dict[str, str]) -> Answer:
+        return Answer(200, CSS, page.STYLE)
+
+    def _script(self, _: Dict[str, str]) -> Answer:
+        return Answer(200, JS, page.SCRIPT)
+
+    _PATHS: "Dict[str, Callable[[Pages, Dict[str, str]], Answer]]" = {
+        "/": _lines,
+        "/line": _line,
+        "/trouble": _trouble,
+        "/message": _message,
+        "/metrics": _metrics,
+        "/style.css": _style,
+        "/live.js": _script,
+    }
+
+
+class Server(ThreadingHTTPServer):
+    """The server: so many requests at once, and no more."""
+
+    daemon_threads = True
+
+    def __init__(self, asked: Asked, pages: Pages) -> None:
+        self.asked, self.pages = asked, pages
+        self._room = threading.BoundedSemaphore(AT_ONCE)
+        self.address_family = socket.AF_INET6 if ":" in asked.host else socket.AF_INET
+        super().__init__((asked.host, asked.port), Handler)
+
+    def verify_request(self, request: Any, client_address: Any) -> bool:
+        """Whether an address may look, and there is room."""
+        return is_allowed(str(client_address[0]), self.asked.networks) and self._room.acquire(blocking=False)
+
+    def process_request_thread(self, request: Any, client_address: Any) -> None:
+        try:
+            super().process_request_thread(request, client_address)
+        finally:
+            self._room.release()
+
+    def handle_error(self, request: Any, client_address: Any) -> None:
+        """Who goes away before the answer is none to speak of."""
+
+
+class Handler(BaseHTTPRequestHandler):
+    """A request."""
+
+    server: Server
+    timeout = SECONDS
+    server_version, sys_version = "lislab", ""
+
+    def do_GET(self) -> None:
+        """Answers with a page."""
+        self._reply(self._answer())
+
+    def do_HEAD(self) -> None:
+        """Answers with its head."""
+        self._reply(self._answer())
+
+    def _answer(self) -> Answer:
+        if not self._is_named():
+            return Answer(421, HTML, page.page("This server has another name", ""))
+        if not self._has_token():
+            return Answer(401, HTML, page.page("A token is wanted", "<p>Any name, and the token as its password.</p>"))
+        try:
+            address = urlsplit(self.path)
+            given = {key: values[-1] for key, values in parse_qs(address.query, max_num_fields=8).items()}
+        except ValueError:
+            return Answer(400, HTML, page.page("This is no address", ""))
+        return self.server.pages.answer(address.path, given)
+
+    def _is_named(self) -> bool:
+        """Whether the request is for an address of this server, and not for a name that somebody else has given it."""
+        name = self.headers.get("Host", "").rpartition(":")[0] or self.headers.get("Host", "")
+        name = name.strip("[]")
+        if name == "localhost" or name == self.server.asked.host:
+            return True
+        try:
+            one = ipaddress.ip_address(name)
+        except ValueError:
+            return False
+        return one.is_loopback or not is_loopback(self.server.asked.host)
+
+    def _has_token(self) -> bool:
+        """Whether the token is there that is wanted, if one is: as a bearer's, or as the password of any user."""
+        token = self.server.asked.token.encode()
+        kind, _, word = self.headers.get("Authorization", "").partition(" ")
+        found = word.strip().encode()
+        if kind.lower() == "basic":
+            try:
+                found = base64.b64decode(found, validate=True).partition(b":")[2]
+            except ValueError:
+                return not token
+        return not token or hmac.compare_digest(found, token)
+
+    def _reply(self, answer: Answer) -> None:
+        data = answer.text.encode("utf-8", "replace")
+        self.send_response(answer.status)
+        for name, text in (("Content-Type", answer.form), ("Content-Length", str(len(data))), *HEADS):
+            self.send_header(name, text)
+        if answer.status == 401:
+            self.send_header("WWW-Authenticate", 'Basic realm="lislab", charset="UTF-8"')
+        self.end_headers()
+        if self.command != "HEAD":
+            self.wfile.write(data)
+
+    def log_message(self, format: str, *args: Any) -> None:
+        """No log: a path may name a message."""
+
+
+def token_of(path: Optional[str]) -> str:
+    """The token in a file; none without one."""
+    if path is None:
+        return ""
+    with open(path, encoding="utf-8") as file:
+        return file.read().strip()
