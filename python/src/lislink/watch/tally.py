@@ -90,7 +90,9 @@ class Tally:
 
     def __init__(self, where: str) -> None:
         self._where, self._lock = where, threading.Lock()
+        #: Messages by their hour, of each line and of all.
         self._hours: "Dict[str, Counter[int]]" = {}
+        self._all: "Counter[int]" = Counter()
         self._took: Dict[str, Deque[float]] = {}
         self._number, self._stop = -1, threading.Event()
         #: Why the store can't be read, if it can't.
@@ -132,21 +134,23 @@ class Tally:
         with self._lock:
             for one in found:
                 ended = one.began if one.ended is None else one.ended
-                self._hours.setdefault(one.line, Counter())[int(ended // HOUR)] += 1
+                hour = int(ended // HOUR)
+                self._hours.setdefault(one.line, Counter())[hour] += 1
+                self._all[hour] += 1
                 self._took.setdefault(one.line, deque(maxlen=TIMED)).append(max(0.0, ended - one.began))
         self._number = found[-1].number or self._number
 
     def _forget(self, before: float) -> None:
         with self._lock:
-            for hours in self._hours.values():
+            for hours in [self._all, *self._hours.values()]:
                 for hour in [one for one in hours if one < before // HOUR]:
                     del hours[hour]
 
     def hours(self, line: Optional[str] = None) -> List[Tuple[float, int]]:
         """The hours of a line, or of all, with how many messages were kept in them."""
         with self._lock:
-            lines = [self._hours.get(line, Counter())] if line is not None else list(self._hours.values())
-            return [(hour * HOUR, count) for hours in lines for hour, count in hours.items()]
+            hours = self._all if line is None else self._hours.get(line, Counter())
+            return [(hour * HOUR, count) for hour, count in hours.items()]
 
     def took(self, line: str) -> List[float]:
         """How long the last messages of a line took from their first byte to the last, in order of length."""
