@@ -38,6 +38,11 @@ function look(frame) {
   page.getElementById('open').click(); told.open = page.querySelectorAll('main details:not([open])').length;
   page.getElementById('close').click(); told.closed = page.querySelectorAll('main details[open]').length;
   told.wide = page.documentElement.scrollWidth <= page.documentElement.clientWidth + 1;
+  frame.width = 420;
+  told.narrow = page.documentElement.scrollWidth <= page.documentElement.clientWidth + 1;
+  page.querySelectorAll('th').forEach(function (one) {
+    told.narrow = told.narrow && one.scrollWidth <= one.clientWidth + 1 && one.clientHeight < 40;
+  });
   return told;
 }
 window.addEventListener('load', function () {
@@ -121,6 +126,7 @@ def compare(test, name, ladder, seen):
     )
     test.same(f"{name}: folding", (seen["open"], seen["closed"]), (0, 0))
     test.check(seen["wide"], f"{name}: it fits the window")
+    test.check(seen["narrow"], f"{name}: it fits a telephone, each heading in a line")
 
 
 def alone(test, told):
@@ -151,7 +157,7 @@ class Browser(FieldTest):
     def test_pages(self):
         os.chdir(ROOT)
         told = pages(self)
-        self.needs("chromium", browser(), 8 * len(told) + 3 + 2 * bool(PICTURES), "the pages in a browser")
+        self.needs("chromium", browser(), 9 * len(told) + 3 + 2 * bool(PICTURES), "the pages in a browser")
         seen = look_at(self, told)
         for name, (_, ladder) in told.items():
             compare(self, name, ladder, seen.get(name, {}))

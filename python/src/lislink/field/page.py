@@ -31,6 +31,10 @@ tr.event td.n,tr.event td.t{text-align:left}tr.bad>td{background:#fdecea}tr.warn
 dt{color:#556}dd{margin:0}ul.tree{list-style:none;margin:.1rem 0;padding-left:1.3rem}ul.tree li{margin:.1rem 0}
 table.fields{width:auto;table-layout:auto;margin:.2rem 0 .4rem 1.4rem}table.fields td{border-bottom:1px solid #e3e7ee}
 .finding{color:var(--bad);font-weight:600}footer{padding:1rem 1.6rem;color:#667;font-size:.85em}
+@media(max-width:720px){header,main{padding:0 .7rem}#ladder,#ladder thead,#ladder tbody{display:block}#ladder colgroup{display:none}
+#ladder tr{display:grid;grid-template-columns:3rem 1fr auto;border-bottom:1px solid #dde}#ladder td:nth-child(2),#ladder th:nth-child(2){grid-column:2/-1}
+#ladder td:nth-child(3),#ladder th:nth-child(3){grid-column:1/3}#ladder tr.event td:nth-child(3),#ladder td:last-child,#ladder th:last-child{grid-column:1/-1}
+#ladder th{border:0}.tools{position:static}.tools label,.tools button,.tools output{margin-left:.3rem}}
 [hidden]{display:none!important}@media print{.tools{display:none}body{font-size:11px}tr{break-inside:avoid}
 header,main{padding:0}.look,tr.bad>td,tr.warn>td,.tag{-webkit-print-color-adjust:exact;print-color-adjust:exact}}
 """
