@@ -37,7 +37,7 @@ FOLDERS = "docs|tests|tools|examples|crates|conformance|samples|include|bench|py
 PATH = re.compile(rf"`((?:{FOLDERS})/[\w./+-]+)`")
 SHELL = {"sh", "sh norun", "console"}
 # The port of the pages' examples.
-PORT = re.compile(r"(?<=--listen )4000\b|(?<=:)4000\b")
+PORT = re.compile(r"(?<=--listen )4000\b|(?<=\.py )4000\b|(?<=:)4000\b")
 
 
 def blocks(text):
