@@ -280,7 +280,8 @@ def _how_dropped(ladder: Ladder, rows: List[Row]) -> Dict[str, Any]:
     how = " (they end in CR alone)" if ends["CR"] == len(rows) else ""
     if all(re.match(rb"\x02[^\r\n]*[\x03]$|\x02.*\x03$", row.raw, re.S) for row in rows):
         how += " (they end in ETX: neither checksum nor CR LF)"
-    return {"how": how}
+        return {"how": how, "plain": "; a host's line with `link=plain` takes these, and notices no damage"}
+    return {"how": how, "plain": ""}
 
 
 def _outside(ladder: Ladder) -> Iterator[Look]:
@@ -374,7 +375,8 @@ def _of_fault(ladder: Ladder, fault: Fault) -> Look:
     record = record_at(ladder.stream, fault.place)
     cause = cause_of_record(fault.error, record, fault.place + len(record) >= len(ladder.stream))
     options = " or ".join(cause.options)
-    mends = f"`lislab normalize {options}` mends the records" if options else ""
+    names = " or ".join(f"`mend={one[2:]}`" for one in cause.options)
+    mends = f"`lislab normalize {options}` mends the records, {names} those of a host's line" if options else ""
     look = look_of(Verdict.RECORD, lines, number=number, code=code, why=cause.words, mends=mends)
     return look._replace(name=f"{look.name}-{cause.name}")
 

@@ -182,7 +182,7 @@ class Verdict(enum.Enum):
         "lf-in-text",
         BAD,
         "{share} rejected: {why}",
-        "the sender must put CR alone after a record; no receiver can take LF inside a frame",
+        "the sender must put CR alone after a record; a host's line with `mend=crlf` or `mend=lf` takes LF",
         "LF is inside the text, and ends the frame",
     )
     NO_CR = (
@@ -277,7 +277,7 @@ class Verdict(enum.Enum):
         "dropped",
         BAD,
         "{frames} begun and dropped: no LF ended them{how}",
-        "a frame ends in ETX or ETB, two digits, CR and LF",
+        "a frame ends in ETX or ETB, two digits, CR and LF{plain}",
         "",
     )
     NO_STX = (
