@@ -69,6 +69,7 @@ FAULTS = {
         "        if self._unnoted is not None:\n            self._note(self._unnoted)\n",
         "",
     ),
+    "test_codes.Codes.test_any_message": Edit("delivery/results.py", "if order.results]", "if order.results[1:]]"),
     "test_codes.Codes.test_command": Edit(
         "delivery/codes.py", "found[name] = found.get(name, 0) + 1", "found[name] = 1"
     ),
@@ -85,7 +86,7 @@ FAULTS = {
         "decimal.Decimal(str(float(one.value) * float(factor)))",
     ),
     "test_codes.Table.test_ranges": Edit(
-        "delivery/codes.py", "changes[6] = row.written(6) + _bytes", "changes[6] = row.written(6) or _bytes"
+        "delivery/codes.py", "row.written(6) + (b\" \" + row.written(5)).rstrip()", "row.written(6)"
     ),
     "test_codes.Table.test_values": Edit("delivery/codes.py", "if unit == found.unit:", "if not unit:"),
     "test_codes.Table.test_which_row": Edit(

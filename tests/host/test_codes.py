@@ -10,6 +10,7 @@ import re
 from lislink.delivery import codes, fhir, oru
 from lislink.host import deliver, export
 from lislink.host.options import OptionError
+from lislink.message import Found, read_all
 from tests.host import fhir_r4
 from tests.host.hosts import HostTest, lislab
 from tests.host.test_aside import keep
@@ -22,6 +23,27 @@ SAMPLE = "samples/panel.records"
 def results(body):
     """The result and the comment records of a message, as texts."""
     return [row for row in body.decode().split("\r") if row[:1] in ("R", "C")]
+
+
+#: What random cells are made of.
+CELLS = (b"A", b"GLU", b"5.4", b">5", b"1e3", b"neg", b"", b" ", b"3.9 to 6.1", b"20261127103500", b"20260230", b"\xe4",
+         b"\xa3\x7c", b"\xc2\xb5g", b"mmol/L", b"F", b"X", b"Q", b"T")
+
+
+def random_body(rng):
+    """A message with random delimiters, records and cells; it may be one that can't be read."""
+    marks = rng.choice((b"|\\^&", b"|~^&", b"!@#$"))
+
+    def cell():
+        parts = [rng.choice(CELLS)]
+        for _ in range(rng.choice((0, 0, 0, 1, 3))):
+            escape = marks[3:] + rng.choice((b"F", b"S", b"R", b"E", b"H", b"N", b"X41", b"Z")) + marks[3:]
+            parts += [rng.choice((marks[1:2], marks[2:3], escape, bytes([rng.randrange(32, 255)]))), rng.choice(CELLS)]
+        return b"".join(parts)
+
+    rows = [b"H" + marks, b"P", b"O", *rng.choices([b"P", b"O", b"R", b"R", b"R", b"C", b"M"], k=rng.randint(0, 6))]
+    rows = [marks[:1].join([row, *(cell() for _ in range(rng.randint(0, 28)))]) for row in rows]
+    return b"".join(row + b"\r" for row in [*rows, b"L" + marks[:1] + b"1"])
 
 
 class Table(HostTest):
@@ -195,6 +217,27 @@ class Codes(WithLibrary):
         self.same("fhir", (fhir_r4.faults(text["fhir"]), bundle[0]["code"]["text"], bundle[2]["note"][1]["text"]),
                   ([], "GLUC", "lislab: unknown code K"))
         self.same("the message stays", fhir.bundle_of(one).decode().count("GLUC"), 0)
+
+    def test_any_message(self):
+        """Random messages, with other delimiters and encodings: each form has each result, can be read, and fails never."""
+        rng, path = random.Random(9), self.path("any.codes")
+        with open(path, "w", encoding="utf-8") as file:
+            file.write(HEAD + "A,LA,mg/dL,18.016,,\nGLU,GL|^&\\,g,0.1,,\n")
+        table, count = codes.codes_of(path), 0
+        for at in range(400):
+            one = stored(random_body(rng), encoding=rng.choice(("latin-1", "utf-8", "gbk", "cp1251", "shift_jis")))
+            found = [each for each in read_all(one.body, one.encoding) if isinstance(each, Found)]
+            if len(found) != 1:
+                continue
+            wanted, count = len(list(found[0].message.results())), count + 1
+            for whole in (one, table.applied(one)):
+                out, bundle = oru.oru_of(whole), fhir.bundle_of(whole)
+                again = str(oru.library().parse(out.decode())) if out else ""
+                self.need(again.rstrip() == out.decode().rstrip(), lambda: f"{at}: {out}")
+                self.need(not bundle or fhir_r4.faults(bundle) == [], lambda: f"{at}: {fhir_r4.faults(bundle)}")
+                results_of = out.count(b"\rOBX|"), len(json.loads(bundle)["entry"]) if bundle else 0
+                self.need(results_of == (wanted, wanted), lambda: f"{at}: {results_of}, wanted {wanted}: {one.body}")
+        self.true("messages were tried", count > 100, str(count))
 
     def test_command(self):
         """`lislab codes`, and --codes of a delivery."""

@@ -151,7 +151,7 @@ class Codes:
         found = self.found(one.line, code, unit)
         if found is None:
             known = self.laboratory(one.line, code) is not None
-            return row.text, f"no code for {code} in {unit or 'no unit'}" if known else f"unknown code {code}"
+            return row.text, f"no code for {code} in {unit or 'no unit'}" if known else f"unknown code {code or 'none'}"
         changes = {3: _test(row, found.laboratory, one)}
         if found.factor == _ONE:
             return _with(row, {**changes, **({5: _bytes(found.unit, row, one)} if found.unit else {})}), ""
@@ -171,7 +171,7 @@ class Codes:
             changes[6] = _bytes(usual.text(" to " if "to" in text.lower() else "-"), row, one)
             return _with(row, changes), ""
         if text.strip():
-            changes[6] = row.written(6) + _bytes(f" {unit}".rstrip(), row, one)
+            changes[6] = row.written(6) + (b" " + row.written(5)).rstrip()
             return _with(row, changes), f"the range is in {unit or 'the unit of the analyzer'}"
         return _with(row, changes), ""
 
@@ -201,6 +201,14 @@ def _encoded(letter: str, text: str, one: Stored) -> bytes:
     raise Refused(f"{text} of the table of codes can't be written in {one.encoding}, the encoding of line {one.line}")
 
 
+def _can_be(letter: str, one: Stored) -> bool:
+    """Whether a letter can be written in a message's encoding."""
+    try:
+        return bool(letter.encode(one.encoding))
+    except UnicodeEncodeError:
+        return False
+
+
 def _with(row: Row, changes: Dict[int, bytes]) -> bytes:
     """A record with other fields, by the standard's numbers; the letter is field 1."""
     field = _marks(row)[0]
@@ -221,7 +229,8 @@ def _test(row: Row, code: str, one: Stored) -> bytes:
 
 
 def _comment(row: Row, number: int, why: str, one: Stored) -> bytes:
-    cells = [b"C", str(number).encode(), b"L", _bytes(MARK + why, row, one), b"G"]
+    words = "".join(letter if _can_be(letter, one) else "?" for letter in MARK + why)
+    cells = [b"C", str(number).encode(), b"L", _bytes(words, row, one), b"G"]
     return _marks(row)[0].join(cells)
 
 
@@ -246,6 +255,6 @@ def unknown_of(codes: Codes, messages: Iterator[Stored]) -> Dict[str, int]:
         for _, _, entry in message_of(one).results():
             code, unit = code_of(entry, 3), text_of(entry, 5).strip()
             if codes.found(one.line, code, unit) is None:
-                name = code if codes.laboratory(one.line, code) is None else f"{code} {unit or '-'}"
+                name = (code or "-") if codes.laboratory(one.line, code) is None else f"{code} {unit or '-'}"
                 found[name] = found.get(name, 0) + 1
     return found
