@@ -219,7 +219,7 @@ class Codes(WithLibrary):
         self.same("the message stays", fhir.bundle_of(one).decode().count("GLUC"), 0)
 
     def test_any_message(self):
-        """Random messages, with other delimiters and encodings: each form has each result, can be read, and fails never."""
+        """Random messages, delimiters and encodings: each form has each result, can be read, and never fails."""
         rng, path = random.Random(9), self.path("any.codes")
         with open(path, "w", encoding="utf-8") as file:
             file.write(HEAD + "A,LA,mg/dL,18.016,,\nGLU,GL|^&\\,g,0.1,,\n")

@@ -111,7 +111,8 @@ class Oru(WithLibrary):
         query = oru.oru_of(stored(message("Q|1|^S7||ALL")))
         self.same("a query has no results", query, b"")
         half = stored(b"H|\\^&\rP|1\r", state=UNFINISHED)
-        self.same("one that isn't whole isn't written", [export.writer_of(one)(half) for one in ("oru", "fhir")], [b"", b""])
+        made = [export.writer_of(form)(half) for form in ("oru", "fhir")]
+        self.same("one that isn't whole isn't written", made, [b"", b""])
         again = self.read(oru.oru_of(stored(message("P|1", "O|1|S7", "R|1|^^^A|1"), again_of="00ff")))
         self.same("a repeat is marked", str(again["NTE"][0](3)), "repeat of message 00ff")
 
