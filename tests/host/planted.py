@@ -44,6 +44,13 @@ FAULTS = {
     "test_aside.Asides.test_again_of_one_that_runs": Edit(
         "host/deliver.py", "            grant(self._cursor.path, key)\n", ""
     ),
+    "test_aside.Asides.test_each_write": Edit(
+        "host/deliver.py",
+        "            if self._aside is None or not self._aside.takes(one):\n                self._next(one)\n"
+        "            self._note(one)\n",
+        "            self._note(one)\n"
+        "            if self._aside is None or not self._aside.takes(one):\n                self._next(one)\n",
+    ),
     "test_aside.Asides.test_random": Edit(
         "host/deliver.py",
         "                blocked |= set(held.samples)\n                continue\n            try",

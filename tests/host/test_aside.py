@@ -6,8 +6,9 @@ import random
 import shutil
 import sys
 import time
+import unittest.mock
 
-from lislink.host import deliver, status
+from lislink.host import deliver, files, status
 from lislink.host.store import WHOLE, Add, Begin, End, StoreError, open_store
 from lislink.delivery import aside
 from tests.host.hosts import HostTest, lislab, process, wait_for
@@ -73,6 +74,38 @@ class Taker:
             return []
         with open(self.path, encoding="ascii") as file:
             return [self.keys.index(row.strip()) for row in file]
+
+
+class Stopped(Exception):
+    """The delivery of a test is over."""
+
+
+class Dying:
+    """Ends a delivery before or after one of the writes of its cursor and of what it has set aside."""
+
+    def __init__(self, place, is_late):
+        self.place, self.is_late, self.count, self.died = place, is_late, 0, False
+
+    def __enter__(self):
+        self.patched = [unittest.mock.patch.object(one, "write_synced", self.write) for one in (deliver, aside)]
+        for one in self.patched:
+            one.start()
+        return self
+
+    def __exit__(self, *_):
+        for one in self.patched:
+            one.stop()
+
+    def write(self, path, data):
+        """A write, at which the delivery may die."""
+        self.count += 1
+        dies = self.count == self.place + 1
+        self.died = self.died or dies
+        if dies and not self.is_late:
+            raise Stopped
+        files.write_synced(path, data)
+        if dies:
+            raise Stopped
 
 
 class Asides(HostTest):
@@ -160,6 +193,41 @@ class Asides(HostTest):
                 found = [key for key in taken if key in mine]
                 self.need(found == mine, lambda: f"{seed}: {sample}: {found}")
 
+    def test_each_write(self):
+        """A delivery that dies before or after each of its writes, and is started again: no message is lost, those of a
+        sample stay in order."""
+        samples = (["A"], ["B"], ["A"], ["C"], ["B", "A"], ["D"])
+        store = self.path("each.db")
+        keys = keep(store, map(records, samples))
+        for is_late in (False, True):
+            for place in range(100):
+                cursor, taken = self.path(f"each{is_late}{place}.cursor"), []
+                with Dying(place, is_late) as dying:
+                    for mended in (False, False, True, True):
+                        self.rounds(store, cursor, keys, taken, mended)
+                where = f"{'after' if is_late else 'before'} write {place}"
+                self.same(f"{where}: none is lost", sorted(set(taken)), keys)
+                for sample in "ABCD":
+                    mine = [key for key, it in zip(keys, samples) if sample in it]
+                    self.same(f"{where}: {sample}", list(dict.fromkeys(key for key in taken if key in mine)), mine)
+                if not dying.died:
+                    break
+        self.true("there are writes", place > 10, str(place))
+
+    def rounds(self, store, cursor, keys, taken, mended):
+        """A delivery that fails for the first message until that is mended; then what was set aside."""
+
+        def take(one):
+            if one.key == keys[0] and not mended:
+                raise deliver.Refused("as the test has it")
+            taken.append(one.key)
+
+        for again in (False, True):
+            try:
+                self.one_run(store, cursor, take, 1, again)
+            except Stopped:
+                pass
+
     def one_run(self, store, cursor, take, most, again):
         """A delivery of what there is, or of what was set aside."""
         opened, place = open_store(store), deliver.Cursor(cursor)
@@ -171,12 +239,9 @@ class Asides(HostTest):
                 deliver.run(one, True)
         except deliver.Refused:
             pass
-        place.close()
-        opened.close()
-
-
-class Stopped(Exception):
-    """The delivery of a test is over."""
+        finally:
+            place.close()
+            opened.close()
 
 
 class Cursors(HostTest):
