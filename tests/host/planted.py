@@ -598,6 +598,10 @@ FAULTS = {
     "test_status.Status.test_running": Edit(
         "host/status.py", "return not store.held_to_the_end and ", "return "
     ),
+    "test_systemd.Systemd.test_notify": Edit("host/systemd.py", "    while seconds:\n", "    if seconds:\n"),
+    "test_systemd.Systemd.test_units": Edit(
+        "watch/commands.py", 'one.add_argument("--http", metavar', 'one.add_argument("--pages", metavar'
+    ),
     "test_watch.Watch.test_a_ladder_as_it_goes": Edit(
         "watch/live.py", "over = self._begun[2] if self._carry else len(self.rows)", "over = len(self.rows)"
     ),

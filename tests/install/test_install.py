@@ -126,6 +126,9 @@ def in_its_root(test, package, work):
     test.runs([sys.executable, "-c", PYTHON], "02310333340d0a\n",
               env=kit.without_library(PYTHONPATH=f"{root}/usr/lib/python3/dist-packages", LD_LIBRARY_PATH=lib,
                                       PYTHONDONTWRITEBYTECODE="1"))
+    for name in ("lib/systemd/system/lislab@.service", "lib/systemd/system/lislab-watch@.service",
+                 "usr/lib/sysusers.d/lislab.conf", "usr/share/doc/lislink/examples/alerts.yml"):
+        test.check(os.path.exists(f"{root}/{name}"), f"the package has {name}")
     test.runs([*dpkg, "--verify", "lislink"], "")
     test.runs([*dpkg, "--purge", "lislink"])
     rest = [it for it in files(root) if not it.startswith("var/lib/dpkg/")]

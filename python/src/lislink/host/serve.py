@@ -14,6 +14,7 @@ from concurrent.futures import ThreadPoolExecutor
 from typing import Any, Callable, Dict, Iterable, List, NamedTuple, Optional, Sequence, Set, Tuple, Union
 
 from ..watch.board import Board
+from . import systemd
 from .commits import Committer
 from .duplex import TwoWayLine
 from .files import write_whole
@@ -227,6 +228,8 @@ class Host:
         await self._open_board()
         self._ready = False
         self._say_ready()
+        systemd.notify("READY=1")
+        self._task(systemd.alive(systemd.watchdog_seconds()))
 
     async def _start_outbox(self, asked: Asked) -> None:
         """Starts what sends orders, if a line sends some for the first time."""
@@ -430,6 +433,7 @@ class Host:
     async def stop(self) -> None:
         """Takes no new line, lets the sessions that go on end for a while, and keeps what came."""
         self.stopping = True
+        systemd.notify("STOPPING=1")
         for port in self._ports:
             port.close()
         for line in list(self.lines):

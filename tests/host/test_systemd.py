@@ -1,0 +1,104 @@
+"""What a host says to systemd, and the units that the package of Debian installs, as far as systemd looks at them."""
+import glob
+import os
+import re
+import shutil
+import signal
+import socket
+import subprocess
+import sys
+
+from tests import ROOT
+from tests.host.hosts import ENV, Host, HostTest
+
+UNITS = os.path.join(ROOT, "packaging", "systemd")
+
+
+class Systemd(HostTest):
+    """A host under systemd."""
+
+    def test_notify(self):
+        """It says that it is ready when its ports are open, that it is alive as long as it is, and that it stops."""
+        path = self.path("notify")
+        with socket.socket(socket.AF_UNIX, socket.SOCK_DGRAM) as one:
+            one.bind(path)
+            one.settimeout(60)
+            env = {**ENV, "NOTIFY_SOCKET": path, "WATCHDOG_USEC": "100000"}
+            host = Host(self.path("systemd.db"), env=env)
+            self.same("ready", one.recv(100), b"READY=1")
+            self.same("alive", [one.recv(100) for _ in range(5)], [b"WATCHDOG=1"] * 5)
+            os.kill(host.process.pid, signal.SIGSTOP)
+            self.true("a host that is stuck says nothing", self.falls_silent(one))
+            os.kill(host.process.pid, signal.SIGCONT)
+            self.same("alive again", one.recv(100), b"WATCHDOG=1")
+            self.same("its status", host.stop(), 0)
+            said = []
+            one.settimeout(1)
+            while b"STOPPING=1" not in said:
+                said.append(one.recv(100))
+            self.same("it stops", said[-1], b"STOPPING=1")
+        for env in ({"NOTIFY_SOCKET": self.path("none")}, {"NOTIFY_SOCKET": "@lislab none", "WATCHDOG_USEC": "x"},
+                    {"WATCHDOG_USEC": "100000", "WATCHDOG_PID": "1"}):
+            host = Host(self.path("systemd.db"), env={**ENV, **env})
+            self.same(f"{env}: a host all the same", (host.stop(), host.errors[-1]), (0, ""))
+
+    @staticmethod
+    def falls_silent(one):
+        """Whether no more is said for two seconds, after what was said before."""
+        one.settimeout(2)
+        try:
+            for _ in range(1000):
+                one.recv(100)
+        except socket.timeout:
+            return True
+        finally:
+            one.settimeout(60)
+        return False
+
+    def test_units(self):
+        """The units of the package: systemd finds no fault, calls them safe, and they run commands that there are."""
+        found = sorted(glob.glob(os.path.join(UNITS, "*.service")))
+        self.same("units", [os.path.basename(one) for one in found],
+                  ["lislab-deliver@.service", "lislab-watch@.service", "lislab@.service"])
+        for path in found:
+            with open(path, encoding="utf-8") as file:
+                text = file.read()
+            self.same(f"{path}: they are alike", common(text), common(self.first(found)))
+            for words in re.findall(r"^Exec\w+=/usr/bin/lislab (.*)$", text, re.M):
+                self.takes(words.replace("%i", "x").split())
+        if shutil.which("systemd-analyze") is None:
+            self.skipTest("systemd-analyze (Debian: systemd) is not installed")
+        for path in found:
+            with open(path, encoding="utf-8") as file:
+                text = file.read().replace("/usr/bin/lislab", sys.executable)
+            name = os.path.basename(path).replace("@", "@x")
+            self.same(f"{name}: faults", self.said("verify", name, text), "")
+            exposure = re.search(r"exposure level for \S+ ([0-9.]+)", self.said("security", name, text))
+            self.true(f"{name}: exposure", exposure and float(exposure[1]) < 2, str(exposure))
+        wrong = text.replace("ProtectSystem=", "ProtectSytem=")
+        self.has("a fault is noticed", self.said("verify", "wrong@x.service", wrong), "ProtectSytem")
+
+    @staticmethod
+    def first(paths):
+        with open(paths[0], encoding="utf-8") as file:
+            return file.read()
+
+    def takes(self, words):
+        """Whether lislab takes the words of a unit: all but the files that aren't here."""
+        program = "import sys; from lislink import cli; print(cli.parser().parse_args(sys.argv[1:]).command)"
+        done = subprocess.run([sys.executable, "-c", program, *words], env=ENV, capture_output=True, text=True, check=False)
+        self.same(" ".join(words), (done.returncode, done.stdout.strip()), (0, words[0]))
+
+    def said(self, what, name, text):
+        """What systemd says of a unit."""
+        with open(self.path(name), "w", encoding="utf-8") as file:
+            file.write(text)
+        words = ["--offline=true"] if what == "security" else ["--man=no"]
+        done = subprocess.run(["systemd-analyze", what, *words, self.path(name)], stdout=subprocess.PIPE,
+                              stderr=subprocess.STDOUT, text=True, check=False)
+        return done.stdout
+
+
+def common(text):
+    """What each unit says of what it may do."""
+    return re.search(r"^User=.*?^MemoryMax=\S+$", text, re.M | re.S)[0]
