@@ -310,7 +310,7 @@ FAULTS = {
     ),
     "test_orders.Files.test_files": Edit("orders/order.py", "elif len(row) > len(names):", "elif len(row) > len(names) + 9:"),
     "test_orders.Files.test_records": Edit(
-        "orders/order.py", "for test in tests)\n    return", "for test in tests[:1])\n    return"
+        "orders/order.py", "for test in order.tests]", "for test in order.tests[:1]]"
     ),
     "test_orders.Files.test_nothing": Edit("orders/order.py", 'fields[12] = b"X"', 'fields[11] = b"X"'),
     "test_orders.Files.test_queries": Edit("orders/query.py", '_CANCELS = "AX"', '_CANCELS = "A"'),

@@ -206,7 +206,7 @@ class Codes(WithLibrary):
         self.same("csv", [(row["test"], row["value"], row["unit"], row["mark"]) for row in rows], [
             ("GLUC", "97.2", "mg/dL", ""), ("NA", "139", "mmol/L", ""), ("K", "5.6", "mmol/L", "unknown code K"),
             ("GLUC", "86.4", "mg/dL", "")])
-        self.true("tsv", text["tsv"].splitlines()[3].endswith("\tunknown code K"), text["tsv"])
+        self.true("tsv", text["tsv"].splitlines()[3].endswith("\tunknown code K\t"), text["tsv"])
         found = json.loads(text["json"])["message"]["patients"][0]["orders"][0]["results"]
         self.same("json", (found[0]["test"], found[0]["unit"], found[2]["notes"][1]["comment_text"]),
                   ("^^^GLUC", "mg/dL", "lislab: unknown code K"))
