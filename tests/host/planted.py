@@ -61,6 +61,9 @@ FAULTS = {
         "raise Unreachable(str(error)) from None\n        except subprocess",
         "raise Refused(str(error)) from None\n        except subprocess",
     ),
+    "test_aside.Cursors.test_aside_that_cannot_be_written": Edit(
+        "host/deliver.py", "                if held.key not in self._sent:\n    ", "                if held:\n    "
+    ),
     "test_aside.Cursors.test_damaged": Edit(
         "delivery/aside.py",
         "    except (OSError, ValueError) as error:\n        raise StoreError(f\"{path}: {error}\") from None",

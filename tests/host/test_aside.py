@@ -270,6 +270,36 @@ class Cursors(HostTest):
         self.same("the cursor", place.key, keys[1])
         opened.close()
 
+    def test_aside_that_cannot_be_written(self):
+        """What is sent again, and can't be noted as sent, is sent once as long as the delivery runs."""
+        store, cursor, taken, said = self.path("full.db"), self.path("full.cursor"), [], []
+        keys = keep(store, [records(["A"]), records(["A"])])
+        with open(cursor + ".aside", "w", encoding="ascii") as file:
+            held = [aside.Held(at, key, ["A"], 1, "x", 0.0)._asdict() for at, key in enumerate(keys, 1)]
+            json.dump({"held": held}, file)
+        with open(cursor, "w", encoding="ascii") as file:
+            json.dump({"number": 2, "key": keys[1]}, file)
+        aside.wish(cursor, "all")
+
+        def write(path, data):
+            if len(said) < 2:
+                raise OSError(28, "No space left on device")
+            files.write_synced(path, data)
+
+        def sleep(_):
+            if not aside.held_of(cursor) or len(said) > 9:
+                raise Stopped
+
+        opened, place = open_store(store), deliver.Cursor(cursor)
+        one = deliver.Delivery(opened, place, lambda it: taken.append(it.key), said.append, sleep, aside.Aside(cursor))
+        with unittest.mock.patch.object(aside, "write_synced", write):
+            self.raises("it is stopped by the test", Stopped, lambda: deliver.run(one, False))
+        self.same("each once, in order", taken, keys)
+        self.has("it is said", said[0], ".aside: No space left on device")
+        self.same("nothing is left", (aside.held_of(cursor), aside.wishes(cursor)), ([], []))
+        place.close()
+        opened.close()
+
     def test_once(self):
         """With --once it ends with status 3."""
         store, folder = self.path("once.db"), self.path("once")

@@ -239,10 +239,14 @@ class Https(WithLibrary):
     def test_words(self):
         """Words that make no sense, and files that can't be read."""
         path = self.path("wrong headers")
+        for row in ("no colon", "a name: b", "Name:", "Name: \x07"):
+            with open(path, "w", encoding="ascii") as file:
+                file.write(f"A: b:c\n\n{row}\n")
+            self.raises(f"a header {row!r}", OptionError, lambda: https.headers_of(path))
         with open(path, "w", encoding="ascii") as file:
-            file.write("A: b\nno colon\n")
-        self.raises("a header without a colon", OptionError, lambda: https.headers_of(path))
-        for words in (["--to", "http://h/x"], ["--to", "https:///x"], ["--to", "https://u:p@h/"],
+            file.write("A: b:c\n\nAuthorization:Bearer x\n")
+        self.same("headers", https.headers_of(path), {"A": "b:c", "Authorization": "Bearer x"})
+        for words in (["--to", "http://h/x"], ["--to", "https:///x"], ["--to", "https://u:p@h/"], ["--to", "https://h/a b"],
                       ["--to", "https://h:x/"], ["--to", "d", "--headers", path], ["--to", "d", "--", "true"]):
             done = lislab("deliver", "--store", self.store, "--cursor", self.path("words.cursor"), *words)
             self.same(" ".join(words), done.returncode, 2)

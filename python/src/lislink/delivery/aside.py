@@ -146,5 +146,5 @@ def wishes(cursor: str) -> List[str]:
 
 def grant(cursor: str, key: str) -> None:
     """Takes a wish away."""
-    with contextlib.suppress(FileNotFoundError):
+    with contextlib.suppress(OSError):  # one that stays asks for what is set aside no more
         os.unlink(f"{cursor}.again.{key}")

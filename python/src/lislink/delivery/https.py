@@ -1,5 +1,6 @@
 """Messages over HTTPS: each is the body of a POST. The server's certificate is verified."""
 import http.client
+import re
 import socket
 import ssl
 from typing import Callable, Dict, Optional
@@ -21,8 +22,8 @@ TYPES = {
 }
 #: The answers that say something of a message. All others are of the server, or of what it was asked.
 _OF_MESSAGE = (400, 409, 412, 413, 422, 500)
-#: So much is read of an answer.
-_MOST = 1 << 20
+#: So much is read of an answer. A row of a file of headers.
+_MOST, _HEADER = 1 << 20, re.compile(r"([!#$%&'*+.^_`|~0-9A-Za-z-]+):\s*([^\x00-\x1f\x7f]+)$")
 
 
 def context_of(authority: Optional[str]) -> ssl.SSLContext:
@@ -38,11 +39,11 @@ def headers_of(path: str) -> Dict[str, str]:
     found = {}
     with open(path, encoding="latin-1") as file:
         for number, row in enumerate(file, 1):
-            name, colon, value = row.strip().partition(":")
-            if row.strip() and (not colon or not name.strip() or not value.strip()):
+            field = _HEADER.match(row.strip())
+            if row.strip() and not field:
                 raise OptionError(f"{path}:{number}: a header is Name: value")
-            if row.strip():
-                found[name.strip()] = value.strip()
+            if field:
+                found[field[1]] = field[2]
     return found
 
 
@@ -51,7 +52,7 @@ class Https:
 
     def __init__(self, url: str, seconds: float, context: ssl.SSLContext, headers: Dict[str, str]) -> None:
         parts = urlsplit(url)
-        if not parts.hostname or parts.username or parts.fragment:
+        if not parts.hostname or parts.username or parts.fragment or re.search(r"[^!-~]", url):
             raise OptionError(f"{url}: https://HOST[:PORT]/PATH is wanted")
         self._where = parts.netloc
         self._path = (parts.path or "/") + (f"?{parts.query}" if parts.query else "")

@@ -139,8 +139,9 @@ class _Round:
         self._to, self._aside, self._cursor = delivery, delivery.aside, delivery.cursor
         #: How many messages are delivered, and how many are done with: delivered or set aside.
         self.delivered = self.done = 0
-        #: What is done with, and isn't noted in the cursor.
+        #: What is done with, and isn't noted in the cursor; which messages were sent again, and still are set aside.
         self._unnoted: Optional[Stored] = None
+        self._sent: Set[str] = set()
 
     def run(self) -> int:
         """One of these rounds: how many messages were found. It ends with a Refused or a StoreError."""
@@ -187,7 +188,8 @@ class _Round:
                 blocked |= set(held.samples)
                 continue
             try:
-                self._to.deliver(self._found(held))
+                if held.key not in self._sent:
+                    self._to.deliver(self._found(held))
             except Unreachable:
                 raise
             except Refused as error:
@@ -195,8 +197,10 @@ class _Round:
                 self._aside.failed_again(held, str(error))
                 self._to.say(f"message {held.number} {held.key} stays aside: {error}")
                 continue
-            self.delivered += 1
+            self._sent.add(held.key)
             self._aside.sent(held)
+            self._sent.remove(held.key)
+            self.delivered += 1
         return not {held.key for held in asked} & {held.key for held in self._aside.held}
 
     def _found(self, held: Held) -> Stored:
