@@ -22,7 +22,7 @@ from tests import ROOT
 from tests.field.test_browser import PICTURES, browser, chromium
 from tests.host.hosts import ENV, Host, HostTest, process, wait_for
 from tests.host.test_lines import TEXTS, Client
-from tests.host.test_watch import WAIT, H, frame, rejected
+from tests.host.test_watch import WAIT, H, frame, rejected, seen
 
 SCRIPT = "<script>document.documentElement.dataset.hacked=1</script>"
 #: What a field or a name may hold that would hurt a page.
@@ -89,12 +89,12 @@ class Parser(html.parser.HTMLParser):
 
 
 def fill(store, line, bodies, state=WHOLE, ago=60.0, took=0.5):
-    """Puts messages into a store, kept so many seconds ago."""
+    """Puts messages into a store, the last of them kept so many seconds ago."""
     one = open_store(store)
     one.start("h")
     now = time.time()
     for place, body in enumerate(bodies):
-        key = hashlib.sha256(f"{place} {line} {state}".encode()).hexdigest()[:16]
+        key = hashlib.sha256(f"{place} {line} {state} {ago}".encode()).hexdigest()[:16]
         reason = "" if state == WHOLE else f"record 1: {line[:40]}"
         changes = [Begin(key, line, "10.0.0.1", "utf-8", now - ago - took), Add(key, 0, now, body)]
         changes.append(End(key, line, state, reason, key, len(body), now - ago))
@@ -268,7 +268,29 @@ class Looks(HostTest):
         self.has("a message by itself", first, "reference range" if "reference range" in first else "value")
         self.true("nothing runs in it", "data-hacked" not in first)
         if PICTURES:
-            for name, path in (("watch", "/"), ("watch-line", "/line?name=fire")):
+            self.pictures()
+
+    def pictures(self):
+        """Pictures for the documents: a laboratory with four lines, of which two are bad."""
+        store, names = self.path("pictures.db"), ("chemistry", "haematology", "coagulation", "snibe")
+        for hour in range(23, -1, -1):
+            for place, name in enumerate(names):
+                bodies = [whole(f"{hour} {at}") for at in range((hour * 7 + place) % 9)]
+                fill(store, name, bodies, ago=3600.0 * hour + 300)
+        words = (word for one in names for word in ("--listen", f"127.0.0.1:0,name={one}"))
+        host = Host(store, *words, scale=1.0, listen=False)
+        ports = {row.split()[2]: int(row.split()[1].rsplit(":", 1)[1]) for row in host.rows if len(row.split()) == 3}
+        without_end = b"\x021" + H + b"\x03%02X\r\n" % ((0x31 + sum(H)) % 256)
+        with Client(ports["chemistry"]) as one, Client(ports["coagulation"]) as two, Client(ports["snibe"]) as three:
+            one.whole(TEXTS)
+            rejected(two, without_end)
+            rejected(two, without_end)
+            three.asks(b"\x05")
+            three.send(b"\x021H|\\^&\x03E5\r")
+            wait_for(lambda: seen(host, "snibe")["state"] == "bad", WAIT)
+            site = self.site(store, store + ".watch")
+            site.pages.tally.count()
+            for name, path in (("watch", "/"), ("watch-line", "/line?name=coagulation")):
                 out = os.path.join(ROOT, PICTURES, name + ".png")
                 chromium("--window-size=1366,768", f"--screenshot={out}", f"http://127.0.0.1:{site.port}{path}")
                 self.true(f"a picture {name}", os.path.exists(out))

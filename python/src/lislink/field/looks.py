@@ -7,7 +7,7 @@ from typing import Any, Callable, Dict, Iterator, List, NamedTuple, Optional, Un
 from ..link import Note
 from ..message import Fault, Found
 from ..records import Reason
-from ..watch.verdicts import BAD, WARN, Meaning, Verdict
+from ..watch.verdicts import BAD, SENDER_WRONG, WARN, Meaning, Verdict
 from .faults import cause_of_record, code_of
 from .ladder import Ladder, Look, Row
 from .log import SECOND
@@ -219,7 +219,6 @@ _BY_DAMAGE = (
     Verdict.NO_CR,
     Verdict.NO_SUM,
 )
-_WRONG = "the sender is wrong: a receiver must not take such a frame"
 _DAMAGED = "other frames of the sender are right: bytes were damaged on the way; look at cable, shield and speed"
 
 
@@ -237,7 +236,7 @@ def _bad_frames(ladder: Ladder) -> Iterator[Look]:
             yield _sums(mine, share, good)
         elif not (kind is Verdict.NO_CR and _is_telnet(ladder)):
             look = look_of(kind, _lines(mine), share=share, why=why)
-            yield look._replace(advice=look.advice or (_DAMAGED if good and kind in _BY_DAMAGE else _WRONG))
+            yield look._replace(advice=look.advice or (_DAMAGED if good and kind in _BY_DAMAGE else SENDER_WRONG))
 
 
 def _is_noise(frames: List[Row], rows: List[Row]) -> bool:
@@ -258,8 +257,7 @@ def _sums(rows: List[Row], share: str, good: int) -> Look:
     first = rows[0].cause
     assert first is not None
     if good == 0 and len(ways) == 1 and first.way:
-        look = look_of(first.verdict, _lines(rows), share=share, why=f"{first.words}; {first.way}")
-        return look._replace(advice="mend the sender: a receiver must not take such a checksum")
+        return look_of(first.verdict, _lines(rows), share=share, why=f"{first.words}; {first.way}")
     look = look_of(Verdict.SUM, _lines(rows), share=share, why=first.words)
     return look._replace(advice=_DAMAGED if good else "the sender sums otherwise, or bytes were damaged on the way")
 

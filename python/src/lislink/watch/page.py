@@ -116,7 +116,7 @@ def lines_page(data: Mapping[str, Any], tally: Tally) -> str:
     """All lines, the bad ones first."""
     order = {"bad": 0, "quiet": 1, "good": 2}
     found = sorted(data["lines"].items(), key=lambda it: (order[it[1]["state"]], it[0]))
-    rows = "".join(_line_row(name, one) for name, one in found)
+    rows = "".join(_line_row(name, one, tally.last(name)) for name, one in found)
     head = "" if data["running"] else f'<p class="alarm"><b>{MARKS["bad"]}</b>: {safe(_down(data))}</p>'
     bad = sum(one["state"] == "bad" for one in data["lines"].values())
     total = f"{many(len(data['lines']), 'line')}, {bad} bad"
@@ -133,11 +133,11 @@ def _down(data: Mapping[str, Any]) -> str:
     return f"the host runs, and doesn't answer: {data['why']}" if data["held"] else "the host isn't running"
 
 
-def _line_row(name: str, one: Mapping[str, Any]) -> str:
+def _line_row(name: str, one: Mapping[str, Any], last: Optional[float]) -> str:
     advice = f'<br><span class="note">{safe(one["advice"])}</span>' if one["state"] == "bad" and one["advice"] else ""
     return (
         f'<tr class="{one["state"]}"><td>{link("/line", name, name=name)}</td><td>{state(one)}</td>'
-        f'<td>{safe(one["says"])}{advice}</td><td>{one["connected"]}</td><td>{when(one["last"])}</td></tr>'
+        f'<td>{safe(one["says"])}{advice}</td><td>{one["connected"]}</td><td>{when(one["last"] or last)}</td></tr>'
     )
 
 

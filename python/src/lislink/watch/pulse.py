@@ -12,7 +12,7 @@ from ..host.store import WHOLE, End, StoreError
 from ..host.tape import Tape
 from ..link import FrameFault, Note, Step
 from .ring import Ring
-from .verdicts import BAD, GOOD, Verdict
+from .verdicts import BAD, GOOD, SENDER_WRONG, Verdict
 
 #: For so many seconds nothing may follow an acknowledged ENQ, and stray bytes may be without an ENQ; after so many
 #: seconds without a message a line is quiet. They are as many times as long as the timers of a test.
@@ -270,7 +270,7 @@ class Probe:
             why = f"the checksum is wrong: {cause.way}" if cause.way else verdict.live
         self._pulse.rejected[verdict.key] += 1
         one = self._pulse.wrong("frames", Verdict.NONE_ACCEPTED, why)
-        one.advice = _LONG if verdict is Verdict.LONG else verdict.advice
+        one.advice = _LONG if verdict is Verdict.LONG else verdict.advice or SENDER_WRONG
 
     def _session(self, note: Note) -> None:
         """A session begins, or is over."""

@@ -94,6 +94,7 @@ class Tally:
         self._hours: "Dict[str, Counter[int]]" = {}
         self._all: "Counter[int]" = Counter()
         self._took: Dict[str, Deque[float]] = {}
+        self._last: Dict[str, float] = {}
         self._number, self._stop = -1, threading.Event()
         #: Why the store can't be read, if it can't.
         self.why = ""
@@ -135,6 +136,7 @@ class Tally:
             for one in found:
                 ended = one.began if one.ended is None else one.ended
                 hour = int(ended // HOUR)
+                self._last[one.line] = max(ended, self._last.get(one.line, 0.0))
                 self._hours.setdefault(one.line, Counter())[hour] += 1
                 self._all[hour] += 1
                 self._took.setdefault(one.line, deque(maxlen=TIMED)).append(max(0.0, ended - one.began))
@@ -151,6 +153,10 @@ class Tally:
         with self._lock:
             hours = self._all if line is None else self._hours.get(line, Counter())
             return [(hour * HOUR, count) for hour, count in hours.items()]
+
+    def last(self, line: str) -> Optional[float]:
+        """When the last message of a line was kept, among those that are counted."""
+        return self._last.get(line)
 
     def took(self, line: str) -> List[float]:
         """How long the last messages of a line took from their first byte to the last, in order of length."""

@@ -4,6 +4,9 @@ import enum
 from typing import Any
 
 GOOD, PLAIN, WARN, BAD = "good", "plain", "warn", "bad"
+#: What to do about a frame that is rejected, if its verdict says nothing else; about a checksum by another way to sum.
+SENDER_WRONG = "the sender is wrong: a receiver must not take such a frame"
+_MEND_SUM = "mend the sender: a receiver must not take such a checksum"
 
 
 @enum.unique
@@ -226,21 +229,21 @@ class Verdict(enum.Enum):
     SUM = ("sum", BAD, "{share} rejected: {why}", "", "the checksum is wrong")
     SUM_NO_DIGITS = ("sum-no-digits", BAD, "{share} rejected: {why}", "", "the checksum has no hexadecimal digits")
     # other ways to sum: what is said of a running line is the way
-    SUM_WITHOUT_END = ("sum-without-end", BAD, "{share} rejected: {why}", "", "it leaves out ETX or ETB")
-    SUM_WITH_STX = ("sum-with-stx", BAD, "{share} rejected: {why}", "", "it counts STX")
+    SUM_WITHOUT_END = ("sum-without-end", BAD, "{share} rejected: {why}", _MEND_SUM, "it leaves out ETX or ETB")
+    SUM_WITH_STX = ("sum-with-stx", BAD, "{share} rejected: {why}", _MEND_SUM, "it counts STX")
     SUM_WITH_STX_WITHOUT_END = (
         "sum-with-stx-without-end",
         BAD,
         "{share} rejected: {why}",
-        "",
+        _MEND_SUM,
         "it counts STX and leaves out ETX or ETB",
     )
-    SUM_WITHOUT_NUMBER = ("sum-without-number", BAD, "{share} rejected: {why}", "", "it leaves out the frame number")
-    SUM_OF_TEXT = ("sum-of-text", BAD, "{share} rejected: {why}", "", "it counts the text alone")
-    SUM_XOR = ("sum-xor", BAD, "{share} rejected: {why}", "", "it is an exclusive or")
-    SUM_XOR_TEXT = ("sum-xor-text", BAD, "{share} rejected: {why}", "", "it is an exclusive or without the number")
-    SUM_COMPLEMENT = ("sum-complement", BAD, "{share} rejected: {why}", "", "it is the two's complement")
-    SUM_WITH_CR = ("sum-with-cr", BAD, "{share} rejected: {why}", "", "it counts the CR after it")
+    SUM_WITHOUT_NUMBER = ("sum-without-number", BAD, "{share} rejected: {why}", _MEND_SUM, "it leaves out the frame number")
+    SUM_OF_TEXT = ("sum-of-text", BAD, "{share} rejected: {why}", _MEND_SUM, "it counts the text alone")
+    SUM_XOR = ("sum-xor", BAD, "{share} rejected: {why}", _MEND_SUM, "it is an exclusive or")
+    SUM_XOR_TEXT = ("sum-xor-text", BAD, "{share} rejected: {why}", _MEND_SUM, "it is an exclusive or without the number")
+    SUM_COMPLEMENT = ("sum-complement", BAD, "{share} rejected: {why}", _MEND_SUM, "it is the two's complement")
+    SUM_WITH_CR = ("sum-with-cr", BAD, "{share} rejected: {why}", _MEND_SUM, "it counts the CR after it")
     OUT_OF_TURN = (
         "out-of-turn",
         BAD,
