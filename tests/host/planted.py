@@ -619,6 +619,9 @@ FAULTS = {
     "test_watch.Watch.test_noise_is_not_bad": Edit(
         "watch/pulse.py", "            if pulse.polls < EMPTY:\n", "            if pulse.polls < 2:\n"
     ),
+    "test_watch.Watch.test_reasons": Edit(
+        "watch/pulse.py", "raw = self._carry + self._now", "raw = self._now"
+    ),
     "test_watch.Watch.test_ring": Edit(
         "watch/ring.py", "while len(self._held) - drop > self._most:", "while len(self._held) - drop > 2 * self._most:"
     ),

@@ -2,16 +2,21 @@
 socket through which it looks."""
 import contextlib
 import os
+import random
 import socket
 import stat
+from collections import Counter
 from typing import Callable, NamedTuple
 
-from lislink.capture import read_capture
+from lislink.capture import Capture, Line, read_capture
 from lislink.field.ladder import Ladder
 from lislink.host.store import open_store
+from lislink.link import Receiver
 from lislink.watch import ring
 from lislink.watch.live import LiveLadder
+from lislink.watch.pulse import Probe, Pulse
 from lislink.watch.unix import WatchError, ask
+from lislink.watch.verdicts import Meaning
 from tests.host.hosts import Host, HostTest, lislab, wait_for
 from tests.host.plain import frame
 from tests.host.test_lines import ACK, ENQ, EOT, NAK, TEXTS, Client, frames, session
@@ -117,29 +122,76 @@ def seen(host, name="fire"):
     return ask(host.store + ".watch", ask="lines")[0]["lines"].get(name, {})
 
 
+def port_of(host, name):
+    """The port of a line."""
+    return next(int(row.split()[1].rsplit(":", 1)[1]) for row in host.rows if row.endswith(f" {name}\n"))
+
+
 class Watch(HostTest):
     """`lislab watch`."""
 
     def test_faults(self):
-        """Each fault of a line is named, without a capture; then the line is good again."""
-        good = Host(self.path("faults.db"), scale=0.1)
-        for number, (name, one) in enumerate(FAULTS.items()):
-            host = Host(self.path(f"{number}.db"), fault=one.fault) if one.fault else good
-            with self.subTest(name), Client(host.port) as client:
-                one.play(client)
-                wait_for(lambda: seen(host)["verdict"] == one.verdict, WAIT)
-                found = seen(host)
-                self.same(f"{name}: it is named", (found["state"], found["verdict"]), ("bad", one.verdict))
-                self.assertRegex(found["says"], one.says)
-                if one.heals:
-                    client.send(EOT)
-                    with Client(host.port) as after:
-                        self.true(f"{name}: a session after it", after.whole(TEXTS))
-                        wait_for(lambda: seen(host)["state"] == "good", WAIT)
-                        self.same(f"{name}: the line is good again", seen(host)["state"], "good")
-            if host is not good:
-                host.kill()
-        self.same("nothing is wrong with the host", good.says().count("given up"), 0)
+        """Each fault of a line is named, without a capture; then the line is good again. All are played at once, with
+        the timers of the standard."""
+        hosts, names = {}, {name.replace(" ", "-"): one for name, one in FAULTS.items()}
+        words = [word for name in names for word in ("--listen", f"127.0.0.1:0,name={name}")]
+        for fault in sorted({one.fault for one in FAULTS.values()}):
+            within = ["--reply-within", "0.5"] if fault == "stalled" else []
+            hosts[fault] = Host(self.path(f"{fault or 'good'}.db"), *words, *within, fault=fault or None, scale=1.0,
+                                listen=False)
+        lines = {name: (hosts[one.fault], port_of(hosts[one.fault], name)) for name, one in names.items()}
+        with contextlib.ExitStack() as stack:
+            clients = {name: stack.enter_context(Client(port)) for name, (_, port) in lines.items()}
+            for name, one in names.items():
+                one.play(clients[name])
+            for name, one in names.items():
+                host, port = lines[name]
+                with self.subTest(name):
+                    wait_for(lambda: seen(host, name)["verdict"] == one.verdict, WAIT)
+                    found = seen(host, name)
+                    self.same(f"{name}: it is named", (found["state"], found["verdict"]), ("bad", one.verdict))
+                    self.assertRegex(found["says"], one.says)
+                    if one.heals:
+                        clients[name].send(EOT)
+                        self.heals(host, name, port)
+        self.same("nothing is wrong with the host", hosts[""].says().count("given up"), 0)
+
+    def heals(self, host, name, port):
+        """A line is good again after a session as it should be."""
+        with Client(port) as client:
+            self.true(f"{name}: a session after it", client.whole(TEXTS))
+            wait_for(lambda: seen(host, name)["state"] == "good", WAIT)
+            self.same(f"{name}: the line is good again", seen(host, name)["state"], "good")
+
+    def test_reasons(self):
+        """Frames are counted by the reasons of a ladder, whatever comes and however it is cut."""
+        good = frames([H, b"P|1\r", b"", b"C|1|I|" + b"x" * 200 + b"\r"])
+        units = [ENQ, ENQ, EOT, b"\n", b"\x02", b"noise", *good, *good, *(one[:-3] + b"0\r\n" for one in good)]
+        units += [one.replace(b"|", b"\x11") for one in good] + [one.replace(b"\r\n", b"\n") for one in good]
+        units += [body(b"9H|\r\x03"), body(b"H|\r\x03"), body(b"1H|\x01\r\x03")]
+        units += [frame(1, b"x" * 300), b"\x02\n", b"\x021H|\\^&\r\x03\r\n"]
+        reasons = set()
+        for seed in range(300):
+            rng = random.Random(seed)
+            stream = b"".join(rng.choice(units) for _ in range(40))
+            pulse = Pulse(240, 1.0)
+            probe, at = Probe(pulse, None, lambda text: None), 0
+            with Receiver() as receiver:
+                while at < len(stream):
+                    piece = stream[at : at + rng.randrange(1, 60)]
+                    at += len(piece)
+                    probe.bytes(">", piece)
+                    probe.hears(piece)
+                    for place, step in receiver.hear_placed(piece):
+                        probe.step(place, step)
+                    self.assertTrue(pulse.says().text)
+            probe.close()
+            ladder = Ladder(Capture(1, [(1, Line(">", stream))], [None]))
+            rows = [row for row in ladder.rows if row.meaning is Meaning.REJECTED]
+            wanted = Counter(row.cause.verdict.key for row in rows)
+            self.same(f"reasons of stream {seed}", pulse.rejected, wanted)
+            reasons |= set(wanted)
+        self.true("reasons that were seen", len(reasons) >= 9, str(sorted(reasons)))
 
     def test_no_reply_to_the_host(self):
         """A host whose own ENQ nobody answers, and one whose device isn't there."""
@@ -153,8 +205,7 @@ class Watch(HostTest):
         lislab("order", "add", "--store", store, path)
         host = Host(store, "--listen", "127.0.0.1:0,name=two,orders=send",
                     "--serial", f"{self.path('no device')}:9600,name=cable")
-        port = next(int(row.split()[1].rsplit(":", 1)[1]) for row in host.rows if row.endswith(" two\n"))
-        with Client(port) as client:
+        with Client(port_of(host, "two")) as client:
             self.same("the host asks for the line", client.heard(1), ENQ)
             wait_for(lambda: seen(host, "two")["verdict"] == "no-reply", WAIT)
             self.same("no reply", seen(host, "two")["verdict"], "no-reply")

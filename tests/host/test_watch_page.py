@@ -22,7 +22,7 @@ from tests import ROOT
 from tests.field.test_browser import PICTURES, browser, chromium
 from tests.host.hosts import ENV, Host, HostTest, process, wait_for
 from tests.host.test_lines import TEXTS, Client
-from tests.host.test_watch import WAIT, H, frame, rejected, seen
+from tests.host.test_watch import WAIT, H, frame, port_of, rejected, seen
 
 SCRIPT = "<script>document.documentElement.dataset.hacked=1</script>"
 #: What a field or a name may hold that would hurt a page.
@@ -279,7 +279,7 @@ class Looks(HostTest):
                 fill(store, name, bodies, ago=3600.0 * hour + 300)
         words = (word for one in names for word in ("--listen", f"127.0.0.1:0,name={one}"))
         host = Host(store, *words, scale=1.0, listen=False)
-        ports = {row.split()[2]: int(row.split()[1].rsplit(":", 1)[1]) for row in host.rows if len(row.split()) == 3}
+        ports = {name: port_of(host, name) for name in names}
         without_end = b"\x021" + H + b"\x03%02X\r\n" % ((0x31 + sum(H)) % 256)
         with Client(ports["chemistry"]) as one, Client(ports["coagulation"]) as two, Client(ports["snibe"]) as three:
             one.whole(TEXTS)

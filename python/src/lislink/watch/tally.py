@@ -112,7 +112,7 @@ class Tally:
             try:
                 self.count()
                 self.why = ""
-            except StoreError as error:
+            except (StoreError, OSError, ValueError) as error:
                 self.why = str(error)
             self._stop.wait(EVERY)
 

@@ -76,6 +76,9 @@ class Pages:
             return one(self, given)
         except (StoreError, WatchError) as error:
             return Answer(503, HTML, page.page("It can't be read", f'<p class="alarm">{page.safe(error)}</p>'))
+        except Exception as error:  # a page that can't be made is no reason to say nothing
+            why = f"{type(error).__name__}: {error}"
+            return Answer(500, HTML, page.page("It can't be shown", f'<p class="alarm">{page.safe(why)}</p>'))
 
     def _lines(self, _: Dict[str, str]) -> Answer:
         return Answer(200, HTML, page.lines_page(self.data(), self.tally))
