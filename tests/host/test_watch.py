@@ -175,7 +175,7 @@ class Watch(HostTest):
             rng = random.Random(seed)
             stream = b"".join(rng.choice(units) for _ in range(40))
             pulse = Pulse(240, 1.0)
-            probe, at = Probe(pulse, None, lambda text: None), 0
+            probe, at = Probe(pulse, None, lambda text, kind: None), 0
             with Receiver() as receiver:
                 while at < len(stream):
                     piece = stream[at : at + rng.randrange(1, 60)]
