@@ -244,7 +244,7 @@ class Found:
         return sum(one.again_of is not None for one in self.whole)
 
 
-def wait_for(holds, seconds=10.0):
+def wait_for(holds, seconds=60.0):
     """Whether something holds within this time."""
     over = time.monotonic() + seconds
     while time.monotonic() < over:

@@ -225,6 +225,9 @@ FAULTS = {
     "test_lines.Lines.test_written_addresses": Edit(
         "host/serve.py", "peer = plain_address(name[0])", "peer = name[0]"
     ),
+    "test_lines_file.LinesFile.test_two_hundred_lines": Edit(
+        "host/serve.py", "port.place = found", "port.place = None"
+    ),
     "test_lines_file.LinesFile.test_allow": Edit(
         "host/serve.py", "[*host.asked.networks, *place.allow]", "[*host.asked.networks]"
     ),

@@ -204,14 +204,14 @@ class LinesFile(HostTest):
             """How many messages of this line are acknowledged."""
             return sum(one[0].startswith(name) for one in acknowledged(log))
 
-        self.true("they send", wait_for(lambda: done("stays") and done("changes"), 20))
+        self.true("they send", wait_for(lambda: done("stays") and done("changes")))
         for turn in range(turns):
             before, encoding = done("changes"), ("gbk", "latin-1")[turn % 2]
             self.reload(host, file, sections(stays=stays, changes=f"{stays}\nencoding = {encoding}"))
             if turn % 2:
-                self.true(f"the other line goes on, {turn}", wait_for(lambda: done("changes") > before, 20))
+                self.true(f"the other line goes on, {turn}", wait_for(lambda: done("changes") > before))
         before = done("stays")
-        self.true("the line that stays goes on", wait_for(lambda: done("stays") > before, 20))
+        self.true("the line that stays goes on", wait_for(lambda: done("stays") > before))
         self.same("messages of sessions that were cut", Found(host.store).others, [])
         for one in senders:
             one.kill()
@@ -224,6 +224,22 @@ class LinesFile(HostTest):
                   repr(states["changes"]))
         kept = len(acknowledged(log))
         hosts.say(f"lines: {turns} reloads under {staying + changing} analyzers, {kept} messages acknowledged")
+
+    def test_two_hundred_lines(self):
+        """Two hundred lines of one file: each has its port, and all but the one that changes go on."""
+        names = [f"line{number}" for number in range(200)]
+        places = dict.fromkeys(names, "listen = 127.0.0.1:0")
+        host, file = self.begun("many", sections(**places))
+        told = lislab("lines", file, timeout=60).stdout.splitlines()[-1]
+        self.same("lislab lines", told, "lines 200 faults 0")
+        self.same("ports", len({self.port(host, name) for name in names}), 200)
+        open_ones = [Client(self.port(host, name)) for name in names[::20]]
+        self.reload(host, file, sections(**{**places, "line7": "listen = 127.0.0.1:0\nframe = 63993"}))
+        for one in open_ones:
+            self.true("a session after the file was read again", one.whole(TEXTS))
+            one.socket.close()
+        self.same("the host's status", host.stop(), 0)
+        self.same("messages", len(Found(host.store).whole), len(open_ones))
 
     def test_changes(self):
         """A session that goes on ends as it began; then the new settings are in force. Lines come and go."""

@@ -582,7 +582,7 @@ class Fire(HostTest):
                 host.kill()
                 host.start()
         self.true("both asked at once", contended)
-        self.true("all taken", wait_for(lambda: set(states(store).values()) == {"sent"}, 20), states(store))
+        self.true("all taken", wait_for(lambda: set(states(store).values()) == {"sent"}), states(store))
         found = states(store)
         host.stop()
         return found, taken, kills

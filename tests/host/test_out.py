@@ -171,7 +171,7 @@ class OutOf:
         shown = lislab("status", "--store", self.store, "--cursor", cursor).stdout
         self.has("the status before it", shown, "3 messages not delivered, the oldest of 2")
         going = subprocess.Popen([sys.executable, "-m", "lislink", *words], stderr=subprocess.DEVNULL, env=ENV)
-        self.true("it begins", wait_for(lambda: os.path.exists(cursor), 20))
+        self.true("it begins", wait_for(lambda: os.path.exists(cursor)))
         second = lislab(*words, "--once")
         self.same("one at a time", (second.returncode, "another delivery" in second.stderr), (3, True))
         going.kill()
