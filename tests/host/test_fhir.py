@@ -246,8 +246,9 @@ class Https(WithLibrary):
         with open(path, "w", encoding="ascii") as file:
             file.write("A: b:c\n\nAuthorization:Bearer x\n")
         self.same("headers", https.headers_of(path), {"A": "b:c", "Authorization": "Bearer x"})
-        for words in (["--to", "http://h/x"], ["--to", "https:///x"], ["--to", "https://u:p@h/"], ["--to", "https://h/a b"],
-                      ["--to", "https://h:x/"], ["--to", "d", "--headers", path], ["--to", "d", "--", "true"]):
+        for words in (["--to", "http://h/x"], ["--to", "https:///x"], ["--to", "https://u:p@h/"],
+                      ["--to", "https://h/a b"], ["--to", "https://h:x/"], ["--to", "d", "--headers", path],
+                      ["--to", "d", "--", "true"]):
             done = lislab("deliver", "--store", self.store, "--cursor", self.path("words.cursor"), *words)
             self.same(" ".join(words), done.returncode, 2)
         words = ["--to", "https://h/", "--ca", self.path("none.pem")]
