@@ -611,6 +611,7 @@ FAULTS = {
     "test_watch.Watch.test_a_ladder_as_it_goes": Edit(
         "watch/live.py", "over = self._begun[2] if self._carry else len(self.rows)", "over = len(self.rows)"
     ),
+    "test_watch.Watch.test_a_full_disk": Edit("watch/pulse.py", "|file too large|", "|"),
     "test_watch.Watch.test_faults": Edit(
         "watch/pulse.py", "verdict if isinstance(error, StoreError) else Verdict.TOO_BIG", "Verdict.STORE_GONE"
     ),
@@ -632,6 +633,9 @@ FAULTS = {
         "watch/commands.py", "return WRONG if client.is_bad(data) else GOOD", "return GOOD"
     ),
     "test_watch.Watch.test_socket": Edit("watch/unix.py", "os.umask(0o177)", "os.umask(0o022)"),
+    "test_watch_postgres.WatchPostgres.test_the_database_is_gone": Edit(
+        "watch/pulse.py", "disk is full|no space left|", "disk is full|no space left|connection|server|"
+    ),
     "test_watch_page.Alerts.test_alerts": Edit(
         "watch/metrics.py", '"lislab_texts_not_kept_total"', '"lislab_not_kept_total"'
     ),
@@ -647,7 +651,9 @@ FAULTS = {
     "test_watch_page.Looks.test_notify": Edit(
         "watch/notify.py", "if is_bad and self._bad.get(name) is None:", "if is_bad:"
     ),
-    "test_watch_page.Looks.test_tally": Edit("watch/tally.py", "self._number = found[-1].number", "self._number = found[0].number"),
+    "test_watch_page.Looks.test_tally": Edit(
+        "watch/tally.py", "self._number = found[-1].number", "self._number = found[0].number"
+    ),
     "test_watch_page.Looks.test_who_may_look": Edit(
         "watch/web.py", "hmac.compare_digest(found, token)", "bool(found)"
     ),

@@ -3,6 +3,7 @@ socket through which it looks."""
 import contextlib
 import os
 import random
+import resource
 import socket
 import stat
 from collections import Counter
@@ -162,6 +163,32 @@ class Watch(HostTest):
             self.true(f"{name}: a session after it", client.whole(TEXTS))
             wait_for(lambda: seen(host, name)["state"] == "good", WAIT)
             self.same(f"{name}: the line is good again", seen(host, name)["state"], "good")
+
+    def test_a_full_disk(self):
+        """No file may grow past a size: the line is bad. There is room again: after a session it is good."""
+        unlimited = (resource.RLIM_INFINITY, resource.RLIM_INFINITY)
+        limited = (300, resource.RLIM_INFINITY)
+        host = Host("spool:" + self.path("full.spool"), "--status", self.path("full"), scale=1.0,
+                    preexec_fn=lambda: resource.setrlimit(resource.RLIMIT_FSIZE, limited))
+
+        def state():
+            return ask(self.path("full") + ".watch", ask="lines")[0]["lines"]["fire"]
+
+        with Client(host.port) as client:
+            client.asks(ENQ)
+            client.send(frames([H + (b"C|1|I|" + b"x" * 100 + b"\r")])[0])
+            client.heard(1)
+            for number in (2, 3, 4):
+                client.send(frame(number, b"C|1|I|" + b"x" * 200 + b"\r"))
+            wait_for(lambda: state()["verdict"] == "disk-full", WAIT)
+            self.same("it is full", (state()["state"], state()["verdict"]), ("bad", "disk-full"))
+        resource.prlimit(host.process.pid, resource.RLIMIT_FSIZE, unlimited)
+
+        def is_good():
+            with Client(host.port) as after:
+                return after.whole(TEXTS) and state()["state"] == "good"
+
+        self.true("with room again", wait_for(is_good, WAIT), str(state()))
 
     def test_reasons(self):
         """Frames are counted by the reasons of a ladder, whatever comes and however it is cut."""
