@@ -70,6 +70,21 @@ class Tools(kit.Test):
     def test_api(self):
         self.counts("tools/api")
 
+    def test_crates(self):
+        self.counts("tools/crates")
+
+    def test_crates_sees_what_is_wrong(self):
+        """A picture without an arrow that crates.txt has."""
+        with tempfile.TemporaryDirectory() as folder:
+            shutil.copytree(os.path.join(kit.ROOT, "tools"), f"{folder}/tools")
+            shutil.copytree(os.path.join(kit.ROOT, "docs/pictures"), f"{folder}/docs/pictures")
+            wrong = kit.read("crates.txt").replace("lis_link lis_station lis_record", "lis_link lis_record")
+            with open(f"{folder}/crates.txt", "w", encoding="utf-8") as file:
+                file.write(wrong)
+            ran = subprocess.run([sys.executable, "tools/crates"], cwd=folder, capture_output=True, text=True)
+        good = "lis_c -> lis_station: one has it" in ran.stdout and ran.returncode == 1
+        self.check(good, "a missing arrow", ran.stdout)
+
     def test_man(self):
         self.counts("tools/man")
 
