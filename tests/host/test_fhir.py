@@ -53,6 +53,8 @@ class Fhir(HostTest):
         taken = fhir.bundle_of(stored(message("P|1", "O|1|S7|||||20261127093000", "R|1|^^^A|1|||||||||20261127103500")))
         self.has("that of the sample goes before", taken.decode(), '"effectiveDateTime":"2026-11-27T09:30:00')
         self.same("notes", [it["text"] for it in one["note"]], ["a comment", "repeat of message 00ff"])
+        mended = fhir.bundle_of(stored(message(*rows), reason="mended from 00fe: x")).decode()
+        self.same("a mended one is marked", mended.count('{"text":"mended from 00fe: x"}'), 4)
         self.same("a text has its unit", (two["valueString"], two["interpretation"], two["referenceRange"]),
                   ("neg mmol/L", [{"text": "!"}], [{"text": "usual"}]))
         self.has("a status that FHIR hasn't", str(two["note"]), "the analyzer's status is W")

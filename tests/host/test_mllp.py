@@ -115,6 +115,8 @@ class Oru(WithLibrary):
         self.same("one that isn't whole isn't written", made, [b"", b""])
         again = self.read(oru.oru_of(stored(message("P|1", "O|1|S7", "R|1|^^^A|1"), again_of="00ff")))
         self.same("a repeat is marked", str(again["NTE"][0](3)), "repeat of message 00ff")
+        mended = self.read(oru.oru_of(stored(message("P|1", "O|1|S7", "R|1|^^^A|1"), reason="mended from 00fe: x")))
+        self.same("a mended one is marked", [str(one(3)) for one in mended["NTE"]], ["mended from 00fe: x"])
 
     def test_random(self):
         """Random texts in each field: the library reads what was written."""

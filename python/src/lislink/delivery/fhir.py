@@ -8,7 +8,7 @@ from typing import Any, Dict, List, Optional
 
 from ..host.store import Stored
 from .numbers import Number, number_of, range_of
-from .results import Case, Ordered, Result, cases_of, iso_of, message_of
+from .results import Case, Ordered, Result, cases_of, iso_of, marks_of, message_of
 
 #: The system of identifiers: a message's key, and for a result the key with its place in the message.
 SYSTEM = "urn:lislab:message"
@@ -71,8 +71,7 @@ def _observation(one: Stored, name: str, case: Case, order: Ordered, result: Res
     notes = [{"text": each.text} for each in [*case.comments, *order.comments, *result.comments] if each.text.strip()]
     if result.status not in _STATUS:
         notes.append({"text": f"the analyzer's status is {result.status}"})
-    if one.again_of is not None:
-        notes.append({"text": f"repeat of message {one.again_of}"})
+    notes += [{"text": mark} for mark in marks_of(one)]
     if order.control:
         notes.append({"text": "a control, and no sample of a patient"})
     data = {

@@ -9,7 +9,7 @@ from .._library import LibraryMissing
 from ..host.store import Stored
 from ..message import Entry
 from .numbers import number_of, range_of
-from .results import Case, Comment, Ordered, Result, cases_of, message_of, text_of, time_of
+from .results import Case, Comment, Ordered, Result, cases_of, marks_of, message_of, text_of, time_of
 
 #: Status of a result (LIS02-A2, 10.9) and of an order's report (9.26) as those of HL7 tables 0085 and 0123. A letter
 #: that isn't here is P, with a comment: HL7 has another meaning for some of them.
@@ -89,14 +89,14 @@ def oru_of(one: Stored) -> bytes:
             18: "UNICODE UTF-8",
         },
     )
-    again = [] if one.again_of is None else [Comment("L", f"repeat of message {one.again_of}")]
+    marks = [Comment("L", mark) for mark in marks_of(one)]
     number = 0
     for place, case in enumerate(cases, 1):
         _patient(out, place, case)
         for order in case.orders:
             number += 1
-            _order(out, number, order, again)
-            again = []
+            _order(out, number, order, marks)
+            marks = []
     return out.bytes()
 
 

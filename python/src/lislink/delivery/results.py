@@ -80,6 +80,12 @@ def comments_of(entry: Entry) -> List[Comment]:
     return [Comment(one.text(3), text_of(one, 4)) for one in entry.notes if one.letter == "C"]
 
 
+def marks_of(one: Stored) -> List[str]:
+    """What is to be said of a whole message: which one it repeats, and what was mended in it."""
+    again = [] if one.again_of is None else [f"repeat of message {one.again_of}"]
+    return again + ([one.reason] if one.reason else [])
+
+
 def text_of(entry: Entry, field: int) -> str:
     """A field as its text; with components or repeats as `whole` has it."""
     parts = entry.parts(field)
