@@ -9,7 +9,7 @@ import tempfile
 import unittest
 from typing import NamedTuple
 
-from tests.host import SOURCE
+from tests.host import SOURCE, planted_delivery
 
 HERE = os.path.dirname(os.path.abspath(__file__))
 
@@ -37,73 +37,6 @@ WITH_THEIR_OWN = (
 )
 #: The other tests, and what each must notice.
 FAULTS = {
-    "test_aside.Asides.test_aside": Edit("delivery/aside.py", "if tries < self.most:", "if tries <= self.most:"),
-    "test_aside.Asides.test_aside_of_a_spool": Edit(
-        "host/deliver.py", "self._to.store.messages(held.number - 1, 1)", "self._to.store.messages(held.number, 1)"
-    ),
-    "test_aside.Asides.test_again_of_one_that_runs": Edit(
-        "host/deliver.py", "            grant(self._cursor.path, key)\n", ""
-    ),
-    "test_aside.Asides.test_each_write": Edit(
-        "host/deliver.py",
-        "            if self._aside is None or not self._aside.takes(one):\n                self._next(one)\n"
-        "            self._note(one)\n",
-        "            self._note(one)\n"
-        "            if self._aside is None or not self._aside.takes(one):\n                self._next(one)\n",
-    ),
-    "test_aside.Asides.test_random": Edit(
-        "host/deliver.py",
-        "                blocked |= set(held.samples)\n                continue\n            try",
-        "                continue\n            try",
-    ),
-    "test_aside.Asides.test_what_is_not_counted": Edit(
-        "host/deliver.py",
-        "raise Unreachable(str(error)) from None\n        except subprocess",
-        "raise Refused(str(error)) from None\n        except subprocess",
-    ),
-    "test_aside.Cursors.test_aside_that_cannot_be_written": Edit(
-        "host/deliver.py", "                if held.key not in self._sent:\n    ", "                if held:\n    "
-    ),
-    "test_aside.Cursors.test_damaged": Edit(
-        "delivery/aside.py",
-        "    except (OSError, ValueError) as error:\n        raise StoreError(f\"{path}: {error}\") from None",
-        "    except (OSError, ValueError):\n        return {}",
-    ),
-    "test_aside.Cursors.test_once": Edit(
-        "host/deliver.py",
-        "            if once:\n                raise\n            failed = str(error)",
-        "            failed = str(error)",
-    ),
-    "test_aside.Cursors.test_service": Edit(
-        "host/deliver.py",
-        "        if self._unnoted is not None:\n            self._note(self._unnoted)\n",
-        "",
-    ),
-    "test_codes.Codes.test_any_message": Edit("delivery/results.py", "if order.results]", "if order.results[1:]]"),
-    "test_codes.Codes.test_command": Edit(
-        "delivery/codes.py", "found[name] = found.get(name, 0) + 1", "found[name] = 1"
-    ),
-    "test_codes.Codes.test_forms": Edit("host/export.py", "lambda where: mark_of(where[3])", 'lambda where: ""'),
-    "test_codes.Table.test_encoding": Edit(
-        "delivery/codes.py", "escape + names[data] + escape if data in names else data", "data"
-    ),
-    "test_codes.Table.test_faults": Edit(
-        "delivery/codes.py", 'if factor != _ONE and not given.get("unit"):', 'if factor > 9 and not given.get("unit"):'
-    ),
-    "test_codes.Table.test_random": Edit(
-        "delivery/numbers.py",
-        "_EXACT.multiply(one.value, factor)",
-        "decimal.Decimal(str(float(one.value) * float(factor)))",
-    ),
-    "test_codes.Table.test_ranges": Edit(
-        "delivery/codes.py", "row.written(6) + (b\" \" + row.written(5)).rstrip()", "row.written(6)"
-    ),
-    "test_codes.Table.test_values": Edit("delivery/codes.py", "if unit == found.unit:", "if not unit:"),
-    "test_codes.Table.test_which_row": Edit(
-        "delivery/codes.py",
-        '(line, code, ""), ("", code, unit), ("", code, "")]',
-        '("", code, unit), (line, code, ""), ("", code, "")]',
-    ),
     "test_connect.Connect.test_two_lines": Edit(
         "host/serve.py", "in self._places.items() if isinstance(one, Listen)]", "in self._places.items() if one]"
     ),
@@ -133,21 +66,6 @@ FAULTS = {
     "test_connect.Connect.test_a_call_to_itself": Edit(
         "host/serve.py", 'name == transport.get_extra_info("sockname") or', 'name == () or'
     ),
-    "test_fhir.Fhir.test_fields": Edit("delivery/fhir.py", 'return f"{data:f}"', "return str(float(data))"),
-    "test_fhir.Fhir.test_structure": Edit(
-        "delivery/fhir.py", '_STATUS.get(result.status, "unknown")', "_STATUS.get(result.status, result.status)"
-    ),
-    "test_fhir.Https.test_answers": Edit("delivery/https.py", "422, 500)", "422, 500, 503)"),
-    "test_fhir.Https.test_certificate": Edit(
-        "delivery/https.py",
-        "return ssl.create_default_context(cafile=authority)",
-        "return ssl._create_unverified_context()",
-    ),
-    "test_fhir.Https.test_mllps": Edit(
-        "delivery/mllp.py", "            if self._context is not None:\n", "            if self._context is None:\n"
-    ),
-    "test_fhir.Https.test_posts": Edit("delivery/https.py", '"X-Request-ID": key', '"X-Request-ID": kind'),
-    "test_fhir.Https.test_words": Edit("delivery/https.py", "or parts.username or", "or"),
     "test_files.Whole.test_damaged": Edit(
         "host/commands.py", "return writing(path)", 'return contextlib.nullcontext(open(path, "wb"))'
     ),
@@ -273,25 +191,6 @@ FAULTS = {
     "test_mends.Mends.test_words": Edit(
         "host/options.py", "tuple(one for one in NAMES if one in given)", "tuple(given)"
     ),
-    "test_mllp.Oru.test_fields": Edit("delivery/oru.py", "10: one.key,", "10: one.line,"),
-    "test_mllp.Oru.test_no_library": Edit(
-        "delivery/oru.py", "        raise LibraryMissing(why) from None", "        raise"
-    ),
-    "test_mllp.Oru.test_page": Edit("delivery/oru.py", "25: _report(order),", "24: _report(order),"),
-    "test_mllp.Oru.test_random": Edit("delivery/oru.py", ', "&": "\\\\T\\\\"}', "}"),
-    "test_mllp.Oru.test_values": Edit(
-        "delivery/oru.py", 'return "SN", [number.comparator,', 'return "NM", [number.comparator,'
-    ),
-    "test_mllp.Receivers.test_answers": Edit(
-        "delivery/mllp.py", "            if control != key:\n                continue\n", ""
-    ),
-    "test_mllp.Receivers.test_closed_between": Edit(
-        "delivery/mllp.py", "            if fresh:\n", "            if key:\n"
-    ),
-    "test_mllp.Receivers.test_kills": Edit(
-        "delivery/mllp.py", "            if fresh:\n", "            return\n            if fresh:\n"
-    ),
-    "test_mllp.Receivers.test_rejected": Edit("delivery/mllp.py", '("AA", "CA"), ("AE",', '("AA", "CA", "AR"), ("AE",'),
     "test_notices.Said.test_a_bad_line": Edit(
         "host/notices.py",
         "[kind] += 1\n            return\n",
@@ -659,6 +558,7 @@ FAULTS = {
     ),
     "test_watch_page.Looks.test_words": Edit("watch/commands.py", "not (ask.allow and token)", "not (ask.allow or token)"),
 }
+FAULTS.update({name: Edit(*edit) for name, edit in planted_delivery.FAULTS.items()})
 #: Changes that mean nothing.
 HARMLESS = (
     Edit(

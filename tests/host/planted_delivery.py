@@ -1,0 +1,105 @@
+"""Faults in what brings messages out of a store (`planted.py`): in this file of lislink, this text becomes that."""
+
+FAULTS = {
+    "test_aside.Asides.test_aside": ("delivery/aside.py", "if tries < self.most:", "if tries <= self.most:"),
+    "test_aside.Asides.test_aside_of_a_spool": (
+        "host/deliver.py", "self._to.store.messages(held.number - 1, 1)", "self._to.store.messages(held.number, 1)"
+    ),
+    "test_aside.Asides.test_again_of_one_that_runs": (
+        "host/deliver.py", "            grant(self._cursor.path, key)\n", ""
+    ),
+    "test_aside.Asides.test_each_write": (
+        "host/deliver.py",
+        "            if self._aside is None or not self._aside.takes(one):\n                self._next(one)\n"
+        "            self._note(one)\n",
+        "            self._note(one)\n"
+        "            if self._aside is None or not self._aside.takes(one):\n                self._next(one)\n",
+    ),
+    "test_aside.Asides.test_random": (
+        "host/deliver.py",
+        "                blocked |= set(held.samples)\n                continue\n            try",
+        "                continue\n            try",
+    ),
+    "test_aside.Asides.test_what_is_not_counted": (
+        "host/deliver.py",
+        "raise Unreachable(str(error)) from None\n        except subprocess",
+        "raise Refused(str(error)) from None\n        except subprocess",
+    ),
+    "test_aside.Cursors.test_aside_that_cannot_be_written": (
+        "host/deliver.py", "                if held.key not in self._sent:\n    ", "                if held:\n    "
+    ),
+    "test_aside.Cursors.test_damaged": (
+        "delivery/aside.py",
+        "    except (OSError, ValueError) as error:\n        raise StoreError(f\"{path}: {error}\") from None",
+        "    except (OSError, ValueError):\n        return {}",
+    ),
+    "test_aside.Cursors.test_once": (
+        "host/deliver.py",
+        "            if once:\n                raise\n            failed = str(error)",
+        "            failed = str(error)",
+    ),
+    "test_aside.Cursors.test_service": (
+        "host/deliver.py",
+        "        if self._unnoted is not None:\n            self._note(self._unnoted)\n",
+        "",
+    ),
+    "test_codes.Codes.test_any_message": ("delivery/results.py", "if order.results]", "if order.results[1:]]"),
+    "test_codes.Codes.test_command": (
+        "delivery/codes.py", "found[name] = found.get(name, 0) + 1", "found[name] = 1"
+    ),
+    "test_codes.Codes.test_forms": ("host/export.py", "lambda where: mark_of(where[3])", 'lambda where: ""'),
+    "test_codes.Table.test_encoding": (
+        "delivery/codes.py", "escape + names[data] + escape if data in names else data", "data"
+    ),
+    "test_codes.Table.test_faults": (
+        "delivery/codes.py", 'if factor != _ONE and not given.get("unit"):', 'if factor > 9 and not given.get("unit"):'
+    ),
+    "test_codes.Table.test_random": (
+        "delivery/numbers.py",
+        "_EXACT.multiply(one.value, factor)",
+        "decimal.Decimal(str(float(one.value) * float(factor)))",
+    ),
+    "test_codes.Table.test_ranges": (
+        "delivery/codes.py", "row.written(6) + (b\" \" + row.written(5)).rstrip()", "row.written(6)"
+    ),
+    "test_codes.Table.test_values": ("delivery/codes.py", "if unit == found.unit:", "if not unit:"),
+    "test_codes.Table.test_which_row": (
+        "delivery/codes.py",
+        '(line, code, ""), ("", code, unit), ("", code, "")]',
+        '("", code, unit), (line, code, ""), ("", code, "")]',
+    ),
+    "test_fhir.Fhir.test_fields": ("delivery/fhir.py", 'return f"{data:f}"', "return str(float(data))"),
+    "test_fhir.Fhir.test_structure": (
+        "delivery/fhir.py", '_STATUS.get(result.status, "unknown")', "_STATUS.get(result.status, result.status)"
+    ),
+    "test_fhir.Https.test_answers": ("delivery/https.py", "422, 500)", "422, 500, 503)"),
+    "test_fhir.Https.test_certificate": (
+        "delivery/https.py",
+        "return ssl.create_default_context(cafile=authority)",
+        "return ssl._create_unverified_context()",
+    ),
+    "test_fhir.Https.test_mllps": (
+        "delivery/mllp.py", "            if self._context is not None:\n", "            if self._context is None:\n"
+    ),
+    "test_fhir.Https.test_posts": ("delivery/https.py", '"X-Request-ID": key', '"X-Request-ID": kind'),
+    "test_fhir.Https.test_words": ("delivery/https.py", "or parts.username or", "or"),
+    "test_mllp.Oru.test_fields": ("delivery/oru.py", "10: one.key,", "10: one.line,"),
+    "test_mllp.Oru.test_no_library": (
+        "delivery/oru.py", "        raise LibraryMissing(why) from None", "        raise"
+    ),
+    "test_mllp.Oru.test_page": ("delivery/oru.py", "25: _report(order),", "24: _report(order),"),
+    "test_mllp.Oru.test_random": ("delivery/oru.py", ', "&": "\\\\T\\\\"}', "}"),
+    "test_mllp.Oru.test_values": (
+        "delivery/oru.py", 'return "SN", [number.comparator,', 'return "NM", [number.comparator,'
+    ),
+    "test_mllp.Receivers.test_answers": (
+        "delivery/mllp.py", "            if control != key:\n                continue\n", ""
+    ),
+    "test_mllp.Receivers.test_closed_between": (
+        "delivery/mllp.py", "            if fresh:\n", "            if key:\n"
+    ),
+    "test_mllp.Receivers.test_kills": (
+        "delivery/mllp.py", "            if fresh:\n", "            return\n            if fresh:\n"
+    ),
+    "test_mllp.Receivers.test_rejected": ("delivery/mllp.py", '("AA", "CA"), ("AE",', '("AA", "CA", "AR"), ("AE",'),
+}
