@@ -113,6 +113,8 @@ FAULTS = {
     "no ENQ": Fault(lambda one: one.send(b"".join(frames(TEXTS))), "not-open", "no ENQ before them"),
     "another speed": Fault(lambda one: one.send(b"\xf8\x00\xfe\x1c"), "no-protocol", "4 bytes since .*, no ENQ"),
     "Telnet": Fault(lambda one: one.asks(ENQ) and one.send(b"\x021H|\\^&\r\0\x03E5\r\0"), "telnet", "speaks Telnet"),
+    "one number": Fault(lambda one: one.asks(ENQ) and [one.asks(frame(1, text)) for text in TEXTS], "lost",
+                        "4 frames since .* with the number of the one before and another text"),
     "a record that can't be read": Fault(lambda one: one.whole([H, b"R|1\r", b"L|1\r"]), "not-whole",
                                          "the last one is unreadable: record 2, from byte 6"),
 }

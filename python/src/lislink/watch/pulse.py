@@ -127,7 +127,7 @@ class Pulse:
             return says(Verdict.NO_DEVICE, self.begun, why=unusable)
         host = self._of("store") or self._of("late") or self._of("own")
         line = host or self._strange() or self._frames() or self._silent() or self._echo()
-        return line or self._of("messages") or self._well()
+        return line or self._of("lost") or self._of("messages") or self._well()
 
     def _of(self, kind: str) -> Optional[Says]:
         """What is said of a kind of trouble, if there is some."""
@@ -203,8 +203,8 @@ class Probe:
         self._got, self._stray, self._since, self._sent = bytearray(), bytearray(), (0.0, 0.0), b""
         #: The bytes of the unit that is open, those that are heard now, and where the next unit begins in them.
         self._carry, self._now, self._start = b"", b"", 0
-        #: The number that is due; whether a text is kept that wasn't answered yet.
-        self._due, self._is_kept = 1, False
+        #: The number that is due, the frame that was accepted last; whether a text is kept that wasn't answered yet.
+        self._due, self._frame, self._is_kept = 1, b"", False
 
     # ---- what came, and what it meant
 
@@ -248,15 +248,23 @@ class Probe:
         if step.note in (Note.OPENED, Note.ENDED, Note.TIMED_OUT):
             self._session(step.note)
         elif step.note in (Note.ACCEPTED, Note.DUPLICATE):
-            self.units, self._good = self.units + 1, self._good + 1
-            self._pulse.right("silent", "strange")
-            if step.note is Note.ACCEPTED:
-                self._due, self._pulse.polls, self._pulse.good_at = (self._due + 1) % 8, 0, time.monotonic()
-                self._pulse.right("frames", "hopeless")
+            self._accept(step, raw)
         elif step.note is Note.REFUSED or step.note in _FRAMES:
             self.units += 1
             self._pulse.right("silent", "strange")
             self._reject(step, raw)
+
+    def _accept(self, step: Step, raw: bytes) -> None:
+        """A frame is acknowledged: a new one, or one that came again by its number."""
+        frame, pulse = raw[raw.rfind(2) :], self._pulse
+        self.units, self._good = self.units + 1, self._good + 1
+        pulse.right("silent", "strange")
+        if step.note is Note.ACCEPTED:
+            self._due, pulse.polls, pulse.good_at = (self._due + 1) % 8, 0, time.monotonic()
+            pulse.right("frames", "hopeless")
+            self._frame = frame
+        elif self._frame and frame != self._frame:
+            pulse.wrong("lost", Verdict.LOST)
 
     def _reject(self, step: Step, raw: bytes) -> None:
         """A frame is rejected: the reason is that of a ladder."""
@@ -280,6 +288,7 @@ class Probe:
             return
         self._pulse.right("strange")
         self.is_open, self.opened, self.units, self._good, self._due = True, time.time(), 0, 0, 1
+        self._frame = b""
         self._since, self._stray = (self.opened, time.monotonic()), bytearray()
         self._got = bytearray(self._now[self._start : self._start + LOOKED_AT])
 
@@ -368,7 +377,7 @@ class Probe:
         pulse.messages[end.state] += 1
         if end.state == WHOLE:
             pulse.last = end.at
-            pulse.right("messages")
+            pulse.right("messages", "lost")
         else:
             pulse.wrong("messages", Verdict.NOT_WHOLE, f"{end.state}: {end.reason}")
 

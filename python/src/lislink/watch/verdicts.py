@@ -163,7 +163,7 @@ class Verdict(enum.Enum):
         BAD,
         "{frames} with the number of the one before and another text: acknowledged, and lost",
         "the sender doesn't count its frames, or missed an acknowledgement",
-        "",
+        "{frames} since {since} with the number of the one before and another text: acknowledged, and lost",
     )
     ETB = (
         "etb",
@@ -238,10 +238,22 @@ class Verdict(enum.Enum):
         _MEND_SUM,
         "it counts STX and leaves out ETX or ETB",
     )
-    SUM_WITHOUT_NUMBER = ("sum-without-number", BAD, "{share} rejected: {why}", _MEND_SUM, "it leaves out the frame number")
+    SUM_WITHOUT_NUMBER = (
+        "sum-without-number",
+        BAD,
+        "{share} rejected: {why}",
+        _MEND_SUM,
+        "it leaves out the frame number",
+    )
     SUM_OF_TEXT = ("sum-of-text", BAD, "{share} rejected: {why}", _MEND_SUM, "it counts the text alone")
     SUM_XOR = ("sum-xor", BAD, "{share} rejected: {why}", _MEND_SUM, "it is an exclusive or")
-    SUM_XOR_TEXT = ("sum-xor-text", BAD, "{share} rejected: {why}", _MEND_SUM, "it is an exclusive or without the number")
+    SUM_XOR_TEXT = (
+        "sum-xor-text",
+        BAD,
+        "{share} rejected: {why}",
+        _MEND_SUM,
+        "it is an exclusive or without the number",
+    )
     SUM_COMPLEMENT = ("sum-complement", BAD, "{share} rejected: {why}", _MEND_SUM, "it is the two's complement")
     SUM_WITH_CR = ("sum-with-cr", BAD, "{share} rejected: {why}", _MEND_SUM, "it counts the CR after it")
     OUT_OF_TURN = (
