@@ -503,6 +503,9 @@ FAULTS = {
     "test_status.Status.test_running": Edit(
         "host/status.py", "return not store.held_to_the_end and ", "return "
     ),
+    "test_systemd.Systemd.test_journal": Edit(
+        "host/said.py", "{' '.join(value.splitlines())}\\n", "{value}\\n"
+    ),
     "test_systemd.Systemd.test_notify": Edit("host/systemd.py", "    while seconds:\n", "    if seconds:\n"),
     "test_systemd.Systemd.test_units": Edit(
         "watch/commands.py", 'one.add_argument("--http", metavar', 'one.add_argument("--pages", metavar'

@@ -7,7 +7,9 @@ import signal
 import socket
 import subprocess
 import sys
+import unittest.mock
 
+from lislink.host import notices, said
 from tests import ROOT
 from tests.host.hosts import ENV, Host, HostTest
 
@@ -32,15 +34,41 @@ class Systemd(HostTest):
             os.kill(host.process.pid, signal.SIGCONT)
             self.same("alive again", one.recv(100), b"WATCHDOG=1")
             self.same("its status", host.stop(), 0)
-            said = []
+            rows = []
             one.settimeout(1)
-            while b"STOPPING=1" not in said:
-                said.append(one.recv(100))
-            self.same("it stops", said[-1], b"STOPPING=1")
+            while b"STOPPING=1" not in rows:
+                rows.append(one.recv(100))
+            self.same("it stops", rows[-1], b"STOPPING=1")
         for env in ({"NOTIFY_SOCKET": self.path("none")}, {"NOTIFY_SOCKET": "@lislab none", "WATCHDOG_USEC": "x"},
                     {"WATCHDOG_USEC": "100000", "WATCHDOG_PID": "1"}):
             host = Host(self.path("systemd.db"), env={**ENV, **env})
             self.same(f"{env}: a host all the same", (host.stop(), host.errors[-1]), (0, ""))
+
+    def test_journal(self):
+        """In the journal an entry has the name of its line; what is no journal, or takes nothing, gets a plain line."""
+        path = self.path("journal")
+        with socket.socket(socket.AF_UNIX, socket.SOCK_DGRAM) as one, open(self.path("errors"), "w+") as errors:
+            one.bind(path)
+            one.settimeout(60)
+            found = os.fstat(errors.fileno())
+            stream = f"{found.st_dev}:{found.st_ino}"
+            patch, speak = unittest.mock.patch, notices.Notices(said.say)
+            with patch.object(sys, "stderr", errors), patch.object(said, "JOURNAL", path):
+                speak.say("a\nLISLAB_X=1", "two\nlines")
+                with patch.dict(os.environ, JOURNAL_STREAM=stream):
+                    speak.say("chemistry\nLISLAB_X=1", "three\nlines")
+                    said.say("no line")
+                    with patch.object(said, "JOURNAL", self.path("none")):
+                        speak.say("b", "nobody takes it")
+                with patch.dict(os.environ, JOURNAL_STREAM="1:2"):
+                    speak.say("c", "another stream")
+            head = b"PRIORITY=4\nSYSLOG_IDENTIFIER=lislab\n"
+            self.same("an entry", one.recv(1000),
+                      head + b"LISLAB_LINE=chemistry LISLAB_X=1\nMESSAGE=chemistry LISLAB_X=1: three lines\n")
+            self.same("one of no line", one.recv(1000), head + b"MESSAGE=no line\n")
+            errors.seek(0)
+            self.same("plain lines", errors.read().splitlines(), [
+                "lislab: a LISLAB_X=1: two lines", "lislab: b: nobody takes it", "lislab: c: another stream"])
 
     @staticmethod
     def falls_silent(one):

@@ -5,6 +5,7 @@ from collections import Counter
 from typing import Callable, Dict, Optional, Tuple
 
 from ..link import FrameFault, Note, Step
+from .said import about
 
 #: So many notices of a line and a kind at once, and then one each so many seconds.
 AT_ONCE, SECONDS = 10, 30.0
@@ -44,13 +45,15 @@ class Notices:
             self.not_said.setdefault(name, Counter())[kind] += 1
             return
         dropped = self._dropped.pop((name, kind), 0)
-        self._say(f"{name}: {text}" + (f" ({dropped} notices before it were not said)" if dropped else ""))
+        with about(name):
+            self._say(f"{name}: {text}" + (f" ({dropped} notices before it were not said)" if dropped else ""))
 
     def say_dropped(self, all_of_them: bool = False) -> None:
         """Says how many were not said of the lines and kinds of which one could be said now, or of all."""
         for name, kind in list(self._dropped):
             if all_of_them or self._has_room((name, kind)):
-                self._say(f"{name}: {self._dropped.pop((name, kind))} notices of kind {kind} were not said")
+                with about(name):
+                    self._say(f"{name}: {self._dropped.pop((name, kind))} notices of kind {kind} were not said")
 
     def _has_room(self, key: Tuple[str, str]) -> bool:
         """Whether another notice may be said, which then is."""

@@ -1,17 +1,60 @@
 """What the host says, a line at a time. To say something never fails and never waits, whatever its reader does: what
-can't be written now is dropped."""
+can't be written now is dropped. If standard error is systemd's journal, an entry has the name of the line that it is
+about, as LISLAB_LINE."""
+import contextlib
+import contextvars
 import os
 import select
+import socket
 import sys
-from typing import Any
+from typing import Any, Iterator
 
 #: The most bytes of a line: so many fit into a pipe that takes anything.
 MOST = 2000
 
 
+#: The journal's socket, and the line that is spoken of.
+JOURNAL = "/run/systemd/journal/socket"
+_LINE: "contextvars.ContextVar[str]" = contextvars.ContextVar("line", default="")
+
+
+@contextlib.contextmanager
+def about(line: str) -> Iterator[None]:
+    """What is said meanwhile is about this line."""
+    token = _LINE.set(line)
+    try:
+        yield
+    finally:
+        _LINE.reset(token)
+
+
 def say(text: str) -> None:
     """A line on standard error."""
-    _put(sys.stderr, f"lislab: {text}")
+    if not (_is_journal() and _to_journal(text)):
+        _put(sys.stderr, f"lislab: {text}")
+
+
+def _is_journal() -> bool:
+    """Whether standard error is the journal's, as systemd says."""
+    stream = os.environ.get("JOURNAL_STREAM", "")
+    try:
+        found = os.fstat(sys.stderr.fileno()) if stream else None
+        return found is not None and stream == f"{found.st_dev}:{found.st_ino}"
+    except (AttributeError, OSError, ValueError):
+        return False
+
+
+def _to_journal(text: str) -> bool:
+    """Whether the journal took it."""
+    fields = {"PRIORITY": "4", "SYSLOG_IDENTIFIER": "lislab", "LISLAB_LINE": _LINE.get(), "MESSAGE": text}
+    rows = [f"{name}={' '.join(value.splitlines())}\n" for name, value in fields.items() if value]
+    try:
+        with socket.socket(socket.AF_UNIX, socket.SOCK_DGRAM | socket.SOCK_CLOEXEC) as one:
+            one.setblocking(False)
+            one.sendto("".join(rows).encode("utf-8", "replace"), JOURNAL)
+        return True
+    except OSError:
+        return False
 
 
 def announce(text: str) -> None:
