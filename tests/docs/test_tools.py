@@ -107,7 +107,8 @@ class Prove(kit.Test):
     def test_what_is_built_is_known(self):
         with tempfile.TemporaryDirectory() as folder:
             for it in ("tools", "crates", "tests/proofs"):
-                shutil.copytree(os.path.join(kit.ROOT, it), os.path.join(folder, it), ignore=shutil.ignore_patterns("out"))
+                out = shutil.ignore_patterns("out")
+                shutil.copytree(os.path.join(kit.ROOT, it), os.path.join(folder, it), ignore=out)
             for it in ("crates.txt", "HANDLES"):
                 shutil.copy(os.path.join(kit.ROOT, it), folder)
             os.mkdir(f"{folder}/bin")
