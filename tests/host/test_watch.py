@@ -3,6 +3,7 @@ socket through which it looks."""
 import contextlib
 import os
 import random
+import re
 import resource
 import socket
 import stat
@@ -156,15 +157,19 @@ class Watch(HostTest):
                     self.assertRegex(found["says"], one.says)
                     if one.heals:
                         clients[name].send(EOT)
-                        self.heals(host, name, port)
+                        self.heals(host, name, port, one.says)
         self.same("nothing is wrong with the host", hosts[""].says().count("given up"), 0)
 
-    def heals(self, host, name, port):
-        """A line is good again after a session as it should be."""
+    def heals(self, host, name, port, wanted):
+        """A line is good again after a session as it should be, and what was wrong is remembered."""
         with Client(port) as client:
             self.true(f"{name}: a session after it", client.whole(TEXTS))
             wait_for(lambda: seen(host, name)["state"] == "good", WAIT)
             self.same(f"{name}: the line is good again", seen(host, name)["state"], "good")
+            past = seen(host, name)["past"]
+            found = [one for one in past if re.search(wanted, one[2])]
+            self.same(f"{name}: what was wrong is remembered, once", len(found), 1)
+            self.true(f"{name}: and when", all(one[0] <= one[1] for one in past))
 
     def test_a_full_disk(self):
         """No file may grow past a size: the line is bad. There is room again: after a session it is good."""

@@ -222,9 +222,11 @@ class Looks(HostTest):
 
     def test_browser(self):
         """In a browser nothing of hostile contents runs; pages fit a screen and a phone, and renew themselves."""
-        self.needs("chromium", browser(), 47 + 2 * bool(PICTURES), "the pages of watch in a browser")
+        self.needs("chromium", browser(), 48 + 2 * bool(PICTURES), "the pages of watch in a browser")
         host = Host(self.path("browser.db"), "--listen", "127.0.0.1:0,name=" + HOSTILE[1].replace(",", ""), scale=1.0)
         with Client(host.port) as client:
+            rejected(client, frame(2, H))
+            client.send(b"\x04")
             client.whole(TEXTS)
         for name in HOSTILE[:8]:
             with Client(host.port) as client:
@@ -259,6 +261,7 @@ class Looks(HostTest):
                 self.same(f"{path}, {wide}: no link leads away", one.get("odd"), 0)
         whole_page = chromium("--dump-dom", f"http://127.0.0.1:{site.port}/").stdout
         self.has("the page by itself", whole_page, "all 6 frames rejected since")
+        self.has("what was bad before", whole_page, "What was bad since the host started")
         self.true("it renews itself", re.search(r'data-renewed="[1-9]', whole_page), whole_page[:300])
         self.true("without a fault", "data-failed" not in whole_page and "data-hacked" not in whole_page)
         line = chromium("--dump-dom", f"http://127.0.0.1:{site.port}/line?name=fire").stdout

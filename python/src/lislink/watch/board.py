@@ -53,6 +53,7 @@ class Board:
             "replies": one.replies,
             "reply_seconds": round(one.reply_seconds, 6),
             "frame": one.frame,
+            "past": list(one.past),
         }
 
     async def open(self, path: str, look: Callable[[], Dict[str, Any]]) -> None:

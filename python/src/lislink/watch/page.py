@@ -12,7 +12,7 @@ from ..host.export import time_text
 from ..host.store import WHOLE, Stored
 from ..message import KINDS, NAMES, Fault, Found, read_all
 from . import plot
-from .pulse import many
+from .pulse import PAST, many
 from .tally import DAY, HOUR, Head, Tally, share
 
 #: The most characters that are shown of a value; the most bytes of a message whose records are shown.
@@ -125,8 +125,23 @@ def lines_page(data: Mapping[str, Any], tally: Tally) -> str:
         f"</tr></thead><tbody>{rows}</tbody></table>"
     )
     why = f'<p class="alarm">The store can\'t be read: {safe(tally.why)}</p>' if tally.why else ""
-    live = f'<section data-live="lines">{head}<p>{total}</p><div class="wide">{table}</div></section>'
+    past = [(name, *each) for name, one in data["lines"].items() for each in one.get("past", [])]
+    live = f'<section data-live="lines">{head}<p>{total}</p><div class="wide">{table}</div>{past_table(past)}</section>'
     return page("Lines", live + why + _plots(tally, None), True)
+
+
+def past_table(past: Sequence[Any]) -> str:
+    """What was bad and is over, the last first: of which line, since when, until when, and why."""
+    if not past:
+        return ""
+    last = sorted(past, key=lambda one: float(one[2]), reverse=True)[:PAST]
+    rows = "".join(
+        f"<tr><td>{link('/line', name, name=name)}</td><td>{when(since)}</td><td>{when(until)}</td>"
+        f"<td>{safe(text)}</td></tr>"
+        for name, since, until, text in last
+    )
+    head = "<tr><th>line</th><th>bad since</th><th>until</th><th>why</th></tr>"
+    return f'<h2>What was bad since the host started</h2><div class="wide"><table>{head}{rows}</table></div>'
 
 
 def _down(data: Mapping[str, Any]) -> str:
@@ -176,6 +191,7 @@ def line_page(name: str, one: Mapping[str, Any], tally: Tally, more: LineData) -
     cells = "".join(f"<tr><td>{safe(key)}</td><td>{value}</td></tr>" for key, value in [*counts, *causes, *ended])
     advice = f'<p class="note">{safe(one["advice"])}</p>' if one["advice"] else ""
     body = f"""<section data-live="state"><p>{state(one)} {safe(one["says"])}</p>{advice}
+{past_table([(name, *each) for each in one.get("past", [])])}
 <h2>Since the host started</h2><table>{cells}</table></section>
 <h2>From the first byte to kept</h2>{_took(tally.took(name))}{_plots(tally, name)}
 <h2>Unfinished and unreadable messages</h2>{heads_table(more.trouble)}

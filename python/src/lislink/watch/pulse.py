@@ -2,8 +2,8 @@
 connection hears and what that meant; the pulse of a line has what its probes saw."""
 import re
 import time
-from collections import Counter
-from typing import Any, Callable, Dict, List, NamedTuple, Optional
+from collections import Counter, deque
+from typing import Any, Callable, Deque, Dict, List, NamedTuple, Optional, Tuple
 
 from ..field.faults import cause_of_frame
 from ..field.looks import has_bare_frames, is_hl7, parity_of, telnet_in
@@ -21,6 +21,8 @@ PATIENCE, QUIET = 10.0, 1800.0
 IN_A_ROW, EMPTY, ECHOES = 3, 5, 3
 #: So many reasons are told apart.
 REASONS = 16
+#: So much is remembered of what was bad.
+PAST = 50
 #: The most bytes that are looked at for another protocol; the most of a frame that is open.
 LOOKED_AT, OPEN_FRAME = 4096, 70_000
 #: The upper ends of the buckets of reply times, in seconds.
@@ -99,6 +101,8 @@ class Pulse:
         self.frame, self.scale, self.ring = frame, scale, Ring()
         self.begun, self.last = time.time(), None  # type: float, Optional[float]
         self.troubles: Dict[str, Trouble] = {}
+        #: What was bad and is over: since when, until when, and what was said of it.
+        self.past: "Deque[Tuple[float, float, str]]" = deque(maxlen=PAST)
         self.probes: "List[Probe]" = []
         #: How many connections there were; sessions in a row that had no byte between ENQ and EOT.
         self.connections = self.polls = 0
@@ -117,9 +121,23 @@ class Pulse:
         return one
 
     def right(self, *kinds: str) -> None:
-        """Something went right: what was wrong before is over."""
+        """Something went right: what was wrong before is over, and remembered if it was bad."""
         for kind in kinds:
-            self.troubles.pop(kind, None)
+            if kind in self.troubles:
+                self.remember(self._bad(kind))
+                del self.troubles[kind]
+
+    def remember(self, found: Optional[Says]) -> None:
+        """What was bad, if something was, is over."""
+        if found is not None:
+            self.past.append((found.since, time.time(), found.text))
+
+    def _bad(self, kind: str) -> Optional[Says]:
+        """What is said of a kind of trouble, if it is bad by itself."""
+        if kind == "hopeless":
+            return None
+        looks = {"frames": self._frames, "echo": self._echo}
+        return looks[kind]() if kind in looks else self._of(kind)
 
     def says(self, unusable: str = "") -> Says:
         """What is said of the line now; `unusable` is why its device can't be had, if it can't."""
@@ -257,6 +275,8 @@ class Probe:
     def _accept(self, step: Step, raw: bytes) -> None:
         """A frame is acknowledged: a new one, or one that came again by its number."""
         frame, pulse = raw[raw.rfind(2) :], self._pulse
+        if not self._good:
+            self._first_frame()
         self.units, self._good = self.units + 1, self._good + 1
         pulse.right("silent", "strange")
         if step.note is Note.ACCEPTED:
@@ -265,6 +285,15 @@ class Probe:
             self._frame = frame
         elif self._frame and frame != self._frame:
             pulse.wrong("lost", Verdict.LOST)
+
+    def _first_frame(self) -> None:
+        """A frame of a session is good: what was bad so far without one is over, also on other connections."""
+        pulse = self._pulse
+        for probe in pulse.probes:
+            if "silent" not in pulse.troubles:
+                pulse.remember(probe.silent())
+            if "strange" not in pulse.troubles:
+                pulse.remember(probe.strange())
 
     def _reject(self, step: Step, raw: bytes) -> None:
         """A frame is rejected: the reason is that of a ladder."""
@@ -282,7 +311,10 @@ class Probe:
 
     def _session(self, note: Note) -> None:
         """A session begins, or is over."""
+        found = self.silent() or self.strange()
         self._over(note)
+        if not {"silent", "strange"} & set(self._pulse.troubles):
+            self._pulse.remember(found)
         if note is not Note.OPENED:
             self._strays(self._now[self._start :])
             return
@@ -311,8 +343,8 @@ class Probe:
 
     def _without_frame(self, is_again: bool = False) -> "tuple[Verdict, str]":
         """What is wrong with a session in which no frame came; whether ENQ came again in it."""
-        got = bytes(self._got)
-        if got.translate(None, _SIGNALS):
+        got = bytes(self._got).translate(None, _SIGNALS)
+        if got:
             return protocol_of(got, Verdict.NO_UNIT if 2 in got else Verdict.NO_STX)
         before = self._pulse.troubles.get("silent")
         is_heard = not is_again and (before is None or before.verdict is not Verdict.NOT_HEARD)
