@@ -1,7 +1,7 @@
 """The published structure of FHIR R4 (4.0.1), as far as a Bundle of Observations uses it: the elements of each type,
-how often each may be, their types, the required codes, and the invariants. It was written from the definitions of
-Bundle, Observation and the data types, and over no code of this repository. It knows no terminology, no profile and no
-search."""
+how often each may be, their types, the required codes, and the invariants. It was written from memory, since the
+definitions could not be had on the machine, and over no code of this repository; nobody has compared it with them. It
+knows no terminology, no profile and no search."""
 import decimal
 import json
 import re
