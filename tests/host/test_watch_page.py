@@ -164,6 +164,8 @@ class Looks(HostTest):
         self.same("too many words", site.get("/?" + "&".join(f"a{at}=1" for at in range(20)))[0], 400)
         site = self.site(store, token="0123456789abcdef")
         basic = base64.b64encode(b"any:0123456789abcdef").decode()
+        found = site.get("/", Host="watch.example:8080", Authorization=f"Basic {basic}")[0]
+        self.same("by any name with a token", found, 200)
         for word, wanted in (("", 401), ("Bearer 0123456789abcdef", 200), (f"Basic {basic}", 200), ("Basic !", 401),
                              ("Bearer 0123456789abcdeg", 401), ("Basic " + base64.b64encode(b"x:y").decode(), 401)):
             for path in ("/", "/metrics", "/message?key=x"):

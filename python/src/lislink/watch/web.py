@@ -201,7 +201,10 @@ class Handler(BaseHTTPRequestHandler):
         return self.server.pages.answer(address.path, given)
 
     def _is_named(self) -> bool:
-        """Whether the request is for an address of this server, and not for a name that somebody else has given it."""
+        """Whether the request is for an address of this server, and not for a name that somebody else has given it. A
+        token, which a browser gives to the name that it was typed for, makes each name good."""
+        if self.server.asked.token:
+            return True
         name = self.headers.get("Host", "").rpartition(":")[0] or self.headers.get("Host", "")
         name = name.strip("[]")
         if name == "localhost" or name == self.server.asked.host:
