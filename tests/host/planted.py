@@ -526,7 +526,7 @@ FAULTS = {
         "watch/pulse.py", "            if pulse.polls < EMPTY:\n", "            if pulse.polls < 2:\n"
     ),
     "test_watch.Watch.test_reasons": Edit(
-        "watch/pulse.py", "raw = self._carry + self._now", "raw = self._now"
+        "watch/pulse.py", "raw = bytes(self._carry + self._now", "raw = bytes(self._now"
     ),
     "test_watch.Watch.test_ring": Edit(
         "watch/ring.py", "while len(self._held) - drop > self._most:", "while len(self._held) - drop > 2 * self._most:"

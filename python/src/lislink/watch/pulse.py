@@ -23,8 +23,9 @@ IN_A_ROW, EMPTY, ECHOES = 3, 5, 3
 REASONS = 16
 #: So much is remembered of what was bad.
 PAST = 50
-#: The most bytes that are looked at for another protocol; the most of a frame that is open.
-LOOKED_AT, OPEN_FRAME = 4096, 70_000
+#: The most bytes that are looked at for another protocol, and of those that come together with a signal; how many bytes a
+#: frame has besides its text, and some.
+LOOKED_AT, TOGETHER, BESIDES = 4096, 256, 64
 #: The upper ends of the buckets of reply times, in seconds.
 BUCKETS = (0.005, 0.01, 0.025, 0.05, 0.1, 0.25, 0.5, 1.0, 2.5, 5.0, 10.0)
 #: How a disk is full, in the words of SQLite, PostgreSQL and the system.
@@ -220,7 +221,7 @@ class Probe:
         #: What came since ENQ before a frame, or without a session, and since when it is so; what was sent last.
         self._got, self._stray, self._since, self._sent = bytearray(), bytearray(), (0.0, 0.0), b""
         #: The bytes of the unit that is open, those that are heard now, and where the next unit begins in them.
-        self._carry, self._now, self._start = b"", b"", 0
+        self._carry, self._now, self._start = bytearray(), b"", 0
         #: The number that is due, the frame that was accepted last; whether a text is kept that wasn't answered yet.
         self._due, self._frame, self._is_kept = 1, b"", False
 
@@ -244,7 +245,8 @@ class Probe:
     def hears(self, data: bytes) -> None:
         """Bytes that are heard from here on."""
         self._notices.hears(data)
-        self._carry = (self._carry + self._now[self._start :])[-OPEN_FRAME:]
+        self._carry += self._now[self._start :]
+        del self._carry[: -(self._pulse.frame + BESIDES)]
         self._now, self._start = data, 0
         if self.is_open and not self.units:
             self._got += data[: LOOKED_AT - len(self._got)]
@@ -260,9 +262,10 @@ class Probe:
     def step(self, place: int, step: Step) -> None:
         """What a byte meant, at this place of the bytes that are heard."""
         self._notices.step(place, step)
-        raw = self._carry + self._now[self._start : place + 1]
+        raw = bytes(self._carry + self._now[self._start : place + 1])
         if step.note is not Note.TIMED_OUT:
-            self._carry, self._start = b"", place + 1
+            self._carry.clear()
+            self._start = place + 1
         if step.note in (Note.OPENED, Note.ENDED, Note.TIMED_OUT):
             self._session(step.note)
         elif step.note in (Note.ACCEPTED, Note.DUPLICATE):
@@ -316,13 +319,13 @@ class Probe:
         if not {"silent", "strange"} & set(self._pulse.troubles):
             self._pulse.remember(found)
         if note is not Note.OPENED:
-            self._strays(self._now[self._start :])
+            self._strays(self._now[self._start : self._start + TOGETHER])
             return
         self._pulse.right("strange")
         self.is_open, self.opened, self.units, self._good, self._due = True, time.time(), 0, 0, 1
         self._frame = b""
         self._since, self._stray = (self.opened, time.monotonic()), bytearray()
-        self._got = bytearray(self._now[self._start : self._start + LOOKED_AT])
+        self._got = bytearray(self._now[self._start : self._start + TOGETHER])
 
     def _over(self, note: Optional[Note] = None) -> None:
         """The session is over: what it says of the line, if no frame of it was accepted."""
