@@ -6,8 +6,9 @@ each command of a page prints what the page says.
 A line '$ COMMAND' of a block is a command, and the lines up to the next one are their output, which also has what went
 to standard error. A line '..' is any lines, '..' at the end of a line any characters. The commands of a page run in
 turn in one folder with samples/, tools/ and build/, with a free port in the place of 4000. What they leave running ends
-with the page. A block of a shell that can't run here, since it takes minutes or needs a device, is marked ```sh norun.
-It is counted. Code that is no quotation is marked ```LANGUAGE sketch, and counted too.
+with the page. A block of a shell that can't run here, since it takes minutes or needs a device, is marked by a comment,
+<!-- norun -->, at the end of the last line before it. It is counted. Code that is no quotation is marked by
+<!-- sketch -->, and counted too.
 """
 import glob
 import os
@@ -35,13 +36,15 @@ COMMANDS = re.compile(
     r"tools/|tests/|conformance/run|examples/|build/)")
 FOLDERS = "docs|tests|tools|examples|crates|conformance|samples|include|bench|python|bindings"
 PATH = re.compile(rf"`((?:{FOLDERS})/[\w./+-]+)`")
-SHELL = {"sh", "sh norun", "console"}
+SHELL = {"sh", "console"}
+MARK = re.compile(r"<!-- (norun|sketch) -->\s*$")
 # The port of the pages' examples.
 PORT = re.compile(r"(?<=--listen )4000\b|(?<=\.py )4000\b|(?<=:)4000\b")
 
 
 def blocks(text):
-    """The code blocks of a page: the words behind its fence (none for an indented block), its lines, its first line."""
+    """The code blocks of a page: the words behind its fence (none for an indented block) and how it is marked, its
+    lines, its first line."""
     lines, at = text.split("\n"), 0
     while at < len(lines):
         begun = at
@@ -49,7 +52,9 @@ def blocks(text):
             at += 1
             while at < len(lines) and not lines[at].startswith("```"):
                 at += 1
-            yield lines[begun][3:].strip(), lines[begun + 1:at], begun + 1
+            above = MARK.search(next((line for line in reversed(lines[:begun]) if line.strip()), ""))
+            words = lines[begun][3:].strip().replace(" ", "+")
+            yield words + (f" {above[1]}" if above else ""), lines[begun + 1:at], begun + 1
         elif lines[at].startswith("    ") and (at == 0 or not lines[at - 1].strip()):
             while at < len(lines) and (lines[at].startswith("    ") or not lines[at].strip()):
                 at += 1
@@ -76,6 +81,7 @@ def check_block(test, page, words, lines, line, texts):
     """A block is a quotation, a sketch, a run of commands, or no shell at all."""
     text = "".join(f"{it}\n" for it in lines)
     language = words.split(" ")[0]
+    test.check("+" not in words, f"{page}:{line}: a fence has one word, not {words}")
     if words.endswith(" sketch"):
         test.sketches += 1
     elif words == "sh norun":
@@ -85,7 +91,7 @@ def check_block(test, page, words, lines, line, texts):
                    f"{page}:{line}: no file of {', '.join(SOURCES[language])} has this code:\n{text}")
     elif not any(it.startswith("$ ") for it in lines):
         found = next((it for it in lines if COMMANDS.match(it)), None)
-        test.check(found is None, f"{page}:{line}: '{found}' is neither run ($) nor marked (```sh norun)")
+        test.check(found is None, f"{page}:{line}: '{found}' is neither run ($) nor marked (<!-- norun -->)")
 
 
 def anchors(text):
