@@ -514,6 +514,9 @@ FAULTS = {
         "watch/live.py", "over = self._begun[2] if self._carry else len(self.rows)", "over = len(self.rows)"
     ),
     "test_watch.Watch.test_a_full_disk": Edit("watch/pulse.py", "|file too large|", "|"),
+    "test_watch.Watch.test_a_line_as_it_goes": Edit(
+        "watch/commands.py", "        after = int(head[\"next\"])\n", "        after = 0\n"
+    ),
     "test_watch.Watch.test_faults": Edit(
         "watch/pulse.py", "verdict if isinstance(error, StoreError) else Verdict.TOO_BIG", "Verdict.STORE_GONE"
     ),

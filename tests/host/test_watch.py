@@ -7,6 +7,8 @@ import re
 import resource
 import socket
 import stat
+import subprocess
+import threading
 from collections import Counter
 from typing import Callable, NamedTuple
 
@@ -19,7 +21,7 @@ from lislink.watch.live import LiveLadder
 from lislink.watch.pulse import Probe, Pulse
 from lislink.watch.unix import WatchError, ask
 from lislink.watch.verdicts import Meaning
-from tests.host.hosts import Host, HostTest, lislab, wait_for
+from tests.host.hosts import Host, HostTest, lislab, process, wait_for
 from tests.host.plain import frame
 from tests.host.test_lines import ACK, ENQ, EOT, NAK, TEXTS, Client, frames, session
 
@@ -336,6 +338,34 @@ class Watch(HostTest):
             list(live.grow([ring.Piece(at, 1, ">", session(TEXTS))]))
         self.true("what is held of a long look", len(live.rows) <= 100 and not live.texts, str(len(live.rows)))
         live.close()
+
+    def test_a_line_as_it_goes(self):
+        """`watch --line` prints rows as they come, and goes on with the host that is started after one that was killed;
+        `watch` that isn't a terminal prints a row when its line changes."""
+        host, rows, states = Host(self.path("goes.db"), scale=1.0), [], []
+        for words, found in ((["--line", "fire"], rows), ([], states)):
+            words = ["-m", "lislink", "watch", "--store", host.store, "--every", "0.1", *words]
+            one = process(words, stdout=subprocess.PIPE, stderr=subprocess.STDOUT)
+            threading.Thread(target=lambda one=one, found=found: found.extend(one.stdout), daemon=True).start()
+
+        def has(found, text, count=1):
+            return wait_for(lambda: sum(text in row for row in list(found)) >= count, WAIT)
+
+        for number in (1, 2):
+            with Client(host.port) as client:
+                client.whole(TEXTS)
+            self.true(f"session {number}: its rows", has(rows, "the session is ended", 2 * number - 1), str(rows))
+            self.true(f"session {number}: the line's state", has(states, "last message", number), str(states))
+            with Client(host.port) as client:
+                client.asks(ENQ + EOT)
+            more = has(rows, "the session is ended", 2 * number)
+            self.true(f"session {number}: and what comes next", more, str(rows))
+            self.same(f"session {number}: no row twice", sum("ENQ" in row for row in rows), 2 * number)
+            host.kill()
+            self.true(f"session {number}: no host", has(states, "the host isn't running", number), str(states))
+            if number == 1:
+                host.start()
+        self.true("that is said in the ladder", has(rows, "-- "), str(rows))
 
     def test_ring(self):
         """A ring has the last bytes in its room, whole pieces, each with its number."""

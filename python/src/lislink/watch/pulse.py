@@ -23,8 +23,8 @@ IN_A_ROW, EMPTY, ECHOES = 3, 5, 3
 REASONS = 16
 #: So much is remembered of what was bad.
 PAST = 50
-#: The most bytes that are looked at for another protocol, and of those that come together with a signal; how many bytes a
-#: frame has besides its text, and some.
+#: The most bytes that are looked at for another protocol, and of those that come together with a signal; how many bytes
+#: a frame has besides its text, and some.
 LOOKED_AT, TOGETHER, BESIDES = 4096, 256, 64
 #: The upper ends of the buckets of reply times, in seconds.
 BUCKETS = (0.005, 0.01, 0.025, 0.05, 0.1, 0.25, 0.5, 1.0, 2.5, 5.0, 10.0)
