@@ -256,6 +256,9 @@ FAULTS = {
     "test_orders.Answers.test_ways_to_say_nothing": Edit(
         "orders/order.py", '    if way == "L-I":\n', "    if way:\n"
     ),
+    "test_orders.Answers.test_an_order_that_cannot_be_written": Edit(
+        "host/outbox.py", "if placed and not good and query is not None", "if placed and good and query is not None"
+    ),
     "test_orders.Answers.test_worklists": Edit(
         "host/duplex.py", "if asked == self._site.place or (self._site.unasked and", "if asked == self._site.place or (not"
     ),
@@ -283,7 +286,7 @@ FAULTS = {
     "test_orders.Unheard.test_long_text": Edit("host/duplex.py", "PIECE = 1024", "PIECE = 1 << 20"),
     "test_orders.Unheard.test_heard_first": Edit("host/duplex.py", "if self._pieces:", "if self._pieces is None:"),
     "test_orders.Answers.test_last_try": Edit(
-        "host/outbox.py", "self._in_vain(batch.placed, why, self._tries)", "self._in_vain(batch.placed, why, 0)"
+        "host/outbox.py", "self._in_vain(site, batch.placed, why, self._tries)", "self._in_vain(site, batch.placed, why, 0)"
     ),
     "test_orders.Answers.test_a_whole_round": Edit(
         "host/asker.py", "(one for one in tests if one in known)", "(one for one in tests if one not in known)"

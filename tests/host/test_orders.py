@@ -43,6 +43,11 @@ FILES = {
     "no object": (b'{"sample": "S1", "tests": "K"}\n[1]\n', {1: ("S1", ("K",)), 2: None}),
     "a control byte": (b'{"sample": "S\\u0005", "tests": "K"}\n', {1: None}),
     "cut records": (b"H|\\^&\nP|1\nO|1|S1", {3: None}),
+    "another encoding": (b"sample,tests,name\nS1,K,M\xfcller\nS2,K,Doe\n", {2: None, 3: ("S2", ("K",))}),
+    "records in another encoding": (b"H|\\^&\nP|1||||M\xfcller\nO|1|S1||^^^K\nL|1\n", {2: None}),
+    "JSON in another encoding": (b'{"sample": "S1", "tests": "K"}\n{"sample": "\xfc", "tests": "K"}\n',
+                                 {1: ("S1", ("K",)), 2: None}),
+    "another column of CSV": (b"sample,tests,barcode\nS1,K,1\nS2,K,2\n", {1: None}),
     "nothing": (b"", {}),
 }
 
@@ -341,6 +346,22 @@ class Answers(HostTest):
             one.take(20)
         self.true("silence", True)
 
+    def test_an_order_that_cannot_be_written(self):
+        """A query whose only order can't be written in the line's encoding is answered that there is none."""
+        host, port = self.started(orders=("S7", "S\u03a9"), line="orders=ask,none=Q-X,encoding=utf-8")
+        one = Plain(port, SLOW)
+        one.send(query("S\u03a9"))
+        self.same("utf-8", samples_of(one.take()), ["S\u03a9"])
+        host, port = self.started(orders=("S7", "S8"), line="orders=ask,none=Q-X,encoding=ascii")
+        book = open_book(host.store)
+        book.add([Order("S9", ("K",), name="M\u00fcller")])
+        book.close()
+        one = Plain(port, SLOW)
+        one.send(query("S9"))
+        self.same("ascii", one.take()[1][:30], b"Q|1|^S9||^^^ALL||||||||X\r")
+        self.true("failed", wait_for(lambda: states(host.store)["S9"] == "failed"), states(host.store))
+        self.true("said", "asks: order 3 of sample S9 has failed: 'ü' isn't in ascii" in host.says(), host.says())
+
     def test_worklists(self):
         """`orders=send` sends what waits for the line unasked, also what is added later."""
         host, port = self.started(line="orders=send")
@@ -455,7 +476,7 @@ class Answers(HostTest):
         self.same("asks", one.byte(30), ENQ)
         one.close()
         self.true("failed", wait_for(lambda: states(host.store) == {"S7": "failed"}), states(host.store))
-        self.true("said", "order 1 has failed: the line was closed" in host.says(), host.says())
+        self.true("said", "order 1 of sample S7 has failed: the line was closed" in host.says(), host.says())
 
     def test_a_whole_round(self):
         """`lislab send --ask`: the orders are printed, and results sent for them."""

@@ -3,7 +3,7 @@ import asyncio
 import functools
 import re
 from concurrent.futures import ThreadPoolExecutor
-from typing import Any, Callable, List, NamedTuple, Optional, Sequence, Set
+from typing import Any, Callable, Dict, List, NamedTuple, Optional, Sequence, Set
 
 from ..orders.book import OrderBook, Placed
 from ..orders.order import ANSWERED, NORMAL, ORDERED, QUERIED, OrderError, nothing_of, texts_of, told_of
@@ -71,6 +71,8 @@ class Outbox:
         self._looking: "Optional[asyncio.Task[None]]" = None
         self._woken: List[Callable[[str, str], None]] = []
         self._said = ""
+        #: The last query of each place whose orders weren't taken yet.
+        self._queries: Dict[str, Query] = {}
 
     async def start(self) -> None:
         """Opens the store; StoreError."""
@@ -114,6 +116,7 @@ class Outbox:
     def forget(self, site: Site, woken: Callable[[str, str], None]) -> None:
         """The connection is over."""
         self._woken.remove(woken)
+        self._queries.pop(site.place, None)
         if self._book is not None:
             self._later(self._left(site))
 
@@ -160,6 +163,8 @@ class Outbox:
                 found += await self._run(self._book.ask, site.place, site.seat, site.line, query.wanted, ASKED)
         except StoreError as error:
             self._say(f"{site.line}: a query can't be looked up: {error}")
+        if found:
+            self._queries[site.place] = queries[0]
         if found or site.none == "silence":
             return None
         return Batch(self._nothing(site, queries[0]))
@@ -228,6 +233,9 @@ class Outbox:
         for place in [site.place, ""] if site.unasked else [site.place]:
             placed = await self._taken(site, place)
             good = [one for one in placed if self._can_be_written(site, one)]
+            query = self._queries.pop(site.place, None) if place else None
+            if placed and not good and query is not None and site.none != "silence":
+                return Batch(self._nothing(site, query))
             if good:
                 report, end = (QUERIED, ANSWERED) if place else (ORDERED, NORMAL)
                 return Batch(texts_of([one.order for one in good], site.encoding, report=report, end=end), good)
@@ -249,7 +257,7 @@ class Outbox:
             texts_of([one.order], site.encoding)
             return True
         except OrderError as error:
-            self._later(self._in_vain([one], str(error), 1))
+            self._later(self._in_vain(site, [one], str(error), 1))
             return False
 
     def sent(self, batch: Batch) -> None:
@@ -273,15 +281,16 @@ class Outbox:
         """It was sent in vain."""
         self._say(f"{site.line}: not sent: {batch.told}: {why}")
         if batch.placed:
-            self._later(self._in_vain(batch.placed, why, self._tries))
+            self._later(self._in_vain(site, batch.placed, why, self._tries))
 
-    async def _in_vain(self, placed: Sequence[Placed], why: str, most: int) -> None:
+    async def _in_vain(self, site: Site, placed: Sequence[Placed], why: str, most: int) -> None:
         assert self._book is not None
+        samples = {one.number: one.order.sample for one in placed}
         numbers = [one.number for one in placed]
         wait = WAITS[min(min(one.tries for one in placed), len(WAITS) - 1)] * self._scale
         try:
             for number in await self._run(self._book.tried, numbers, why, most, wait):
-                self._say(f"order {number} has failed: {why}")
+                self._say(f"{site.line}: order {number} of sample {samples[number]} has failed: {why}")
         except StoreError as error:
             self._say_once(f"orders can't be marked: {error}")
         self._in_hand.difference_update(numbers)

@@ -85,8 +85,37 @@ def orders_of(data: bytes, encoding: str = "utf-8") -> Iterator[Read]:
     the number of the record in the file."""
     text = data.lstrip(b"\xef\xbb\xbf \r\n\t")
     if re.match(rb"[Hh][!-/:-@\[-`{-~]{3}", text):
-        return _of_records(text, encoding)
-    return _of_json(data, encoding) if text.startswith(b"{") else _of_csv(data, encoding)
+        wrong = _not_in(re.sub(rb"\r\n?", b"\n", text), encoding)
+        return iter(sorted(wrong.items())) if wrong else _of_records(text, encoding)
+    rows = (_of_json if text.startswith(b"{") else _of_csv)(data, encoding)
+    return _without(rows, _not_in(data, encoding))
+
+
+def _without(rows: Iterator[Read], wrong: Dict[int, str]) -> Iterator[Read]:
+    """The rows of a file, with what is wrong with a line in the place of the row that it belongs to."""
+    left = sorted(wrong)
+    for line, found in rows:
+        bad = [one for one in left if one <= line]
+        left = left[len(bad) :]
+        for one in bad:
+            yield one, wrong[one]
+        if not bad:
+            yield line, found
+    for one in left:
+        yield one, wrong[one]
+
+
+def _not_in(data: bytes, encoding: str) -> Dict[int, str]:
+    """The lines of a file whose bytes aren't text in this encoding, each with why. An encoding of more than a byte for
+    a line's end is looked at as a whole."""
+    lines = data.split(b"\n") if "\n".encode(encoding) == b"\n" else [data]
+    found = {}
+    for number, line in enumerate(lines, 1):
+        try:
+            line.decode(encoding)
+        except UnicodeDecodeError as error:
+            found[number] = f"the byte {line[error.start]:02X} isn't {encoding}: name the file's encoding by --encoding"
+    return found
 
 
 def _of_json(data: bytes, encoding: str) -> Iterator[Read]:
@@ -113,6 +142,10 @@ def _of_csv(data: bytes, encoding: str) -> Iterator[Read]:
                 continue
             if names is None:
                 names = [cell.strip().lower() for cell in row]
+                unknown = [name for name in names if name and name not in COLUMNS]
+                if unknown:
+                    yield rows.line_num, f"there is no column {unknown[0]}: {', '.join(COLUMNS)}"
+                    return
                 if "sample" not in names or "tests" not in names:
                     yield rows.line_num, "the first line names the columns: sample and tests, and maybe " + ", ".join(
                         COLUMNS[2:]
