@@ -39,7 +39,7 @@ PATH = re.compile(rf"`((?:{FOLDERS})/[\w./+-]+)`")
 SHELL = {"sh", "console"}
 MARK = re.compile(r"<!-- (norun|sketch) -->\s*$")
 # The port of the pages' examples.
-PORT = re.compile(r"(?<=--listen )4000\b|(?<=\.py )4000\b|(?<=:)4000\b")
+PORT = re.compile(r"(?<=--listen )4000\b|(?<=\.py )4000\b|(?<=listen = )4000\b|(?<=:)4000\b")
 
 
 def blocks(text):
