@@ -240,13 +240,17 @@ class Watch(HostTest):
             file.write("sample,tests\nS1,GLU\n")
         lislab("order", "add", "--store", store, path)
         host = Host(store, "--listen", "127.0.0.1:0,name=two,orders=send",
-                    "--serial", f"{self.path('no device')}:9600,name=cable")
+                    "--serial", f"{self.path('no device')}:9600,name=cable", "--connect", "127.0.0.1:1,name=called")
         with Client(port_of(host, "two")) as client:
             self.same("the host asks for the line", client.heard(1), ENQ)
             wait_for(lambda: seen(host, "two")["verdict"] == "no-reply", WAIT)
             self.same("no reply", seen(host, "two")["verdict"], "no-reply")
         cable = seen(host, "cable")
         self.same("no device", (cable["state"], cable["verdict"]), ("bad", "no-device"))
+        wait_for(lambda: seen(host, "called")["verdict"] == "no-connection", WAIT)
+        called = seen(host, "called")
+        self.same("no connection", (called["state"], called["verdict"]), ("bad", "no-connection"))
+        self.has("no connection: why", called["says"], "the host can't connect: 127.0.0.1:1: Connection refused")
         self.has("no device: why", cable["says"], "No such file")
 
     def test_noise_is_not_bad(self):

@@ -223,7 +223,8 @@ def run(delivery: Delivery, once: bool) -> int:
                 raise
             failed = str(error)
         except (Refused, StoreError) as error:
-            failed = f"message {delivery.cursor.number} is the last that was delivered: {error}"
+            after = f"after message {delivery.cursor.number} " if delivery.cursor.number else ""
+            failed = f"nothing is delivered {after}as long as this holds: {error}"
         if one.done > done:
             done, wait = one.done, FIRST_WAIT
         if failed is not None:

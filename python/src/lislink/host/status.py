@@ -139,7 +139,7 @@ def text_of(data: Dict[str, Any]) -> str:
     if data["running"]:
         head = (
             f"the host is running since {data['since']}, process {data['process']}: {data['commits']} commits, "
-            f"{data['failed_commits']} failed; {data['refused_connections']} connections refused"
+            f"{data['failed_commits']} failed; {data['refused_connections']} connections turned away"
         )
         head = head if is_fresh(data["state_age"]) else f"the host is running{_old(data['state_age'])}"
     else:

@@ -3,9 +3,9 @@ import json
 import time
 from typing import Any, Callable, Dict, Iterable, Mapping, Optional
 
-from ..host.options import Place
+from ..host.options import Connect, Place
 from ..host.tape import Tape
-from .pulse import Probe, Pulse
+from .pulse import Probe, Pulse, Says
 from .unix import Door
 
 
@@ -29,16 +29,16 @@ class Board:
     def data(self, places: Iterable[Place], unusable: Mapping[str, str], state: Dict[str, Any]) -> Dict[str, Any]:
         """How the lines do that are asked for or connected, with the host's state."""
         asked = {place.name: self._pulse(place) for place in places}
+        called = {place.name for place in places if isinstance(place, Connect)}
         self._pulses = {name: one for name, one in self._pulses.items() if name in asked or one.probes}
         lines = {
-            name: self._line(one, unusable.get(name, ""), state["lines"].get(name, {}))
+            name: self._line(one.says(unusable.get(name, ""), name in called), one, state["lines"].get(name, {}))
             for name, one in sorted(self._pulses.items())
         }
         return {**state, "scale": self._scale, "lines": lines}
 
     @staticmethod
-    def _line(one: Pulse, unusable: str, counts: Dict[str, Any]) -> Dict[str, Any]:
-        found = one.says(unusable)
+    def _line(found: Says, one: Pulse, counts: Dict[str, Any]) -> Dict[str, Any]:
         return {
             **counts,
             "state": found.state,

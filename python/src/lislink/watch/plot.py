@@ -40,7 +40,9 @@ def svg(label: str, shown: Sequence[Bar], form: str) -> str:
     every = max(1, len(shown) // 6)
     for place in range(0, len(shown), every):
         when = time.strftime(form, time.localtime(shown[place].at))
-        parts.append(f'<text x="{LEFT + place * wide:.1f}" y="{HEIGHT - 6}">{when}</text>')
+        is_last = place + every >= len(shown)
+        x, side = (WIDTH, ' text-anchor="end"') if is_last else (LEFT + place * wide, "")
+        parts.append(f'<text x="{x:.1f}" y="{HEIGHT - 6}"{side}>{when}</text>')
     total = sum(one.many for one in shown)
     return (
         f'<svg class="plot" viewBox="0 0 {WIDTH} {HEIGHT}" role="img" aria-label="{label}: {total} in all, '

@@ -140,10 +140,12 @@ class Pulse:
         looks = {"frames": self._frames, "echo": self._echo}
         return looks[kind]() if kind in looks else self._of(kind)
 
-    def says(self, unusable: str = "") -> Says:
-        """What is said of the line now; `unusable` is why its device can't be had, if it can't."""
+    def says(self, unusable: str = "", is_called: bool = False) -> Says:
+        """What is said of the line now; `unusable` is why its device can't be had, or it can't be connected to, if that
+        is so."""
         if unusable:
-            return says(Verdict.NO_DEVICE, self.begun, why=unusable)
+            verdict = Verdict.NO_CONNECTION if is_called else Verdict.NO_DEVICE
+            return says(verdict, self.begun, why=unusable)
         host = self._of("store") or self._of("late") or self._of("own")
         line = host or self._strange() or self._frames() or self._silent() or self._echo()
         return line or self._of("lost") or self._of("messages") or self._well()

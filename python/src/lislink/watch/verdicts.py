@@ -444,6 +444,13 @@ class Verdict(enum.Enum):
         "{times} a text could not be kept since {since}: {why}",
     )
     NO_DEVICE = ("no-device", BAD, "", "look whether it is plugged in, and who may open it", "{why}")
+    NO_CONNECTION = (
+        "no-connection",
+        BAD,
+        "",
+        "see whether what listens there is on, and whether address, port and firewall are right",
+        "the host can't connect: {why}",
+    )
     NOT_HEARD = (
         "not-heard",
         BAD,
