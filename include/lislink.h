@@ -230,8 +230,8 @@ void lis_sender_end(lis_sender s);
  * LIS_STATUS_IN_SESSION while a session goes on, or LIS_STATUS_BAD_NUMBER for another limit, and nothing has changed.
  * With the long limit a frame may have more bytes than `lis_bytes` has room for: see lis_sender_frame. */
 lis_status lis_sender_set_limit(lis_sender *s, size_t limit);
-/* Adds a copy of a text to the next session: LIS_STATUS_OK; LIS_STATUS_FULL or LIS_STATUS_OUT_OF_MEMORY, and nothing has
- * changed. It may be called while a session goes on. */
+/* Adds a copy of a text to the next session: LIS_STATUS_OK; LIS_STATUS_FULL or LIS_STATUS_OUT_OF_MEMORY, and nothing
+ * has changed. It may be called while a session goes on. */
 lis_status lis_sender_add_text(lis_sender *s, const uint8_t *text, size_t text_len);
 /* Drops the texts of the next session. */
 void lis_sender_clear(lis_sender *s);
@@ -239,7 +239,8 @@ void lis_sender_clear(lis_sender *s);
  * LIS_STATUS_IN_SESSION, LIS_STATUS_NO_TEXT, or LIS_STATUS_TOO_LONG or LIS_STATUS_FORBIDDEN with the text and the
  * place. `fault` is always written, else 0; `out` only with OK. The session takes the texts: when it is over, however
  * it ended, the sender has none of them any more. So keep your own until LIS_OUTCOME_DONE, and add them again for
- * another try. If no session starts, the texts stay for the next one. */
+ * another try. If no session starts, the texts stay: after LIS_STATUS_TOO_LONG or LIS_STATUS_FORBIDDEN drop them by
+ * lis_sender_clear, and add the others again. */
 lis_status lis_sender_start(lis_sender *s, lis_bytes *out, lis_place *fault);
 /* Starts a session with texts that stay with the caller, and takes no memory: LIS_STATUS_OK, and `out` has ENQ;
  * LIS_STATUS_FULL if there are more than LIS_LIMIT_TEXTS; else as lis_sender_start. The texts that were added stay for
@@ -256,8 +257,9 @@ void lis_sender_reply(lis_sender *s, uint8_t byte, lis_bytes *out);
  * is to be sent. With the long limit lis_sender_reply takes up to 640 kB of the stack, lis_sender_frame 450 kB, and
  * lis_sender_timer 200 kB. */
 lis_status lis_sender_frame(lis_sender *s, uint8_t *out, size_t out_len, size_t *size);
-/* The phase's timer ran out: what is to be sent. `out` is always written. After a BUSY or a CONTENTION it is ENQ again;
- * else EOT, and the session is over, LIS_OUTCOME_TIMED_OUT. */
+/* The phase's timer ran out: what is to be sent. `out` is always written. After a BUSY or a CONTENTION it is ENQ again,
+ * however often: count, and give up by lis_sender_restart. Else it is EOT, and the session is over,
+ * LIS_OUTCOME_TIMED_OUT. */
 void lis_sender_timer(lis_sender *s, lis_bytes *out);
 /* Gives up the session that goes on, as when the connection is lost: the outcome is LIS_OUTCOME_RESTARTED, the texts of
  * the session are dropped, those added for the next one stay, and nothing is sent. A text of it may have arrived
@@ -643,7 +645,8 @@ void lis_writer_end(lis_writer s);
  * has changed. */
 lis_status lis_writer_start(lis_writer *s, const lis_delimiters *delimiters);
 /* Begins a record by the letter of its kind: LIS_STATUS_OK, or LIS_STATUS_BAD_LETTER and nothing has changed. A record
- * that was begun and not put is dropped. */
+ * that was begun and not put is dropped. The first field of 'H' is field 3, since its delimiters are written for you;
+ * that of any other record is field 2. */
 lis_status lis_writer_record(lis_writer *s, uint8_t letter);
 /* A component of the record's next field: one that more components of its repeat follow, the last one of a repeat that
  * another repeat follows, and the last one of all, which ends the field: LIS_STATUS_OK, LIS_STATUS_NO_RECORD, or

@@ -27,7 +27,7 @@ static uint8_t record(lis_writer *writer, const char *words) {
 }
 
 static bool message(lis_writer *writer) {
-    static const char *const records[] = {"H||||analyzer", "P|1", "O|1|S7||^^^GLU", "R|1|^^^GLU|5.4|mmol/L", "L|1|N"};
+    static const char *const records[] = {"H|||analyzer", "P|1", "O|1|S7||^^^GLU", "R|1|^^^GLU|5.4|mmol/L", "L|1|N"};
     static const char text[] = "R|1|^^^GLU|5.4|mmol/L\r";
     uint8_t out[64];
     size_t size, field;

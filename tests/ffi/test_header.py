@@ -10,7 +10,7 @@ from tests.ffi.c import HEADER, IN_C, IN_PYTHON, OURS, WARNINGS, compilers, fami
 
 SOURCES = os.path.join(ROOT, "crates/lis_c/src")
 TABLE = os.path.join(ROOT, "crates/lis_table/src/table.rt")  # it has the struct of a part
-PAGES = ["docs/EMBEDDING.md"]
+PAGES = ["docs/C.md", "docs/PYTHON.md", "docs/EMBEDDING.md"]
 NUMBERS = {"u8": "uint8_t", "u32": "uint32_t", "u64": "uint64_t", "usize": "size_t", "bool": "bool"}
 
 
@@ -117,7 +117,7 @@ class Header(kit.Test):
         files = [*glob.glob(f"{IN_C}/*"), *glob.glob(f"{IN_PYTHON}/*.py")]
         codes = [textwrap.dedent(open(file).read()) for file in files]
         for page in PAGES:
-            blocks = re.findall(r"^```(?:c|python)\n(.*?)^```$", kit.read(page), re.S | re.M)
+            blocks = re.findall(r"(?<!<!-- sketch -->\n)^```(?:c|python)\n(.*?)^```$", kit.read(page), re.S | re.M)
             for block in blocks:
                 deeper = [textwrap.indent(block, " " * depth) for depth in range(0, 21, 4)]
                 self.check(any(f"\n{it}" in f"\n{code}" for it in deeper for code in codes), page,

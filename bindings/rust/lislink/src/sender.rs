@@ -99,6 +99,7 @@ impl<'t> Sender<'t> {
     }
 
     /// A byte came over a connection. The bytes to be sent are good until the next call.
+    #[must_use = "these bytes are to be sent"]
     pub fn reply(&mut self, from: Connection, byte: u8) -> &[u8] {
         let mut out = Bytes::none();
         unsafe { sys::lis_line_reply(&mut self.line, from.0, byte, out.get()) };
@@ -115,6 +116,7 @@ impl<'t> Sender<'t> {
     }
 
     /// The phase's timer ran out.
+    #[must_use = "these bytes are to be sent"]
     pub fn timer(&mut self) -> Bytes {
         let mut out = Bytes::none();
         unsafe { sys::lis_line_timer(&mut self.line, out.get()) };
