@@ -90,7 +90,8 @@ LIS_ENUM(lis_status) {
     LIS_STATUS_IN_SESSION = 1,          /* a session is going on */
     LIS_STATUS_NO_TEXT = 2,             /* there is no text to send */
     LIS_STATUS_TOO_LONG = 3,            /* there are more bytes than the limit allows */
-    LIS_STATUS_FORBIDDEN = 4,           /* the text has a byte that no text may hold */
+    LIS_STATUS_FORBIDDEN = 4,           /* the text has a byte that no text may hold: in a frame and a session 1 to 6,
+                                         * 10 and 16 to 23; in a record any below 32 but 7, 9, 11 and 12, 127 and 255 */
     LIS_STATUS_FULL = 5,                /* there are as many texts as a session has */
     LIS_STATUS_OUT_OF_MEMORY = 6,
     LIS_STATUS_BAD_NUMBER = 7,          /* the number is not one of those that are known */
@@ -573,14 +574,14 @@ size_t lis_reader_size(void);
 size_t lis_reader_align(void);
 void lis_reader_init(void *at);
 void lis_reader_end(lis_reader s);
-/* Reads on: the bytes before the first CR, or a CR that comes first, which ends a record; answers how many it read.
- * `out` is always written. If it has LIS_FOUND_NOTHING, the reader holds the bytes that were read. A record's text and
- * parts can be read until the next call. If a record can't be read, none of these bytes count as read: stop there, for
- * the reader gives that fault for good; to read another stream, call _end and _init. It holds one record's bytes at
- * most. */
+/* Reads on: the bytes before the first CR, or a CR that comes first, which ends a record; answers how many it read. So
+ * a whole record takes two calls: its bytes, which give LIS_FOUND_NOTHING, and its CR. `out` is always written. If it
+ * has LIS_FOUND_NOTHING, the reader holds the bytes that were read. A record's text and parts can be read until the
+ * next call. If a record can't be read, none of these bytes count as read: stop there, for the reader gives that fault
+ * for good; to read another stream, call _end and _init. It holds one record's bytes at most. */
 size_t lis_reader_read(lis_reader *s, const uint8_t *bytes, size_t bytes_len, lis_found *out);
-/* A component of the record that was read last, as by lis_record_part; LIS_STATUS_NO_RECORD if none was found last. Each
- * call reads the record from its beginning: lis_reader_parts gives all components in one pass. */
+/* A component of the record that was read last, as by lis_record_part; LIS_STATUS_NO_RECORD if none was found last.
+ * Each call reads the record from its beginning: lis_reader_parts gives all components in one pass. */
 lis_status lis_reader_part(lis_reader *s, size_t field, size_t repeat, size_t component, uint8_t *out, size_t out_len,
                            size_t *size);
 /* The parts of a record that was read: how many they are, how many bytes its text has, and its delimiters. */

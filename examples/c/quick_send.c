@@ -9,14 +9,16 @@
 #include <time.h>
 #include <unistd.h>
 
-/* A byte that comes before this time. */
-static bool byte_until(int line, time_t due, uint8_t *byte) {
+/* Waits for a byte until this time: 1 if one came, 0 if none did, -1 if the line is closed. */
+static int byte_until(int line, time_t due, uint8_t *byte) {
     struct pollfd ready = {line, POLLIN, 0};
     time_t left = due - time(NULL);
-    return left > 0 && poll(&ready, 1, (int)left * 1000) == 1 && read(line, byte, 1) == 1;
+    if (left <= 0 || poll(&ready, 1, (int)left * 1000) == 0)
+        return 0;
+    return read(line, byte, 1) == 1 ? 1 : -1;
 }
 
-/* Sends what is due, and hears the replies, until the session is over. */
+/* Sends what is due, and hears the replies, until the session is over or the line is closed. */
 static void run(int line, lis_sender *sender, lis_bytes *out) {
     static const int seconds[] = {0, LIS_SECONDS_REPLY, LIS_SECONDS_BUSY, LIS_SECONDS_CONTENTION, LIS_SECONDS_REPLY};
     uint8_t phase, byte;
@@ -25,7 +27,10 @@ static void run(int line, lis_sender *sender, lis_bytes *out) {
             return;
         time_t due = time(NULL) + seconds[phase];
         do {
-            if (byte_until(line, due, &byte))
+            int came = byte_until(line, due, &byte);
+            if (came < 0)
+                return;
+            if (came > 0)
                 lis_sender_reply(sender, byte, out);
             else
                 lis_sender_timer(sender, out);

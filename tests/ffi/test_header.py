@@ -1,5 +1,5 @@
 """The header says what the exports take: names, parameters, structs and statuses; it compiles as C99 and as C++; and
-the code of C and Python that docs/EMBEDDING.md quotes is in a sample."""
+the code of C and Python that a page quotes is in a sample."""
 import glob
 import os
 import re

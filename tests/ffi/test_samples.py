@@ -147,6 +147,10 @@ def of_sender(test, work, how):
     good = good and ask(sender.line, b"\x15", EOT)
     test.check(good and sender.process.wait(10) == 1, "quick_send.c to a host that takes nothing")
     sender.line.close()
+    sender = InC([f"{work}/quick_send", "text"])
+    good = told(sender.line, 1) == ENQ and sender.line.sendall(b"\x15") is None
+    sender.line.close()
+    test.check(good and sender.process.wait(10) == 1, "quick_send.c to a host that is busy and closes the line")
 
 
 def paused(sample):

@@ -159,7 +159,9 @@ class Pulse:
         one = self.troubles.get("frames")
         if one is None or (one.count < IN_A_ROW and "hopeless" not in self.troubles):
             return None
-        found = says(one.verdict, one.since, one.count, why="; ".join(why for why, _ in one.why.most_common(2)))
+        most = one.why.most_common(2)
+        why = most[0][0] if len(most) == 1 else "; ".join(f"{count} times {why}" for why, count in most)
+        found = says(one.verdict, one.since, one.count, why=why)
         return found._replace(advice=one.advice or found.advice)
 
     def _strange(self) -> Optional[Says]:
