@@ -3,6 +3,7 @@
  * ours: so it waits first, and drops what came. A connection has to be new. */
 #include <lislink.h>
 #include <poll.h>
+#include <signal.h>
 #include <stdlib.h>
 #include <string.h>
 #include <termios.h>
@@ -60,5 +61,6 @@ static bool is_settled(int line) {
 }
 
 int main(int count, char **words) {
+    signal(SIGPIPE, SIG_IGN);                                            /* a write to a closed line fails, no more */
     return count == 2 && is_settled(0) && send_text(0, (const uint8_t *)words[1], strlen(words[1])) ? 0 : 1;
 }
