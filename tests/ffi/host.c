@@ -1,4 +1,4 @@
-/* examples/c/host.c over standard input, for tests/ffi: its timer is 300 ms; each text is printed, but one that
+/* examples/c/host.c over standard input, for tests/ffi: its timer is 1.5 s; each text is printed, but one that
  * begins with X can't be kept. */
 #include "../../examples/c/loops.h"
 #include <stdio.h>
@@ -9,5 +9,5 @@ static bool takes(void *keeper, const uint8_t *text, size_t len) {
 }
 
 int main(void) {
-    return host(0, takes, NULL, 1) == 0 ? 0 : 1;
+    return host(0, takes, NULL, 5) == 0 ? 0 : 1;
 }
