@@ -565,6 +565,7 @@ FAULTS = {
     "test_watch_page.Looks.test_who_may_look": Edit(
         "watch/web.py", "hmac.compare_digest(found, token)", "bool(found)"
     ),
+    "test_watch_page.Looks.test_delivered": Edit("host/deliver.py", '"key": one.key, "took": took}', '"key": one.key}'),
     "test_watch_page.Looks.test_words": Edit("watch/commands.py", "not (ask.allow and token)", "not (ask.allow or token)"),
 }
 FAULTS.update({name: Edit(*edit) for name, edit in planted_delivery.FAULTS.items()})

@@ -12,6 +12,7 @@ import sys
 import threading
 import time
 
+from lislink.host.deliver import read_took
 from lislink.host.export import time_text
 from lislink.host.store import UNREADABLE, WHOLE, Add, Begin, End, open_store
 from lislink.watch import metrics, page, plot, tally
@@ -20,7 +21,7 @@ from lislink.watch.notify import Notifier
 from lislink.watch.web import Asked, Pages, Server
 from tests import ROOT
 from tests.field.test_browser import PICTURES, browser, chromium
-from tests.host.hosts import ENV, Host, HostTest, process, wait_for
+from tests.host.hosts import ENV, Host, HostTest, lislab, process, wait_for
 from tests.host.test_lines import TEXTS, Client
 from tests.host.test_watch import WAIT, H, frame, port_of, rejected, seen
 
@@ -299,6 +300,24 @@ class Looks(HostTest):
                 out = os.path.join(ROOT, PICTURES, name + ".png")
                 chromium("--window-size=1366,768", f"--screenshot={out}", f"http://127.0.0.1:{site.port}{path}")
                 self.true(f"a picture {name}", os.path.exists(out))
+
+    def test_delivered(self):
+        """How long messages took from when they were kept until they were delivered is on the page."""
+        host, cursor = Host(self.path("took.db"), scale=1.0), self.path("lis.cursor")
+        with Client(host.port) as client:
+            client.whole(TEXTS)
+        site = self.site(host.store, host.store + ".watch", cursors=(cursor,))
+        head = "<h2>From kept to delivered, <bdi>lis.cursor</bdi></h2>"
+        self.has("none yet", site.get("/")[2], head + "<p>No message was counted.</p>")
+        done = lislab("deliver", "--store", host.store, "--cursor", cursor, "--once", "--directory", self.path("out"))
+        self.same("delivered", done.returncode, 0)
+        took = read_took(cursor)
+        self.true("how long it took", len(took) == 1 and 0 <= took[0] < 60, str(took))
+        text = site.get("/")[2].partition(head)[2]
+        self.has("on the page", text, f"<td>{took[0]:.3f} s</td>")
+        with open(cursor, "w", encoding="ascii") as file:
+            file.write('{"number": 1, "key": "k", "took": [1, "x"]}')
+        self.same("a file that is damaged", read_took(cursor), [])
 
     def test_metrics(self):
         """The metrics have Prometheus' form, names and types; what a host counts is in them."""

@@ -15,6 +15,10 @@ from .store import Store, StoreError, Stored
 POLL, FIRST_WAIT, LONGEST_WAIT = 1.0, 1.0, 60.0
 
 
+#: Of so many messages a cursor says how long they took.
+TOOK = 200
+
+
 class Refused(Exception):
     """A message could not be delivered."""
 
@@ -41,6 +45,8 @@ class Cursor:
             raise StoreError(f"{path}: another delivery has this cursor")
         self._lock = lock
         self.number, self.key = read_cursor(path)
+        #: How long the last messages took from when they were kept, in seconds.
+        self._took = read_took(path)
 
     def check(self, store: Store) -> None:
         """Whether the store has the message that was delivered last: else it isn't the same store any more."""
@@ -54,12 +60,14 @@ class Cursor:
     def move(self, one: Stored) -> None:
         """This message is delivered."""
         assert one.number is not None
+        took = [*self._took, round(max(0.0, time.time() - (one.ended or one.began)), 3)][-TOOK:]
+        data = {"number": one.number, "key": one.key, "took": took}
         try:
-            write_synced(self.path, (json.dumps({"number": one.number, "key": one.key}) + "\n").encode())
+            write_synced(self.path, (json.dumps(data) + "\n").encode())
         except OSError as error:
             why = f"{self.path}: {error.strerror or error}"
             raise NotNoted(f"{why}: message {one.number} {one.key} is done, and the cursor doesn't say so") from None
-        self.number, self.key = one.number, one.key
+        self.number, self.key, self._took = one.number, one.key, took
 
     def close(self) -> None:
         """Gives the file back."""
@@ -76,6 +84,15 @@ def read_cursor(path: str) -> "tuple[int, str]":
         return 0, ""
     except (OSError, ValueError, KeyError) as error:
         raise StoreError(f"{path}: {error}") from None
+
+
+def read_took(path: str) -> List[float]:
+    """How long the last messages of a delivery took from when they were kept, in seconds; none if the file says none."""
+    try:
+        with open(path, encoding="utf-8") as file:
+            return [float(one) for one in json.load(file).get("took", ())][-TOOK:]
+    except (OSError, ValueError, TypeError, AttributeError):
+        return []
 
 
 def to_directory(folder: str, form: str, write: Writer) -> Callable[[Stored], None]:

@@ -112,8 +112,8 @@ def state(one: Mapping[str, Any]) -> str:
     return f'<span class="state {one["state"]}">{MARKS[one["state"]]}</span>'
 
 
-def lines_page(data: Mapping[str, Any], tally: Tally) -> str:
-    """All lines, the bad ones first."""
+def lines_page(data: Mapping[str, Any], tally: Tally, delivered: Mapping[str, Sequence[float]]) -> str:
+    """All lines, the bad ones first; how long the last messages of each delivery took from when they were kept."""
     order = {"bad": 0, "quiet": 1, "good": 2}
     found = sorted(data["lines"].items(), key=lambda it: (order[it[1]["state"]], it[0]))
     rows = "".join(_line_row(name, one, tally.last(name)) for name, one in found)
@@ -127,7 +127,8 @@ def lines_page(data: Mapping[str, Any], tally: Tally) -> str:
     why = f'<p class="alarm">The store can\'t be read: {safe(tally.why)}</p>' if tally.why else ""
     past = [(name, *each) for name, one in data["lines"].items() for each in one.get("past", [])]
     live = f'<section data-live="lines">{head}<p>{total}</p><div class="wide">{table}</div>{past_table(past)}</section>'
-    return page("Lines", live + why + _plots(tally, None), True)
+    took = [f"<h2>From kept to delivered, {safe(name)}</h2>{_took(found)}" for name, found in delivered.items()]
+    return page("Lines", live + why + _plots(tally, None) + "".join(took), True)
 
 
 def past_table(past: Sequence[Any]) -> str:

@@ -3,6 +3,7 @@ set. The standard library's server is enough: a thread a request, and few who lo
 import base64
 import hmac
 import ipaddress
+import os
 import socket
 import threading
 import time
@@ -11,6 +12,7 @@ from typing import Any, Callable, Dict, List, NamedTuple, Optional, Sequence, Tu
 from urllib.parse import parse_qs, urlsplit
 
 from ..field.ladder import Ladder
+from ..host.deliver import read_took
 from ..host.options import Network, is_allowed, is_loopback
 from ..host.store import StoreError
 from . import metrics, page, tally
@@ -81,7 +83,8 @@ class Pages:
             return Answer(500, HTML, page.page("It can't be shown", f'<p class="alarm">{page.safe(why)}</p>'))
 
     def _lines(self, _: Dict[str, str]) -> Answer:
-        return Answer(200, HTML, page.lines_page(self.data(), self.tally))
+        delivered = {os.path.basename(one): sorted(read_took(one)) for one in self._cursors}
+        return Answer(200, HTML, page.lines_page(self.data(), self.tally, delivered))
 
     def _line(self, given: Dict[str, str]) -> Answer:
         name = given.get("name", "")
