@@ -25,7 +25,7 @@ class Status(HostTest):
                 (None, True, (1, True, None), "the host is running; there is no state that it wrote"),
                 (0, True, (0, True, 0), "the host is running since"),
                 (60, True, (1, True, 60), "the host is running; its state is 60 seconds old"),
-                (-3600, True, (1, True, -3600), "its state is 3600 seconds ahead of the clock"),
+                (-3600, True, (1, True, -3600), r"its state is (3600|35\d\d) seconds ahead of the clock"),
                 (0, False, (1, False, 0), "the host is not running"),
                 (-3600, False, (1, False, -3600), "the host is not running"),
             ):

@@ -19,8 +19,9 @@ HEAVY = {
     "records": b"H|\\^&\r" + b"C|1\r" * (MOST // 4 - 2),
     "bad messages": b"H|\\^&\rR\r" * (MOST // 8),
 }
-#: The longest that a reply may take meanwhile, in seconds: on a machine that does other work too.
-LONGEST = 0.6
+#: The longest that a reply may take meanwhile, in seconds; on a machine that does other work too, a share of the time
+#: that the text takes, in one of a few tries. Without turns it takes about as long as the text, or as a part of it.
+LONGEST, TRIES = 0.6, 3
 
 
 def sent(port, text):
@@ -55,13 +56,13 @@ class Turns(HostTest):
     """Texts that take long."""
 
     def test_sqlite(self):
-        """Each text, on a host with an SQLite file: other lines are answered meanwhile, and it is in the end."""
+        """Each text, on a host with an SQLite file: other lines are answered meanwhile."""
         for name, text in HEAVY.items():
-            self.is_shared(name, self.path(f"{name}.db"), text)
+            self.is_shared(name, self.path(f"{name}.db"), text, 1 / 2)
 
     def test_spool(self):
         """The same with a spool."""
-        self.is_shared("tiny messages", "spool:" + self.path("tiny"), HEAVY["tiny messages"])
+        self.is_shared("tiny messages", "spool:" + self.path("tiny"), HEAVY["tiny messages"], 1 / 8)
 
     def test_parts(self):
         """A commit has one part of a long text at most, and all else that waits."""
@@ -84,15 +85,32 @@ class Turns(HostTest):
         rest = [["text 0"], ["text 1"], ["text 2"], ["part 0"]], [["part 1"]], [["part 2"]]
         self.same("commits", commits, [[["first"]], *rest])
 
-    def is_shared(self, name, store, text):
-        """Sends a text, and other sessions while it is kept."""
+    def is_shared(self, name, store, text, share):
+        """Whether others are answered while a text is kept; tried again if not."""
+        told = []
+        for number in range(TRIES):
+            longest, took = self.waits(f"{store}.{number}", text)
+            told.append(f"{longest:.2f} s of {took:.2f} s")
+            if longest < max(LONGEST, share * took):
+                break
+        self.true(f"{name}: other lines are answered", longest < max(LONGEST, share * took), ", ".join(told))
+
+    def waits(self, store, text):
+        """Sends a text, and other sessions while it is kept: the longest wait of these, and how long it took."""
         host = Host(store, "--listen", "0,name=long,frame=63993", scale=1.0)
         port = next(int(row.split()[1].rsplit(":", 1)[1]) for row in host.rows if row.endswith(" long\n"))
-        over = threading.Event()
+        over, took = threading.Event(), []
         with sent(port, text) as client:
-            thread = threading.Thread(target=lambda: (client.heard(1, 8), over.set()), daemon=True)
+            begun = time.monotonic()
+
+            def hear():
+                client.heard(1, 8)
+                took.append(time.monotonic() - begun)
+                over.set()
+
+            thread = threading.Thread(target=hear, daemon=True)
             thread.start()
-            longest = longest_wait(host.port, 2, over)
-            self.true(f"{name}: other lines are answered", longest < LONGEST, f"{longest:.2f} s")
+            longest = longest_wait(host.port, 8, over)
+            thread.join()
         host.kill()
-        thread.join()
+        return longest, took[0]
