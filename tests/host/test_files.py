@@ -109,7 +109,7 @@ class Whole(HostTest):
         good, store = True, spool_of(folder)
         try:
             store.commit([unit("1"), unit("2")])
-            cursor.move(unittest.mock.Mock(number=7, key="another key"))
+            cursor.move(unittest.mock.Mock(number=7, key="another key", ended=1.0))
         except (StoreError, OSError):
             good = False
         store.close()

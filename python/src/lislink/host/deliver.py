@@ -87,7 +87,7 @@ def read_cursor(path: str) -> "tuple[int, str]":
 
 
 def read_took(path: str) -> List[float]:
-    """How long the last messages of a delivery took from when they were kept, in seconds; none if the file says none."""
+    """How long the last messages of a delivery took from when they were kept, in seconds; none if it isn't said."""
     try:
         with open(path, encoding="utf-8") as file:
             return [float(one) for one in json.load(file).get("took", ())][-TOOK:]
