@@ -1,11 +1,11 @@
 """A plain model of the link, of captures and of the commands, for tests to compare programs with; that of records is in
-record_model.py.
+record_model.py, that of two stations in station_model.py.
 
 They are written from docs/COMMANDS.md, CAPTURES.md, LINK.md and RECORDS.md, by the definitions and not by any program:
 a stream's signals are looked for by places, a message is read whole. Speed is no aim, but each function is linear in
 its input.
 
-    conformance/run 'python3 conformance/model.py answer' headers records scanner receiver sender texts link late
+    conformance/run 'python3 conformance/model.py answer' headers records scanner receiver sender texts link late both
     conformance/run 'python3 conformance/model.py' commands
 
 Calls that it does not know it answers by 'no call'.
@@ -17,6 +17,7 @@ from collections import namedtuple
 
 from record_model import (Refused, Run, check, delimiter_fault, end_fault, fed_word, read_header, read_record, read_stream,
                           record_word, results)
+from station_model import TwoWay
 
 STX, ETX, EOT, ENQ, ACK, LF, CR, NAK, ETB = 2, 3, 4, 5, 6, 10, 13, 21, 23
 USUAL, LONG = 240, 63993
@@ -659,6 +660,12 @@ class Answers:
 
     def late_play(self, *events):
         return self.played(Link(self.limit, True), events)
+
+    def both_play(self, *events):
+        line = TwoWay(self.limit, sys.modules[__name__])
+        for event in events:
+            line.happen(event)
+        return line.word()
 
     def played(self, link, events):
         for event in events:

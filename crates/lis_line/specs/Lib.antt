@@ -1,0 +1,3 @@
+-- What is played on a line between two stations.
+pub mod Events
+pub mod inside

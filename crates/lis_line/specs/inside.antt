@@ -1,0 +1,2 @@
+-- What proofs speak of. No public contract cites it.
+pub mod Kept
