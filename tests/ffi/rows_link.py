@@ -6,6 +6,7 @@ import model
 from lislink import (FrameFault, Kind, LinkError, Note, Outcome, Phase, Readiness, Receiver, Scanner, Sender, Status,
                      frame_bytes)
 from model import ACK, ENQ, EOT, LF, STX, bytes_of, word_of
+from tests.ffi import rows_both
 
 PHASES = {Phase.NEUTRAL: "Neutral", Phase.AWAIT_LINE: "AwaitLine", Phase.BUSY: "Busy", Phase.CONTENTION: "Contention",
           Phase.AWAIT_REPLY: "AwaitReply"}
@@ -293,6 +294,9 @@ class Ends:
 
     def late_play(self, *events):
         return played(LateLink(), events)
+
+    def both_play(self, *events):
+        return rows_both.played(events)
 
     def sender_state(self):
         one = self.sender

@@ -242,7 +242,7 @@ happens_both limit is_limit restart t h =
 happens_both limit is_limit (set_ready ready) t h = ready_both limit t h ready
 happens_both limit is_limit ask_turn t h = ask_both limit t h
 
-line_event_both : (limit : ℕ) (is_limit : IsLimit limit) (event : LineEvent) (t : TwoWay) → HoldsBoth limit t
+pub line_event_both : (limit : ℕ) (is_limit : IsLimit limit) (event : LineEvent) (t : TwoWay) → HoldsBoth limit t
     → HoldsBoth limit (after_line_event limit event t)
 line_event_both limit is_limit (at_analyzer event) t h = happens_both limit is_limit event t h
 line_event_both limit is_limit (at_computer event) t h =
@@ -271,7 +271,7 @@ new_back limit = record {
   can_ask = tt;
 }
 
-new_both : (limit : ℕ) → HoldsBoth limit new_two_way
+pub new_both : (limit : ℕ) → HoldsBoth limit new_two_way
 new_both limit = record {
   out = new_out limit;
   back = new_back limit;
@@ -283,7 +283,7 @@ new_both limit = record {
   far_answers = tt;
 }
 
-events_both : (limit : ℕ) (is_limit : IsLimit limit) (events : List LineEvent) (t : TwoWay) → HoldsBoth limit t
+pub events_both : (limit : ℕ) (is_limit : IsLimit limit) (events : List LineEvent) (t : TwoWay) → HoldsBoth limit t
     → HoldsBoth limit (fold (λ t event. after_line_event limit event t) t events)
 events_both limit is_limit [] t h = h
 events_both limit is_limit (event ∷ events) t h =

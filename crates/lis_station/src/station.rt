@@ -1,6 +1,6 @@
 //! A station: a sender and a receiver on one line.
 
-ghost use Rattle.std.specs.Prelude.{true, ◌≡◌, ◌≤◌, ◌<◌, ◌∷◌, max, take, None, Some, MatchResult, OnOk, OnErr};
+ghost use Rattle.std.specs.Prelude.{true, ◌≡◌, ◌≤◌, ◌<◌, ◌∷◌, max, take, length, None, Some, MatchResult, OnOk, OnErr};
 ghost use Rattle.lis_frame.specs.Limit.{IsLimit};
 ghost use Rattle.lis_text.specs.LinkText.{longest_text};
 ghost use Rattle.lis_link.specs.declared.sender.EmitOf.TheVariants as Emits;
@@ -227,6 +227,10 @@ impl<const N: usize, T: SessionTexts> StationOver<N, T> {
             SpareAfter self.old.receiver.spare self.new.receiver.spare
             (taken_by (on_station_bytes N bytes.now (station_at self.old r)).step.answer) }
         ensures room { KeepsStationRoom result.answer self.old.receiver self.new.receiver }
+
+        // What is reported without a state: some bytes are heard.
+        ensures bound { result.count ≤ length bytes.now }
+        ensures some { 0 < length bytes.now → 0 < result.count }
     {
         if self.awaits_reply() {
             return self.front(bytes);
@@ -248,6 +252,8 @@ impl<const N: usize, T: SessionTexts> StationOver<N, T> {
         ensures memory { IsOutOfMemory result.answer → ⊥ }
         ensures receiver { self.new.receiver ≡ self.old.receiver }
         ensures room { KeepsStationRoom result.answer self.old.receiver self.new.receiver }
+        ensures bound { result.count ≤ length bytes.now }
+        ensures some { 0 < length bytes.now → 0 < result.count }
     {
         if bytes.is_empty() {
             return HearingOf {

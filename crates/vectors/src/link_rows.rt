@@ -39,7 +39,7 @@ fn put_played<const N: usize>(played: Result<HistoryOf<N>, PlayFault>, answer: &
 }
 
 /// The events that the words of a call report; without them it is no call.
-fn events_of<E: FromWord>(call: Call<'_>, answer: &mut Answer) -> Option<List<E>> {
+pub(crate) fn events_of<E: FromWord>(call: Call<'_>, answer: &mut Answer) -> Option<List<E>> {
     if call.name != "play" {
         answer.no_call();
         return None;
@@ -55,7 +55,7 @@ fn events_of<E: FromWord>(call: Call<'_>, answer: &mut Answer) -> Option<List<E>
 }
 
 /// An event that a word can report.
-trait FromWord: Sized + Drop {
+pub(crate) trait FromWord: Sized + Drop {
     /// The event that a word reports, if it reports one.
     fn from_word(word: &str, answer: &mut Answer) -> Option<Self>;
 }
@@ -123,7 +123,7 @@ fn put_session<const N: usize>(session: &SessionOf<N>, answer: &mut Answer)
 }
 
 /// Puts frames, `none` where there are none.
-fn put_frames<const N: usize>(name: &str, frames: &FramesOf<N>, answer: &mut Answer)
+pub(crate) fn put_frames<const N: usize>(name: &str, frames: &FramesOf<N>, answer: &mut Answer)
     requires { IsLimit N }
 {
     answer.text(name);

@@ -5,13 +5,15 @@
 //!
 //! With words after its name it makes calls for the benchmark to time:
 //!
-//! vectors bytes hears the link bytes of standard input, and says how many texts were delivered vectors
-//! messages reads the record text of standard input, and says how many messages it holds vectors again 40 the
-//! same so many times, each time with the memory of the time before vectors play 40 plays a session of 1,000
-//! full frames so many times, and says how many were accepted
+//! - `vectors bytes` hears the link bytes of standard input, and says how many texts were delivered;
+//! - `vectors station` does the same by a station;
+//! - `vectors messages` reads the record text of standard input, and says how many messages it holds;
+//! - `vectors again 40` does so 40 times, each time with the memory of the time before;
+//! - `vectors play 40` plays a session of 1,000 full frames 40 times, and says how many were accepted.
 #![tactic(auto)]
 
 mod answer;
+mod both_rows;
 mod encoding;
 mod frame_rows;
 mod link_rows;

@@ -3,6 +3,7 @@
 ghost use Rattle.lis_frame.specs.Limit.{IsLimit};
 
 use crate::answer::Answer;
+use crate::both_rows::both_call;
 use crate::frame_rows::{frame_call, text_call};
 use crate::link_rows::{late_call, link_call};
 use crate::message_rows::Reading;
@@ -48,6 +49,7 @@ impl<const N: usize> Ends<N> {
             "receiver" => self.receiver_call(call, answer),
             "link" => link_call::<N>(call, answer),
             "late" => late_call::<N>(call, answer),
+            "both" => both_call::<N>(call, answer),
             _ => answer.no_call(),
         }
     }

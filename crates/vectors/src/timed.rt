@@ -1,8 +1,11 @@
 //! Calls that `lislink` doesn't make by themselves, for the benchmark to time: the receiver's hearing of bytes, the
 //! reading of messages as trees, and the playing of events.
 
+ghost use Rattle.std.specs.Prelude.{◌<◌, ◌≤◌, length};
+
 use lis_link::{Outcome, Receiver};
 use lis_message::read_messages;
+use lis_station::{AnswerOf, HearingOf, Role, Station};
 use lis_text::Texts;
 use lis_world::{Event, Events, Session, play};
 use std::alloc::Global;
@@ -24,8 +27,10 @@ const FULL: usize = 240;
 pub(crate) enum Asked {
     /// The answers of rows.
     Rows,
-    /// The hearing of link bytes.
+    /// The hearing of link bytes, by a receiver.
     Bytes,
+    /// The same, by a station.
+    Station,
     /// The reading of messages, so many times.
     Messages(u32),
     /// The playing of a session, so many times.
@@ -46,6 +51,7 @@ pub(crate) fn asked_by(words: &[String]) -> Option<Asked> {
 fn asked_once(what: &str) -> Option<Asked> {
     match what {
         "bytes" => Some(Asked::Bytes),
+        "station" => Some(Asked::Station),
         "messages" => Some(Asked::Messages(1)),
         _ => None,
     }
@@ -64,14 +70,18 @@ fn asked_again(what: &str, rounds: &str) -> Option<Asked> {
 /// Makes the calls that were asked for, and prints what they count.
 pub(crate) fn make_calls(rt: &HostRuntime, asked: Option<Asked>) -> ExitCode {
     match asked {
-        Some(Asked::Bytes) => report(rt, heard(rt.alloc(), &mut rt.reader())),
+        Some(Asked::Bytes) => report(rt, heard(Receiver::new(rt.alloc()), &mut rt.reader())),
+        Some(Asked::Station) => {
+            let station = Station::new(rt.alloc(), Role::Computer);
+            report(rt, heard(station, &mut rt.reader()))
+        }
         Some(Asked::Messages(rounds)) => {
             report(rt, in_messages(rt.alloc(), &mut rt.reader(), rounds))
         }
         Some(Asked::Play(rounds)) => report(rt, played(rt.alloc(), rounds)),
         Some(Asked::Rows) | None => {
             // If it can't be printed, the status still says it.
-            let _ = eprintln!(rt; "usage: vectors [bytes | messages | again ROUNDS | play ROUNDS]");
+            let _ = eprintln!(rt; "usage: vectors [bytes | station | messages | again ROUNDS | play ROUNDS]");
             ExitCode::from(2)
         }
     }
@@ -85,9 +95,34 @@ fn report(rt: &HostRuntime, count: Option<u64>) -> ExitCode {
     }
 }
 
-/// The number of texts that a receiver delivers of all that is read; none where a read fails.
-fn heard<R: Read>(alloc: Global, reader: &mut R) -> Option<u64> {
-    let mut receiver = Receiver::new(alloc);
+/// What hears link bytes.
+trait Hears: Drop {
+    /// Hears bytes: how many of them at once, and whether a text was delivered.
+    fn hear(&mut self, bytes: &[u8]) -> (usize, bool)
+        requires { 0 < length bytes.now }
+        ensures some { 0 < result.0 }
+        ensures bound { result.0 ≤ length bytes.now };
+}
+
+impl Hears for Receiver {
+    fn hear(&mut self, bytes: &[u8]) -> (usize, bool) {
+        let hearing = self.bytes(bytes);
+        (hearing.count, hearing.step.message.is_some())
+    }
+}
+
+impl Hears for Station {
+    fn hear(&mut self, bytes: &[u8]) -> (usize, bool) {
+        let HearingOf { count, answer } = self.bytes(bytes);
+        match answer {
+            AnswerOf::Emits(_emit) => (count, false),
+            AnswerOf::Hears(step) => (count, step.message.is_some()),
+        }
+    }
+}
+
+/// The number of texts that are delivered of all that is read; none where a read fails.
+fn heard<R: Read, H: Hears>(mut hearer: H, reader: &mut R) -> Option<u64> {
     let mut piece = [0; PIECE];
     let mut texts = 0;
     for _ in 0..u64::MAX {
@@ -95,18 +130,18 @@ fn heard<R: Read>(alloc: Global, reader: &mut R) -> Option<u64> {
         if count == 0 {
             return Some(texts);
         }
-        texts = delivered_texts(&mut receiver, &piece[..count], texts);
+        texts = delivered_texts(&mut hearer, &piece[..count], texts);
     }
     None
 }
 
 /// The number of texts that were delivered, with those of these bytes.
-fn delivered_texts(receiver: &mut Receiver, bytes: &[u8], texts: u64) -> u64 {
+fn delivered_texts<H: Hears>(hearer: &mut H, bytes: &[u8], texts: u64) -> u64 {
     let (mut place, mut texts) = (0, texts);
     while place < bytes.len() {
-        let hearing = receiver.bytes(&bytes[place..]);
-        place += hearing.count;
-        if hearing.step.message.is_some() {
+        let (count, is_delivered) = hearer.hear(&bytes[place..]);
+        place += count;
+        if is_delivered {
             texts = texts.saturating_add(1);
         }
     }
