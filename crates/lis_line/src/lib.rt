@@ -4,6 +4,7 @@
 mod end;
 mod event;
 mod item;
+pub mod laws;
 mod line;
 mod noise;
 mod playing;
