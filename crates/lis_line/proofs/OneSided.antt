@@ -656,23 +656,31 @@ rounds_carry limit (round ∷ rounds) w b t is_limit silent noticed h =
     (subst (λ (v : TwoWay). Carries limit (runs limit (flat_map round_events rounds) (runs limit (round_events round) w)) b v)
     (sym (line_runs-append limit (on_line round) (flat_map on_line rounds) t)) later)
 
--- the session that has begun goes on as in one direction
-abbrev session_rest : List Round → List Event
+-- the session that has begun goes on as in one direction, and leaves no unit on the line
+abbrev pub session_rest : List Round → List Event
 session_rest rounds = Deliver ∷ Reply ∷ (flat_map round_events rounds ++ Deliver ∷ [])
 
-session_carries :
+pub record IsOverThere (limit : ℕ) (w : World) (b : Beside) (t : TwoWay) : Type 0 where
+  pub carries : Carries limit w b t
+  pub no_units : w.units ≡ []
+
+pub session_carries :
     (limit : ℕ) (rounds : List Round) (w : World) (b : Beside) (t : TwoWay) → IsLimit limit → IsSilent b
     → All (IsNoticed limit) rounds → Carries limit w b t
-    → Carries limit (runs limit (session_rest rounds) w) b (line_runs limit (carrying at_analyzer at_computer rounds) t)
+    → IsOverThere limit (runs limit (session_rest rounds) w) b
+      (line_runs limit (carrying at_analyzer at_computer rounds) t)
 session_carries limit rounds w b t is_limit silent noticed h =
     let begun = reply_carries limit _ b _ is_limit (deliver_carries limit w b t is_limit silent h) in
     let v : World = runs limit (Deliver ∷ Reply ∷ []) w in
     let u : TwoWay = line_runs limit (at_computer arrive ∷ at_analyzer arrive ∷ []) t in
     let went = rounds_carry limit rounds v b u is_limit silent noticed begun in
-    let over_now = deliver_carries limit _ b _ is_limit silent went in
-    subst (λ (x : World). Carries limit x b (line_runs limit (carrying at_analyzer at_computer rounds) t))
+    let last : World = runs limit (flat_map round_events rounds) v in
+    let over_now : IsOverThere limit (after_event limit Deliver last) b
+    (after_line_event limit (at_computer arrive) (line_runs limit (flat_map on_line rounds) u)) = record {
+      carries = deliver_carries limit last b (line_runs limit (flat_map on_line rounds) u) is_limit silent went;
+      no_units = delivered_none limit last went.few;
+    } in
+    subst (λ (x : World). IsOverThere limit x b (line_runs limit (carrying at_analyzer at_computer rounds) t))
     (sym (runs-append limit (flat_map round_events rounds) (Deliver ∷ []) v))
-    (subst (λ (x : TwoWay). Carries limit
-    (after_event limit Deliver (runs limit (flat_map round_events rounds) v)) b x)
+    (subst (λ (x : TwoWay). IsOverThere limit (after_event limit Deliver last) b x)
     (sym (line_runs-append limit (flat_map on_line rounds) (at_computer arrive ∷ []) u)) over_now)
-

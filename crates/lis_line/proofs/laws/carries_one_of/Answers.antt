@@ -1,5 +1,5 @@
-use Rattle.lis_line.proofs.OneSided.{over}
+use Rattle.lis_line.proofs.BothCarried.{carries_one}
 use Rattle.lis_line.proofs.laws.carries_one_of.Goals as goal
 
 pub returns : goal.returns
-returns g c = ?
+returns g c = carries_one g.row.N c.requires
