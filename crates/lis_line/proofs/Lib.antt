@@ -2,3 +2,4 @@
 pub mod LineLaws
 pub mod OneSided
 pub mod BothCarried
+pub mod Settling
