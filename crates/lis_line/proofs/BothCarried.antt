@@ -1,24 +1,22 @@
 -- Sessions are carried through on a line between two stations: of one side alone, and of both if they ask at once.
-use Rattle.std.proofs.Common.{◌≡◌, ◌⊎◌, inl, inr, ℕ, zero, suc, ◌+◌, ◌-◌, ◌≤◌, Bool, true, false, List, [], ◌∷◌, ◌++◌}
-use Rattle.std.proofs.Common.{map, length, drop, Option, None, Some, refl, sym, ap, ◌∙◌, subst, arith}
-use Rattle.std.specs.List.{fold, flat_map}
+use Rattle.std.proofs.Common.{◌≡◌, ℕ, ◌+◌, ◌-◌, true, false, List, [], ◌∷◌, ◌++◌}
+use Rattle.std.proofs.Common.{map, length, Option, None, refl, sym, ap, ◌∙◌, subst, arith}
+use Rattle.std.specs.List.{flat_map}
 use Rattle.std.specs.Option.{option_map}
 use Rattle.std.proofs.lemmas.List.{length_push, map-append}
-use Rattle.lis_text.specs.Control.{ENQ}
 use Rattle.lis_frame.specs.Limit.{IsLimit}
-use Rattle.lis_link.specs.declared.sender.Phase.{Phase}
 use Rattle.lis_link.specs.declared.sender.Phase.TheVariants.{Neutral, Contention}
 use Rattle.lis_link.specs.declared.sender.StartFault.{StartFault}
 use Rattle.lis_link.specs.declared.receiver.Readiness.TheVariants.{Ready}
 use Rattle.lis_link.specs.Sender.{SenderState, started, bad_texts, start_fault_in, on_sender_timer}
 use Rattle.lis_link.specs.Receiver.{ReceiverState}
-use Rattle.lis_world.specs.declared.event.Event.TheVariants.{Start, Deliver}
+use Rattle.lis_world.specs.declared.event.Event.TheVariants.{Start}
 use Rattle.lis_world.specs.inside.Playing.{runs}
-use Rattle.lis_world.specs.Unit.{enquiry, Travelling}
+use Rattle.lis_world.specs.Unit.{enquiry}
 use Rattle.lis_world.specs.Session.{Session, new_session, session_at, changed, follows}
 use Rattle.lis_world.specs.World.{World}
 use Rattle.lis_world.specs.Steps.{begins, after_event}
-use Rattle.lis_world.specs.Progress.{Round, undisturbed, without_room, bad_frame, bad_reply, AreEnough, IsCarried, IsCalm, AreSendable, session_events}
+use Rattle.lis_world.specs.Progress.{Round, undisturbed, without_room, bad_frame, bad_reply, AreEnough, IsCarried, IsCalm}
 use Rattle.lis_world.specs.Recovery.{AreTexts}
 use Rattle.lis_world.proofs.Invariant.{Holds, InPhase}
 use Rattle.lis_world.proofs.Safety.{event_holds}
@@ -26,19 +24,18 @@ use Rattle.lis_world.proofs.SessionLemmas.{length-changed, kept-changed, at-more
 use Rattle.lis_world.proofs.Carrying.{carried}
 use Rattle.lis_station.specs.declared.station.StationFault.{StationFault}
 use Rattle.lis_station.specs.declared.station.StationFault.TheVariants as Faults
-use Rattle.lis_station.specs.declared.station.Turn.{Turn}
 use Rattle.lis_station.specs.declared.station.Turn.TheVariants.{Free}
-use Rattle.lis_station.specs.Station.{StationState, awaits_reply, station_fault_by, station_fault, timed_by}
-use Rattle.lis_station.specs.Line.{End, TwoWay, Item, sent, answered, turned, units_of, texts_of, begins_out, put_out}
-use Rattle.lis_station.specs.Line.{with_session, asks_anew, forgotten_out, timed, sender_timed, StationEvent, start, arrive}
+use Rattle.lis_station.specs.Station.{StationState, awaits_reply, station_fault_by, station_fault}
+use Rattle.lis_station.specs.Line.{End, TwoWay, sent, answered, turned, units_of, texts_of, begins_out}
+use Rattle.lis_station.specs.Line.{asks_anew, forgotten_out, timed, sender_timed, StationEvent, start, arrive}
 use Rattle.lis_station.specs.Line.{new_two_way, two_way, timer, LineEvent, at_analyzer, at_computer, after_line_event}
 use Rattle.lis_station.specs.inside.Line.{answers_of}
 use Rattle.lis_station.proofs.Shadow.{HoldsOut, AsksWith, CanAsk, shadow_in}
 use Rattle.lis_station.proofs.Events.{HoldsBoth}
 use Rattle.lis_station.proofs.TwoWayLaw.{events_both, new_both}
-use Rattle.lis_line.specs.Progress.{IsReady, IsCalmLine, round_on_line, carrying, alone, both_ask, HasDone}
+use Rattle.lis_line.specs.Progress.{IsCalmLine, round_on_line, carrying, alone, both_ask, HasDone}
 use Rattle.lis_line.specs.Progress.{CarriesOne, CarriesBoth}
-use Rattle.lis_line.proofs.OneSided.{Beside, IsSilent, IsOver, over, Carries, IsOverThere, session_carries, session_rest}
+use Rattle.lis_line.proofs.OneSided.{Beside, IsSilent, IsOver, over, Carries, session_carries, session_rest}
 use Rattle.lis_line.proofs.OneSided.{line_runs, line_runs-append, NoEot}
 
 -- ---- a direction in which no session goes on, with nothing on the line

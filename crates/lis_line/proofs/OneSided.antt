@@ -2,11 +2,11 @@
 use Rattle.std.proofs.Common.{◌≡◌, ◌⊎◌, inl, inr, ℕ, zero, suc, ◌+◌, Bool, true, false, List, [], ◌∷◌, ◌++◌, map, Option, None, Some}
 use Rattle.std.proofs.Common.{refl, sym, ap, ◌∙◌, subst, append_assoc, append-nil, arith, length, ◌≤◌}
 use Rattle.std.specs.List.{fold, flat_map}
-use Rattle.std.specs.Prelude.{All, ◌≢◌, ◌==◌, ◌||◌, ◌&&◌, not, if◌then◌else◌}
+use Rattle.std.specs.Prelude.{All, ◌≢◌, ◌==◌, ◌||◌, if◌then◌else◌}
 use Rattle.std.proofs.lemmas.List.{map_push, length_push}
 use Rattle.std.proofs.lemmas.List.Elements.{All-head, All-tail}
 use Rattle.std.proofs.lemmas.Bool.{cond_both, ne_eqb}
-use Rattle.lis_text.specs.Control.{EOT, ACK, ENQ, NAK, STX, LF}
+use Rattle.lis_text.specs.Control.{EOT, ACK, STX, LF}
 use Rattle.lis_frame.specs.Frame.{FrameContent}
 use Rattle.lis_frame.specs.Limit.{IsLimit}
 use Rattle.lis_frame.specs.Stream.{signal_after, signals_after}
@@ -20,7 +20,7 @@ use Rattle.lis_link.specs.declared.sender.Phase.{Phase}
 use Rattle.lis_link.specs.declared.sender.Phase.TheVariants as Phases
 use Rattle.lis_link.specs.declared.sender.EmitOf.{EmitOf}
 use Rattle.lis_link.specs.declared.sender.EmitOf.TheVariants as Emits
-use Rattle.lis_link.specs.Sender.{SenderState, SenderStep, on_reply}
+use Rattle.lis_link.specs.Sender.{SenderState, on_reply}
 use Rattle.lis_link.specs.Receiver.{ReceiverState, ReceiverStep, on_byte, heard as receiver_heard, heard_by, classified}
 use Rattle.lis_link.specs.Receiver.{on_classified, answered_request}
 use Rattle.lis_world.specs.declared.event.Event.{Event}
@@ -30,20 +30,20 @@ use Rattle.lis_world.specs.Progress.{Round, undisturbed, without_room, bad_frame
 use Rattle.lis_world.proofs.Invariant.{Holds, InPhase}
 use Rattle.lis_world.proofs.Safety.{event_holds}
 use Rattle.lis_world.proofs.Carrying.{runs-append}
-use Rattle.lis_world.specs.Unit.{Load, enquiry, ending, one_frame, Travelling, load_bytes}
+use Rattle.lis_world.specs.Unit.{enquiry, ending, one_frame, Travelling, load_bytes}
 use Rattle.lis_world.specs.Session.{Session, with_more, changed, sends_frame}
-use Rattle.lis_world.specs.World.{World, ComputerState, computer_state_of, after_note, booked, hears, replies_with, lowered}
+use Rattle.lis_world.specs.World.{World, ComputerState, computer_state_of, after_note, booked, hears, replies_with}
 use Rattle.lis_world.specs.World.{settled}
 use Rattle.lis_world.specs.Steps.{emitted, with_sender, sender_steps, delivered, damaged, replied, reply_damaged}
 use Rattle.lis_world.specs.Steps.{room_at, is_noticed, after_event}
 use Rattle.lis_line.specs.Progress.{round_on_line, carrying}
 use Rattle.lis_station.specs.declared.station.Role.{Role}
 use Rattle.lis_station.specs.declared.station.Turn.{Turn}
-use Rattle.lis_station.specs.Station.{StationState, StationStep, awaits_reply, turn_reply, asking, asks_after}
-use Rattle.lis_station.specs.Station.{turn_after_note, turn_after_reply, given_reply, routed, heard}
+use Rattle.lis_station.specs.Station.{StationState, awaits_reply, turn_reply, asking, asks_after}
+use Rattle.lis_station.specs.Station.{turn_after_note, turn_after_reply, given_reply, routed}
 use Rattle.lis_station.specs.Line.{Item, sent, answered, TwoWay, turned, noted, reply_out, steps, comes, left_line, arrives}
 use Rattle.lis_station.specs.Line.{receiver_went, sender_went, is_noise}
-use Rattle.lis_station.specs.Line.{emitted_out, followed_by, with_station, room_near, damaged_in, happens, arrive}
+use Rattle.lis_station.specs.Line.{emitted_out, room_near, damaged_in, arrive}
 use Rattle.lis_station.specs.Line.{arrive_without_room, damage, LineEvent, at_analyzer, at_computer, after_line_event}
 
 -- what the other direction has, which stays as it is

@@ -1,21 +1,20 @@
 -- No state of two stations blocks their line for good: once both gave up, what is on it leaves it and nothing follows.
-use Rattle.std.proofs.Common.{◌≡◌, ℕ, zero, suc, ◌+◌, ◌-◌, ◌≤◌, Bool, true, false, List, [], ◌∷◌, ◌++◌, map, length}
+use Rattle.std.proofs.Common.{◌≡◌, ℕ, suc, ◌-◌, ◌≤◌, Bool, true, false, List, [], ◌∷◌, ◌++◌, map, length}
 use Rattle.std.proofs.Common.{Option, None, Some, refl, sym, ap, ◌∙◌, subst, arith}
-use Rattle.std.specs.List.{fold}
 use Rattle.lis_frame.specs.Limit.{IsLimit}
 use Rattle.lis_link.specs.declared.sender.Phase.{Phase}
 use Rattle.lis_link.specs.declared.sender.Phase.TheVariants as Phases
 use Rattle.lis_link.specs.declared.receiver.Note.{Note}
 use Rattle.lis_link.specs.declared.receiver.Note.TheVariants.{Opened, Accepted}
-use Rattle.lis_link.specs.Sender.{SenderState, restart_in, sender_restarted}
+use Rattle.lis_link.specs.Sender.{SenderState, restart_in}
 use Rattle.lis_link.specs.Receiver.{ReceiverStep, on_byte}
 use Rattle.lis_world.specs.Unit.{Travelling, load_bytes}
 use Rattle.lis_world.specs.World.{lowered}
 use Rattle.lis_station.specs.Station.{StationState, awaits_reply, routed, asking}
-use Rattle.lis_station.specs.Line.{TwoWay, Item, sent, answered, turned, units_of, noted, reply_out, receiver_went, steps}
-use Rattle.lis_station.specs.Line.{comes, arrives, left_line, lost_in, room_near, with_station, happens, give_up, arrive}
-use Rattle.lis_station.specs.Line.{arrive_without_room, lose, close_line, StationEvent, LineEvent, at_analyzer, at_computer}
-use Rattle.lis_station.specs.Line.{after_line_event, two_way, new_two_way}
+use Rattle.lis_station.specs.Line.{TwoWay, Item, sent, answered, turned, units_of, noted, reply_out, steps}
+use Rattle.lis_station.specs.Line.{comes, arrives, left_line, lost_in, room_near, with_station, happens}
+use Rattle.lis_station.specs.Line.{close_line, LineEvent, at_analyzer, at_computer}
+use Rattle.lis_station.specs.Line.{two_way, new_two_way}
 use Rattle.lis_station.proofs.Directions.{units_again}
 use Rattle.lis_line.specs.Progress.{IsReady, IsCalmLine, Leaving, leaving_event, leaving_at, given_up_both, settling}
 use Rattle.lis_line.specs.Progress.{BecomesCalm}
