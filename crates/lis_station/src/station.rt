@@ -1,6 +1,6 @@
 //! A station: a sender and a receiver on one line.
 
-ghost use Rattle.std.specs.Prelude.{true, ◌≡◌, ◌≤◌, ◌<◌, ◌∷◌, max, take, length, None, Some, MatchResult, OnOk, OnErr};
+ghost use Rattle.std.specs.Prelude.{true, false, ◌≡◌, ◌≤◌, ◌<◌, ◌∷◌, max, take, length, None, Some, MatchResult, OnOk, OnErr};
 ghost use Rattle.lis_frame.specs.Limit.{IsLimit};
 ghost use Rattle.lis_text.specs.LinkText.{longest_text};
 ghost use Rattle.lis_link.specs.declared.sender.EmitOf.TheVariants as Emits;
@@ -205,6 +205,7 @@ impl<const N: usize, T: SessionTexts> StationOver<N, T> {
             SpareAfter self.old.receiver.spare self.new.receiver.spare
             (taken_by (on_station_byte N byte (station_at self.old r)).answer) }
         ensures room { KeepsStationRoom result self.old.receiver self.new.receiver }
+        ensures memory { IsOutOfMemory result → awaits_reply self.old.sender.phase ≡ false }
     {
         if self.awaits_reply() {
             return AnswerOf::Emits(self.reply(byte));
@@ -231,6 +232,7 @@ impl<const N: usize, T: SessionTexts> StationOver<N, T> {
         // What is reported without a state: some bytes are heard.
         ensures bound { result.count ≤ length bytes.now }
         ensures some { 0 < length bytes.now → 0 < result.count }
+        ensures memory { IsOutOfMemory result.answer → awaits_reply self.old.sender.phase ≡ false }
     {
         if self.awaits_reply() {
             return self.front(bytes);

@@ -7,4 +7,5 @@ pub mod Played
 pub mod Readings
 pub mod Resuming
 pub mod Scripted
+pub mod Station
 pub mod inside

@@ -10,4 +10,5 @@ pub mod connection;
 pub mod frames;
 pub mod results;
 pub mod resuming;
+pub mod station;
 pub mod testing;
