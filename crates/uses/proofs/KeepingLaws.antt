@@ -31,7 +31,7 @@ Grows r after texts =
     ⊎ ((r.is_open ≡ true) × (groups [] after.accepted ≡ groups [] r.accepted ++ texts))
 
 -- nothing was acknowledged, or the line isn't open
-stays : (r after : ReceiverState) → after.is_open ≡ r.is_open → after.accepted ≡ r.accepted → Grows r after []
+pub stays : (r after : ReceiverState) → after.is_open ≡ r.is_open → after.accepted ≡ r.accepted → Grows r after []
 stays r after opens accepted = λ is. inr (
   sym opens ∙ is,
   ap (groups []) accepted ∙ sym (append-nil (groups [] r.accepted)),
@@ -81,7 +81,7 @@ timer_grows : (is_open : Bool) (r : ReceiverState)
 timer_grows true r = is_shut r (timer_by true r).after [] refl
 timer_grows false r = stays r r refl refl
 
-step_grows : (event : Event) (r : ReceiverState)
+pub step_grows : (event : Event) (r : ReceiverState)
     → Grows r (step_at event r).after (option_to_list (step_at event r).message)
 step_grows (Byte byte) r = heard_grows (signal_after 240 r.past byte) (record r { past = byte ∷ r.past })
 step_grows Timer r = timer_grows r.is_open r
@@ -113,7 +113,7 @@ none_by_timer note false = refl
 none_by_timer Notes.Quiet true = refl
 none_by_timer note true = refl
 
-none_by_reply : (reply : Option ℕ) (more : List LogEvent) → kept_texts (reply_log reply ++ more) ≡ kept_texts more
+pub none_by_reply : (reply : Option ℕ) (more : List LogEvent) → kept_texts (reply_log reply ++ more) ≡ kept_texts more
 none_by_reply None more = refl
 none_by_reply (Some byte) more = refl
 

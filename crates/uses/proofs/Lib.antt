@@ -6,3 +6,4 @@ mod PlayedLaws
 mod ReadingLaws
 mod ReceptionLaws
 mod SessionLaws
+mod StationLaws

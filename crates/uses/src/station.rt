@@ -1,6 +1,6 @@
 //! A station's loop, for a program that sends and receives on one line (LIS01-A2, 6.2 to 6.6).
 
-ghost use Rattle.std.specs.Prelude.{◌≡◌, ◌≢◌, ◌∷◌, ◌++◌, Some, None, MatchOption, MatchResult};
+ghost use Rattle.std.specs.Prelude.{◌≡◌, ◌≢◌, [], ◌∷◌, ◌++◌, Some, None, MatchOption, MatchResult};
 ghost use Rattle.lis_text.specs.Control.{ENQ};
 ghost use Rattle.lis_link.specs.Sender.{started};
 ghost use Rattle.lis_station.specs.declared.station.Turn.TheVariants.{Free};
