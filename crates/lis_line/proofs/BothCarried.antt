@@ -81,17 +81,19 @@ rests_neutral limit t neutral none_out none_in h =
     (subst (λ p. Holds limit (shadow_in p h.lost t)) neutral h.holds) in
     let within = here.to_drop_within in
     let none : t.near.to_drop ≡ 0 = omega (arith, within, ap (λ items. length (units_of items)) none_out) in
-    let none_less : t.near.to_drop - 0 ≡ 0 = omega (arith, none) in
-    (subst (Holds limit) (λ i. record {
-      sender = record t.near.station.sender { phase = Neutral };
-      receiver = t.far.station.receiver;
-      units = units_of (none_out i);
-      replies = answers_of (none_in i);
-      to_drop = none_less i;
-      current = t.near.current;
-      opened = t.far.opened;
-      sessions = t.near.sessions;
-    }) here, none)
+    let none_less : t.near.to_drop - 0 ≡ 0 = omega (arith, none) in (
+      subst (Holds limit) (λ i. record {
+        sender = record t.near.station.sender { phase = Neutral };
+        receiver = t.far.station.receiver;
+        units = units_of (none_out i);
+        replies = answers_of (none_in i);
+        to_drop = none_less i;
+        current = t.near.current;
+        opened = t.far.opened;
+        sessions = t.near.sessions;
+      }) here,
+      none,
+    )
 
 pub rests_contending :
     (limit : ℕ) (t : TwoWay) → t.near.station.sender.phase ≡ Contention → t.outward ≡ [] → HoldsOut limit t
@@ -146,8 +148,11 @@ begun_is_done limit texts rounds w b t is_limit silent can enough begun =
       over_it = begun;
       holds = holds1;
       no_eot = subst NoEot (sym can.no_replies) tt;
-      few = omega (arith, ap length can.calm.no_unit,
-          length_push w.units (record { session = length w.sessions; load = enquiry }));
+      few = omega (
+        arith,
+        ap length can.calm.no_unit,
+        length_push w.units (record { session = length w.sessions; load = enquiry }),
+      );
     } in
     let went = session_carries limit rounds w1 b t is_limit silent enough.noticed carries1 in
     let last : World = runs limit (session_rest rounds) w1 in
@@ -170,7 +175,7 @@ pub starts_over :
     (limit : ℕ) (texts : List (List ℕ)) (t : TwoWay)
     → IsCalmLine t → bad_texts texts ≡ None → t.near.to_drop ≡ 0
     → IsOver (begins limit None texts (resting_world t)) (beside_of t)
-      (after_line_event limit (at_analyzer (start texts)) t)
+    (after_line_event limit (at_analyzer (start texts)) t)
 starts_over limit texts t calm taken none =
     let s : StationState = t.near.station in
     let no_fault : station_fault s texts ≡ None =
@@ -192,7 +197,7 @@ pub alone_is_done :
     (limit : ℕ) (texts : List (List ℕ)) (rounds : List Round) (t : TwoWay)
     → IsLimit limit → IsCalmLine t → HoldsOut limit t → AreTexts texts → AreEnough limit texts rounds
     → IsDone limit texts (resting_world t) (beside_of t)
-      (line_runs limit (alone at_analyzer at_computer texts rounds) t)
+    (line_runs limit (alone at_analyzer at_computer texts rounds) t)
 alone_is_done limit texts rounds t is_limit calm h are enough =
     let rests = rests_neutral limit t calm.near.neutral calm.none_out calm.none_in h in
     begun_is_done limit texts rounds (resting_world t) (beside_of t)
@@ -251,7 +256,7 @@ pub waiting_is_done :
     (limit : ℕ) (texts : List (List ℕ)) (rounds : List Round) (t : TwoWay)
     → IsLimit limit → Waits texts t → HoldsOut limit t → AreTexts texts → AreEnough limit texts rounds
     → IsDone limit texts (resting_world t) (beside_of t)
-      (line_runs limit (at_analyzer timer ∷ carrying at_analyzer at_computer rounds) t)
+    (line_runs limit (at_analyzer timer ∷ carrying at_analyzer at_computer rounds) t)
 waiting_is_done limit texts rounds t is_limit waits h are enough =
     begun_is_done limit texts rounds (resting_world t) (beside_of t)
     (after_line_event limit (at_analyzer timer) t) is_limit
@@ -345,8 +350,7 @@ carries_one limit is_limit events texts rounds calm are enough =
     let t : TwoWay = two_way limit events in
     let both = holds_after limit is_limit events in
     let here = alone_is_done limit texts rounds t is_limit calm both.out are enough in
-    let there = alone_is_done limit texts rounds (turned t) is_limit (calm_turned t calm) both.back are enough in
-    (
+    let there = alone_is_done limit texts rounds (turned t) is_limit (calm_turned t calm) both.back are enough in (
       subst (λ (v : TwoWay). HasDone limit 0 texts t.near.sessions v.near.sessions)
           (sym (after_more limit events (alone at_analyzer at_computer texts rounds)))
           (has_done limit 0 texts t.near.sessions (resting_world t) (beside_of t) _ here (omega arith)),
@@ -535,8 +539,7 @@ carries_both limit is_limit events texts answers rounds answering calm are are_a
     let there_are : length (turned u).near.sessions ≡ length t.far.sessions + 1 =
     ap (λ (y : TwoWay). length y.far.sessions) done.over_it.is ∙ contend.far_more in
     let its_answers : HasDone limit 1 answers t.far.sessions x.near.sessions =
-    has_done limit 1 answers t.far.sessions (resting_world (turned u)) (beside_of (turned u)) x done_then there_are in
-    (
+    has_done limit 1 answers t.far.sessions (resting_world (turned u)) (beside_of (turned u)) x done_then there_are in (
       subst (λ (y : TwoWay). HasDone limit 1 texts t.near.sessions y.near.sessions) (sym whole)
           (subst (λ ss. HasDone limit 1 texts t.near.sessions ss)
           (sym (ap (λ (y : TwoWay). y.far.sessions) x_is)) its_own),

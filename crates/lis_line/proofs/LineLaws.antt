@@ -208,7 +208,7 @@ pub is_sent :
     → OnOk outcome (new.near.station ≡ came.near.station)
     → OnOk outcome (new.far ≡ came.far)
     → ((r q : ReceiverState) → OnOk outcome (line_at new r q ≡ emitted_out emit
-      (record (line_at came r q) { near = followed_by (station_at came.near.station r) (end_at came.near r) })))
+    (record (line_at came r q) { near = followed_by (station_at came.near.station r) (end_at came.near r) })))
     → IsSent outcome limit came new emit
 is_sent (Ok x) limit came new emit near far line = record { near = near; far = far; line = line }
 is_sent (Err x) limit came new emit near far line = tt

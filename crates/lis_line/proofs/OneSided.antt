@@ -223,9 +223,9 @@ byte_there :
     (limit byte : ℕ) (w : World) (b : Beside) (near_turn far_turn : Turn) (units : List Travelling) (d : ComputerState)
     (u : Travelling)
     → steps (sent u) (routed limit false byte (coming w b near_turn far_turn units d).near.station)
-      (coming w b near_turn far_turn units d)
+    (coming w b near_turn far_turn units d)
     ≡ coming w b near_turn (turn_after_note (on_byte limit byte d.receiver).note far_turn) units
-      (booked u.session (on_byte limit byte d.receiver) d)
+    (booked u.session (on_byte limit byte d.receiver) d)
 byte_there limit byte w b near_turn far_turn units d u =
     let t : TwoWay = coming w b near_turn far_turn units d in
     let step : ReceiverStep = on_byte limit byte d.receiver in
@@ -257,7 +257,7 @@ bytes_there :
     (d : ComputerState) (u : Travelling)
     → awaits_reply b.far_sender.phase ≡ false
     → HasCome w b near_turn units (hears limit u.session bytes d)
-      (comes limit (sent u) bytes (coming w b near_turn far_turn units d))
+    (comes limit (sent u) bytes (coming w b near_turn far_turn units d))
 bytes_there limit [] w b near_turn far_turn units d u hears_it = record { far_turn = far_turn; is = refl }
 bytes_there limit (byte ∷ bytes) w b near_turn far_turn units d u hears_it =
     let t : TwoWay = coming w b near_turn far_turn units d in
@@ -279,8 +279,8 @@ gone_there :
     (units : List Travelling)
     → awaits_reply b.far_sender.phase ≡ false
     → IsOver (settled units (hears limit u.session bytes (computer_state_of w)) w) b
-      (turned (left_line (sent u) (comes limit (sent u) bytes
-      (record (turned (over w b near_turn far_turn)) { inward = map sent units }))))
+    (turned (left_line (sent u) (comes limit (sent u) bytes
+    (record (turned (over w b near_turn far_turn)) { inward = map sent units }))))
 gone_there limit bytes w b near_turn far_turn u units hears_it =
     let before : coming w b near_turn far_turn units (computer_state_of w)
     ≡ record (turned (over w b near_turn far_turn)) { inward = map sent units } =
@@ -305,32 +305,33 @@ over_refl w b near_turn far_turn = record { near_turn = near_turn; far_turn = fa
 pub delivered_there :
     (limit : ℕ) (w : World) (b : Beside) (near_turn far_turn : Turn) → IsSilent b
     → IsOver (delivered limit w.units w) b
-      (after_line_event limit (at_computer arrive) (over w b near_turn far_turn))
+    (after_line_event limit (at_computer arrive) (over w b near_turn far_turn))
 delivered_there limit w b near_turn far_turn silent = go w.units refl
   where
     go : (units : List Travelling) → w.units ≡ units
         → IsOver (delivered limit units w) b
-          (turned (arrives limit (map sent units) (turned (over w b near_turn far_turn))))
+        (turned (arrives limit (map sent units) (turned (over w b near_turn far_turn))))
     go [] e = over_refl w b near_turn far_turn
     go (u ∷ us) e = gone_there limit (load_bytes u.load) w b near_turn far_turn u us silent.hears_all
 
 pub damaged_there :
     (limit : ℕ) (bytes : List ℕ) (w : World) (b : Beside) (near_turn far_turn : Turn) → IsSilent b
     → IsOver (damaged limit bytes w.units w) b
-      (after_line_event limit (at_computer (damage bytes)) (over w b near_turn far_turn))
+    (after_line_event limit (at_computer (damage bytes)) (over w b near_turn far_turn))
 damaged_there limit bytes w b near_turn far_turn silent = go w.units
   where
     by : (is_it : Bool) (u : Travelling) (us : List Travelling)
         → IsOver (if is_it then settled us (hears limit u.session bytes (computer_state_of w)) w else w) b
-          (turned (if is_it then
-          left_line (sent u) (comes limit (sent u) bytes
-          (record (turned (over w b near_turn far_turn)) { inward = map sent us }))
-          else turned (over w b near_turn far_turn)))
+        (turned (if is_it then
+        left_line (sent u) (comes limit (sent u) bytes
+        (record (turned (over w b near_turn far_turn)) { inward = map sent us }))
+        else turned (over w b near_turn far_turn)))
     by true u us = gone_there limit bytes w b near_turn far_turn u us silent.hears_all
     by false u us = over_refl w b near_turn far_turn
+
     go : (units : List Travelling)
         → IsOver (damaged limit bytes units w) b
-          (turned (damaged_in limit bytes (map sent units) (turned (over w b near_turn far_turn))))
+        (turned (damaged_in limit bytes (map sent units) (turned (over w b near_turn far_turn))))
     go [] = over_refl w b near_turn far_turn
     go (u ∷ us) =
         subst (λ awaits. IsOver (damaged limit bytes (u ∷ us) w) b
@@ -351,7 +352,7 @@ room_there room w b t h = record {
 pub no_room_there :
     (limit : ℕ) (w : World) (b : Beside) (near_turn far_turn : Turn) → IsSilent b
     → IsOver (room_at true (delivered limit w.units (room_at false w))) b
-      (after_line_event limit (at_computer arrive_without_room) (over w b near_turn far_turn))
+    (after_line_event limit (at_computer arrive_without_room) (over w b near_turn far_turn))
 no_room_there limit w b near_turn far_turn silent =
     room_there true (delivered limit w.units (room_at false w)) b
     (turned (arrives limit (map sent w.units) (room_near false (turned (over w b near_turn far_turn)))))
@@ -379,8 +380,8 @@ reply_taken :
     (limit c : ℕ) (replies : List ℕ) (item : Item) (w : World) (b : Beside) (near_turn far_turn : Turn)
     → c ≢ EOT
     → IsOver (sender_steps {limit = limit} (on_reply c w.sender) (record w { replies = replies })) b
-      (steps item (routed limit true c (over w b near_turn far_turn).near.station)
-      (record (over w b near_turn far_turn) { inward = map answered replies }))
+    (steps item (routed limit true c (over w b near_turn far_turn).near.station)
+    (record (over w b near_turn far_turn) { inward = map answered replies }))
 reply_taken limit c replies item w b near_turn far_turn apart =
     let t : TwoWay = record (over w b near_turn far_turn) { inward = map answered replies } in
     let step = on_reply {limit = limit} c w.sender in
@@ -400,7 +401,7 @@ reply_here :
     → awaits_reply w.sender.phase ≡ true
     → c ≢ EOT
     → IsOver (sender_steps {limit = limit} (on_reply c w.sender) (record w { replies = replies })) b
-      (comes limit item (c ∷ []) (record (over w b near_turn far_turn) { inward = map answered replies }))
+    (comes limit item (c ∷ []) (record (over w b near_turn far_turn) { inward = map answered replies }))
 reply_here limit c replies item w b near_turn far_turn awaits apart =
     subst (λ is_it. IsOver (sender_steps {limit = limit} (on_reply c w.sender) (record w { replies = replies })) b
     (steps item (routed limit is_it c (over w b near_turn far_turn).near.station)
@@ -418,7 +419,7 @@ replied_here limit w b near_turn far_turn awaited no_eot = go w.replies refl no_
   where
     go : (replies : List ℕ) → w.replies ≡ replies → NoEot replies
         → IsOver (replied limit replies w) b
-          (arrives limit (map answered replies) (over w b near_turn far_turn))
+        (arrives limit (map answered replies) (over w b near_turn far_turn))
     go [] e none = over_refl w b near_turn far_turn
     go (c ∷ cs) e none =
         reply_here limit c cs (answered c) w b near_turn far_turn (awaited c cs e) none.0
@@ -427,12 +428,12 @@ replied_here limit w b near_turn far_turn awaited no_eot = go w.replies refl no_
 pub reply_damaged_here :
     (limit c : ℕ) (w : World) (b : Beside) (near_turn far_turn : Turn) → IsAwaited w → c ≢ ACK → c ≢ EOT
     → IsOver (reply_damaged limit c w.replies w) b
-      (after_line_event limit (at_analyzer (damage (c ∷ []))) (over w b near_turn far_turn))
+    (after_line_event limit (at_analyzer (damage (c ∷ []))) (over w b near_turn far_turn))
 reply_damaged_here limit c w b near_turn far_turn awaited not_ack apart = go w.replies refl
   where
     go : (replies : List ℕ) → w.replies ≡ replies
         → IsOver (reply_damaged limit c replies w) b
-          (damaged_in limit (c ∷ []) (map answered replies) (over w b near_turn far_turn))
+        (damaged_in limit (c ∷ []) (map answered replies) (over w b near_turn far_turn))
     go [] e = over_refl w b near_turn far_turn
     go (r ∷ rs) e =
         rw (awaited r rs e, ne_eqb c ACK not_ack, ne_eqb c EOT apart)
@@ -453,7 +454,7 @@ awaited_of limit w h c replies e = go w.sender.phase h.phase
     go Phases.Busy waiting = absurd (some_reply c replies (sym e ∙ waiting.no_reply))
     go Phases.Contention waiting = absurd (some_reply c replies (sym e ∙ waiting.no_reply))
     go Phases.AwaitReply awaiting = refl
-    
+
 -- at most one unit is on the line, and none where a reply is
 exclusive_of : (limit : ℕ) (w : World) → Holds limit w → (w.replies ≡ []) ⊎ (w.units ≡ [])
 exclusive_of limit w h = go w.sender.phase h.phase
@@ -577,7 +578,7 @@ carried_there :
     (limit : ℕ) (event : Event) (line : LineEvent) (w : World) (b : Beside) (t : TwoWay) → IsLimit limit
     → Carries limit w b t
     → ((near_turn far_turn : Turn) → IsOver (after_event limit event w) b
-      (after_line_event limit line (over w b near_turn far_turn)))
+    (after_line_event limit line (over w b near_turn far_turn)))
     → NoEot (after_event limit event w).replies
     → IsFew (after_event limit event w)
     → Carries limit (after_event limit event w) b (after_line_event limit line t)
@@ -668,7 +669,7 @@ pub session_carries :
     (limit : ℕ) (rounds : List Round) (w : World) (b : Beside) (t : TwoWay) → IsLimit limit → IsSilent b
     → All (IsNoticed limit) rounds → Carries limit w b t
     → IsOverThere limit (runs limit (session_rest rounds) w) b
-      (line_runs limit (carrying at_analyzer at_computer rounds) t)
+    (line_runs limit (carrying at_analyzer at_computer rounds) t)
 session_carries limit rounds w b t is_limit silent noticed h =
     let begun = reply_carries limit _ b _ is_limit (deliver_carries limit w b t is_limit silent h) in
     let v : World = runs limit (Deliver ∷ Reply ∷ []) w in

@@ -74,9 +74,9 @@ CarriesOne limit =
     → AreTexts texts
     → AreEnough limit texts rounds
     → HasDone limit 0 texts (two_way limit events).near.sessions
-      (two_way limit (events ++ alone at_analyzer at_computer texts rounds)).near.sessions
+    (two_way limit (events ++ alone at_analyzer at_computer texts rounds)).near.sessions
     × HasDone limit 0 texts (two_way limit events).far.sessions
-      (two_way limit (events ++ alone at_computer at_analyzer texts rounds)).far.sessions
+    (two_way limit (events ++ alone at_computer at_analyzer texts rounds)).far.sessions
 
 -- if both ask at once, the analyzer's session is done first, and then the computer's: each is the second one of its
 -- texts, as the first ENQ began one that was put off
@@ -89,9 +89,9 @@ CarriesBoth limit =
     → AreEnough limit texts rounds
     → AreEnough limit answers answering
     → HasDone limit 1 texts (two_way limit events).near.sessions
-      (two_way limit (events ++ (both_ask texts answers ++ in_turn rounds answering))).near.sessions
+    (two_way limit (events ++ (both_ask texts answers ++ in_turn rounds answering))).near.sessions
     × HasDone limit 1 answers (two_way limit events).far.sessions
-      (two_way limit (events ++ (both_ask texts answers ++ in_turn rounds answering))).far.sessions
+    (two_way limit (events ++ (both_ask texts answers ++ in_turn rounds answering))).far.sessions
 
 -- ---- the line becomes calm
 

@@ -132,11 +132,7 @@ impl<const N: usize> EndOf<N> {
     }
 
     /// A session of these texts begins.
-    pub(crate) fn begin(
-        &mut self,
-        alloc: Global,
-        texts: List<LinkText>,
-    ) -> Result<(), AllocError>
+    pub(crate) fn begin(&mut self, alloc: Global, texts: List<LinkText>) -> Result<(), AllocError>
         ensures { OnOk result (self.new ≡ record self.old {
           current = length self.old.sessions;
           sessions = self.old.sessions ++ new_session texts ∷ [];

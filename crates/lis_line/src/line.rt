@@ -112,7 +112,13 @@ impl<const N: usize> LineOf<N> {
         ensures { (result.0.items ≡ self.entry.near.sessions) × (result.1.items ≡ self.entry.far.sessions) }
     {
         let LineOf { near, far, .. } = self;
-        let (EndOf { sessions: own, .. }, EndOf { sessions: other, .. }) = (near, far);
+        let (
+            EndOf { sessions: own, .. },
+            EndOf {
+                sessions: other,
+                ..
+            },
+        ) = (near, far);
         (own, other)
     }
 
@@ -434,8 +440,10 @@ impl<const N: usize> LineOf<N> {
         ensures near { OnOk result (self.new.near.station ≡ self.old.near.station) }
         ensures far { OnOk result (self.new.far ≡ self.old.far) }
         ensures line { (r q : ReceiverState) → OnOk result (line_at self.new r q ≡ emitted_out emit.entry
-            (record (line_at self.old r q) { near = followed_by (station_at self.old.near.station r)
-            (end_at self.old.near r) })) }
+            (record (line_at self.old r q) {
+              near = followed_by (station_at self.old.near.station r)
+                  (end_at self.old.near r);
+            })) }
     {
         self.near.follow();
         match emit {

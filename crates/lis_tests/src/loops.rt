@@ -4,6 +4,7 @@ use lis_frame::Scanner;
 use lis_link::{Outcome, Receiver, Sender};
 use lis_message::Message;
 use lis_port::Slow;
+use lis_station::{Role, Station, StationFault};
 use lis_text::{ACK, CR, ENQ, EOT, ETX, LF, LinkText, NAK, STX, Texts};
 use lis_tool::ToolFault;
 use std::alloc::Global;
@@ -17,6 +18,7 @@ use uses::connection::Event;
 use uses::frames::ends_message;
 use uses::results::{Reading, count_results, readings};
 use uses::resuming::write_to_both;
+use uses::station::{Ran, run_station, start_session};
 use uses::testing::{Entry, ScriptedConnection};
 
 /// ENQ, the text A in one frame, and EOT.
@@ -298,6 +300,195 @@ fn one_loop_carries_texts_to_the_other(rt: HostRuntime) {
     drop(sent);
     drop(answers);
     drop(replies);
+}
+
+/// What a station does on a line with these events, of which its store keeps texts as it answers: the bytes that it
+/// sends, as events on the other side's line, and how its runs end: T with a text, D done, O over otherwise, C closed.
+fn run_on(
+    rt: &impl Abort,
+    alloc: Global,
+    side: (Role, &[&[u8]]),
+    events: &[Event],
+    answers: &[bool],
+) -> (Vec<Event>, Vec<u8>) {
+    let mut line = ScriptedConnection::new(alloc, events).with_answers(answers);
+    let (role, texts) = side;
+    let mut station = Station::new(alloc, role);
+    if !texts.is_empty() {
+        let texts = Texts::from_slices(alloc, texts).expect(rt, "memory");
+        assert!(rt; start_session(&mut line, &mut station, texts) == Ok(()));
+    }
+    let mut ends = Vec::new(alloc);
+    while ends.last() != Some(&b'C') && ends.len() < 20 {
+        let end = match run_station(&mut line, &mut station) {
+            Ran::Text(text) => {
+                drop(text);
+                b'T'
+            }
+            Ran::Over(Some(Outcome::Done)) => b'D',
+            Ran::Over(_) => b'O',
+            Ran::Closed => b'C',
+        };
+        ends.push(end).expect(rt, "memory");
+    }
+    drop(station);
+    let sent = sent_on(rt, alloc, &line);
+    drop(line);
+    (sent, ends)
+}
+
+/// Fails where two stations, each on a line with what the other one sends, don't end so.
+fn assert_meet(
+    rt: &impl Abort,
+    alloc: Global,
+    analyzer: (&[&[u8]], &[Event], &[u8]),
+    computer: (&[&[u8]], &[Event], &[u8]),
+) {
+    let (sent, ends) = run_on(rt, alloc, (Role::Analyzer, analyzer.0), analyzer.1, &[]);
+    assert!(rt; ends.as_slice() == analyzer.2);
+    assert_bytes(rt, sent.as_slice(), computer.1);
+    drop(sent);
+    drop(ends);
+    let (sent, ends) = run_on(rt, alloc, (Role::Computer, computer.0), computer.1, &[]);
+    assert!(rt; ends.as_slice() == computer.2);
+    assert_bytes(rt, sent.as_slice(), analyzer.1);
+    drop(sent);
+    drop(ends);
+}
+
+/// Fails where the bytes among these events aren't those that were sent.
+fn assert_bytes(rt: &impl Abort, sent: &[Event], events: &[Event]) {
+    let mut left = sent;
+    for event in events {
+        if let Event::Byte(_) = event {
+            let Some((first, rest)) = left.split_first() else {
+                panic!(rt; "too few bytes");
+            };
+            assert!(rt; first == event);
+            left = rest;
+        }
+    }
+    assert!(rt; left.is_empty());
+}
+
+/// A session of the text A, as events at the station that receives it.
+const SESSION_OF_A: [Event; 11] = [
+    Event::Byte(ENQ),
+    Event::Byte(STX),
+    Event::Byte(b'1'),
+    Event::Byte(b'A'),
+    Event::Byte(ETX),
+    Event::Byte(b'7'),
+    Event::Byte(b'5'),
+    Event::Byte(CR),
+    Event::Byte(LF),
+    Event::Byte(EOT),
+    Event::Closed,
+];
+
+/// The replies to it.
+const REPLIES: [Event; 2] = [Event::Byte(ACK), Event::Byte(ACK)];
+
+/// Both asked for the line: the computer hears the analyzer's ENQ twice, its session, and the replies to its own one.
+const BOTH_ASK: [Event; 14] = [
+    Event::Byte(ENQ),
+    Event::Byte(ENQ),
+    Event::Byte(STX),
+    Event::Byte(b'1'),
+    Event::Byte(b'A'),
+    Event::Byte(ETX),
+    Event::Byte(b'7'),
+    Event::Byte(b'5'),
+    Event::Byte(CR),
+    Event::Byte(LF),
+    Event::Byte(EOT),
+    Event::Timer,
+    Event::Byte(ACK),
+    Event::Byte(ACK),
+];
+
+/// The analyzer hears the computer's ENQ, its own replies, and the computer's session of the text A.
+const BOTH_ASKED: [Event; 14] = [
+    Event::Byte(ENQ),
+    Event::Timer,
+    Event::Byte(ACK),
+    Event::Byte(ACK),
+    Event::Byte(ENQ),
+    Event::Byte(STX),
+    Event::Byte(b'1'),
+    Event::Byte(b'A'),
+    Event::Byte(ETX),
+    Event::Byte(b'7'),
+    Event::Byte(b'5'),
+    Event::Byte(CR),
+    Event::Byte(LF),
+    Event::Byte(EOT),
+];
+
+#[test]
+fn a_station_carries_a_text_to_the_other(rt: HostRuntime) {
+    let one: [&[u8]; 1] = [b"A"];
+    let theirs = SESSION_OF_A.as_slice();
+    assert_meet(
+        &rt,
+        rt.alloc(),
+        (&one, &REPLIES, b"DC"),
+        (&[], theirs, b"TC"),
+    );
+    assert_meet(
+        &rt,
+        rt.alloc(),
+        (&[], theirs, b"TC"),
+        (&one, &REPLIES, b"DC"),
+    );
+}
+
+#[test]
+fn both_stations_ask_at_once(rt: HostRuntime) {
+    let one: [&[u8]; 1] = [b"A"];
+    assert_meet(
+        &rt,
+        rt.alloc(),
+        (&one, &BOTH_ASKED, b"DTC"),
+        (&one, &BOTH_ASK, b"TDC"),
+    );
+}
+
+#[test]
+fn a_station_keeps_a_text_before_it_replies(rt: HostRuntime) {
+    let mut line = ScriptedConnection::new(rt.alloc(), &SESSION_OF_A);
+    let mut station = Station::new(rt.alloc(), Role::Computer);
+    assert!(rt; matches!(run_station(&mut line, &mut station), Ran::Text(_text)));
+    drop(station);
+    assert_done(&rt, rt.alloc(), &line, b"WSTWWWWWWWWKST");
+    drop(line);
+}
+
+#[test]
+fn a_station_gives_no_reply_to_a_text_that_it_cannot_keep(rt: HostRuntime) {
+    let mut line = ScriptedConnection::new(rt.alloc(), &SESSION_OF_A).with_answers(&[false]);
+    let mut station = Station::new(rt.alloc(), Role::Computer);
+    assert!(rt; run_station(&mut line, &mut station) == Ran::Closed);
+    assert!(rt; !station.receiver().is_open());
+    drop(station);
+    assert_done(&rt, rt.alloc(), &line, b"WSTWWWWWWWWNWW");
+    drop(line);
+}
+
+#[test]
+fn a_station_starts_no_session_while_the_line_is_open(rt: HostRuntime) {
+    let mut line = ScriptedConnection::new(rt.alloc(), SESSION_OF_A.as_slice().split_at(1).0);
+    let mut station = Station::new(rt.alloc(), Role::Computer);
+    assert!(rt; run_station(&mut line, &mut station) == Ran::Closed);
+    let texts = Texts::from_slices(rt.alloc(), &[b"B".as_slice()]).expect(&rt, "memory");
+    let refused = start_session(&mut line, &mut station, texts)
+        .err()
+        .expect(&rt, "the line is open");
+    assert!(rt; refused.fault == StationFault::LineOpen && refused.texts.len() == 1);
+    drop(refused);
+    drop(station);
+    assert_done(&rt, rt.alloc(), &line, b"WSTW");
+    drop(line);
 }
 
 /// The first text isn't acknowledged, and the timer runs out; in the second session all is.

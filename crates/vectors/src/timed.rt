@@ -81,7 +81,9 @@ pub(crate) fn make_calls(rt: &HostRuntime, asked: Option<Asked>) -> ExitCode {
         Some(Asked::Play(rounds)) => report(rt, played(rt.alloc(), rounds)),
         Some(Asked::Rows) | None => {
             // If it can't be printed, the status still says it.
-            let _ = eprintln!(rt; "usage: vectors [bytes | station | messages | again ROUNDS | play ROUNDS]");
+            let _ = eprintln!(rt;
+                "usage: vectors [bytes | station | messages | again ROUNDS | play ROUNDS]"
+            );
             ExitCode::from(2)
         }
     }
