@@ -2,12 +2,11 @@
 //
 // Header only, over the C calls: tested and not proved. Link with liblislink.
 //
-//   - A call that may fail throws lislink::error, or std::bad_alloc if there is no memory. Next to it, try_X answers
-//     the lis_status in place of that and throws nothing of its own. Without exceptions (-fno-exceptions) only try_X
-//     is there.
+//   - A call that may fail throws lislink::error, or std::bad_alloc if there is no memory. Next to it, try_X returns
+//     the lis_status instead and throws nothing of its own. Without exceptions (-fno-exceptions) only try_X is there.
 //   - An owner can be moved, not copied. One that was moved from can be assigned to or destroyed, nothing else.
-//   - A std::string_view that a call gives is good until the next call of its owner.
-//   - One thread at a time uses an owner. It may be handed to another thread.
+//   - A std::string_view that a call returns is good until the next call of its owner.
+//   - One thread at a time uses an owner. It may be given to another thread.
 //   - receiver::hear keeps, then replies. sender::start asks for a connection on which no late reply can come.
 //   - lislink_station.hpp has the class `station`, for a line on which both sides send.
 #ifndef LISLINK_HPP
@@ -35,29 +34,31 @@
 namespace lislink {
 
 #if defined(__cpp_exceptions)
-// What a call was refused for: the status, and which text, field or byte is at fault (0 if none is).
+// Why a call failed: the status, and which text, field or byte is at fault (0 if none is).
 class error : public std::runtime_error {
     lis_status status_;
     std::size_t index_, place_;
 
 public:
+    // The error of a status; what() is its words.
     explicit error(lis_status status, std::size_t index = 0, std::size_t place = 0)
         : std::runtime_error(lis_status_text(status)), status_(status), index_(index), place_(place) {}
-    lis_status status() const noexcept { return status_; }
-    std::size_t index() const noexcept { return index_; }
-    std::size_t place() const noexcept { return place_; }
+    lis_status status() const noexcept { return status_; }    // what the C call returned
+    std::size_t index() const noexcept { return index_; }     // the text of a session, from 0, or the field of a record
+    std::size_t place() const noexcept { return place_; }     // the byte of the text that no text may hold, from 0
 };
 
-// Why a record of a stream can't be read, as lis_reader_read reports it.
+// Why a record of a stream can't be read, as lis_found has it.
 class message_error : public std::runtime_error {
     lis_found found_;
 
 public:
+    // The error of what a reader found; what() is the reason's words.
     explicit message_error(const lis_found &found) : std::runtime_error(lis_reason_text(found.reason)), found_(found) {}
-    lis_reason reason() const noexcept { return found_.reason; }
-    std::uint64_t number() const noexcept { return found_.number; }
-    std::size_t place() const noexcept { return found_.place; }
-    std::uint8_t detail() const noexcept { return found_.detail; }
+    lis_reason reason() const noexcept { return found_.reason; }        // what is wrong with it
+    std::uint64_t number() const noexcept { return found_.number; }     // its number in its message, 1 for a header
+    std::size_t place() const noexcept { return found_.place; }         // the byte that no text may hold
+    std::uint8_t detail() const noexcept { return found_.detail; }      // as the reason says
 };
 #endif
 
@@ -154,20 +155,22 @@ class signal {
     friend class scanner;
 
 public:
-    // A long frame is LIS_SIGNAL_FRAME too: text() has its text.
+    // What it is. A long frame is LIS_SIGNAL_FRAME too: text() has its text.
     lis_signal_kind kind() const noexcept {
         return signal_.kind == LIS_SIGNAL_LONG_FRAME ? LIS_SIGNAL_FRAME : signal_.kind;
     }
-    std::uint8_t number() const noexcept { return signal_.number; }
-    bool is_last() const noexcept { return signal_.last; }
-    lis_fault fault() const noexcept { return signal_.fault; }
-    std::size_t place() const noexcept { return signal_.place; }
+    std::uint8_t number() const noexcept { return signal_.number; }    // of a good frame: its number
+    bool is_last() const noexcept { return signal_.last; }             // whether it is the last of its message
+    lis_fault fault() const noexcept { return signal_.fault; }         // of a bad frame: what is wrong with it
+    std::size_t place() const noexcept { return signal_.place; }       // the byte of its text that no text may hold
+    // The text of a good frame.
     std::string_view text() const noexcept {
         return signal_.kind == LIS_SIGNAL_LONG_FRAME ? std::string_view(long_)
                                                      : detail::view(signal_.text, signal_.len);
     }
 };
 
+// Reads bytes of the link alone, without a receiver's rules.
 class scanner {
     detail::owner<lis_scanner, lis_scanner_size, lis_scanner_align, lis_scanner_init, lis_scanner_end> own_;
 
@@ -180,16 +183,16 @@ public:
 #if defined(__cpp_exceptions)
     scanner() = default;
 #endif
-    explicit scanner(std::nothrow_t) noexcept : own_(std::nothrow) {}
-    explicit operator bool() const noexcept { return static_cast<bool>(own_); }
+    explicit scanner(std::nothrow_t) noexcept : own_(std::nothrow) {}    // throws nothing
+    explicit operator bool() const noexcept { return static_cast<bool>(own_); }    // false if there was no memory
 
     // Sets how long the text of a frame may be, LIS_LIMIT_FRAME_TEXT or LIS_LIMIT_LONG_FRAME_TEXT, and begins anew.
     lis_status try_set_frame_limit(std::size_t limit) noexcept { return lis_scanner_set_limit(own_.get(), limit); }
 #if defined(__cpp_exceptions)
-    void set_frame_limit(std::size_t limit) { detail::check(try_set_frame_limit(limit)); }
+    void set_frame_limit(std::size_t limit) { detail::check(try_set_frame_limit(limit)); }    // the same
 #endif
 
-    // Calls each(signal) for each signal of the bytes.
+    // Calls each(signal) for each signal that the bytes complete.
     template <class Each> void feed(std::string_view bytes, Each &&each) {
         for (signal found; !bytes.empty();) {
             bytes.remove_prefix(lis_scanner_feed(own_.get(), detail::at(bytes), bytes.size(), &found.signal_));
@@ -201,7 +204,7 @@ public:
     }
 };
 
-// The bytes of a frame; `place` is that of a byte that no text may hold.
+// Makes the bytes of a frame; `place` is that of a byte that no text may hold.
 inline lis_status try_frame(std::uint8_t number, bool last, std::string_view text, std::string &out,
                             std::size_t &place) {
     lis_bytes bytes;
@@ -224,6 +227,7 @@ inline lis_status try_long_frame(std::uint8_t number, bool last, std::string_vie
 }
 
 #if defined(__cpp_exceptions)
+// The bytes of a frame.
 inline std::string frame(std::uint8_t number, bool last, std::string_view text) {
     std::string out;
     std::size_t place = 0;
@@ -232,6 +236,7 @@ inline std::string frame(std::uint8_t number, bool last, std::string_view text) 
     return out;
 }
 
+// The bytes of a frame whose text has up to LIS_LIMIT_LONG_FRAME_TEXT bytes.
 inline std::string long_frame(std::uint8_t number, bool last, std::string_view text) {
     std::string out;
     std::size_t place = 0;
@@ -244,7 +249,7 @@ inline std::string long_frame(std::uint8_t number, bool last, std::string_view t
 // A connection of a sender, by its number: what came over an earlier one is dropped.
 enum class connection : std::uint64_t {};
 
-// Sends texts. The bytes that a call gives are to be sent; there may be none.
+// Sends texts. The bytes that a call returns are to be sent; there may be none.
 class sender {
     detail::owner<lis_sender, lis_sender_size, lis_sender_align, lis_sender_init, lis_sender_end> own_;
     lis_line line_{};
@@ -264,30 +269,31 @@ class sender {
 
 public:
 #if defined(__cpp_exceptions)
-    sender() { begin(); }
+    sender() { begin(); }    // without a connection yet
 #endif
-    explicit sender(std::nothrow_t) noexcept : own_(std::nothrow) { begin(); }
-    explicit operator bool() const noexcept { return static_cast<bool>(own_); }
+    explicit sender(std::nothrow_t) noexcept : own_(std::nothrow) { begin(); }    // throws nothing
+    explicit operator bool() const noexcept { return static_cast<bool>(own_); }    // false if there was no memory
 
-    // A new connection was made; or a serial line was waited for, longer than the computer takes to answer, and what
-    // came was dropped. A session that goes on is restarted.
+    // Call it when a new connection was made; on a serial line, when you have waited longer than the computer takes to
+    // answer, and dropped what came. A session that goes on is restarted.
     connection connected() noexcept { return connection{lis_line_connected(&line_)}; }
 
-    // A copy of a text for the next session.
+    // Adds a copy of a text to the next session.
     lis_status try_add(std::string_view text) noexcept {
         return lis_sender_add_text(get(), detail::at(text), text.size());
     }
-    // Starts a session: `out` is ENQ. LIS_STATUS_OLD_LINE before `connected`, and after a session that timed out or was
-    // restarted. The texts of the session are gone when it is over, however it ended.
+    // Starts a session: `out` is ENQ. LIS_STATUS_OLD_LINE before `connected`, and, from when a session timed out or was
+    // restarted, until `connected` is called again. Once a session is over, its texts are gone, however it ended.
     lis_status try_start(std::string_view &out) noexcept {
         lis_status status = lis_line_start(&line_, &out_, &fault_);
         out = status == LIS_STATUS_OK ? this->out() : std::string_view();
         return status;
     }
-    // The text and the byte at fault of the last start.
+    // Which text and which byte of it the last start failed for.
     lis_place fault() const noexcept { return fault_; }
 #if defined(__cpp_exceptions)
-    void add(std::string_view text) { detail::check(try_add(text)); }
+    void add(std::string_view text) { detail::check(try_add(text)); }    // as try_add
+    // Starts a session, as try_start; returns ENQ.
     std::string_view start() {
         std::string_view enq;
         lis_status status = try_start(enq);
@@ -295,11 +301,11 @@ public:
         return enq;
     }
 #endif
-    void clear() noexcept { lis_sender_clear(get()); }
+    void clear() noexcept { lis_sender_clear(get()); }    // drops the texts of the next session
 
     // Sets how long the text of a frame may be, LIS_LIMIT_FRAME_TEXT or LIS_LIMIT_LONG_FRAME_TEXT, while no session
-    // goes on, and makes the sender new; the texts of the next session stay. It throws std::bad_alloc, and the sender
-    // is as it was, if there is no memory.
+    // goes on, and makes the sender new; the texts of the next session stay. If there is no memory it throws
+    // std::bad_alloc, and the sender is as it was.
     lis_status try_set_frame_limit(std::size_t limit) {
         std::string room(limit == LIS_LIMIT_LONG_FRAME_TEXT ? LIS_LIMIT_LONG_FRAME_BYTES : 0, '\0');
         lis_status status = lis_sender_set_limit(get(), limit);
@@ -308,9 +314,10 @@ public:
         return status;
     }
 #if defined(__cpp_exceptions)
-    void set_frame_limit(std::size_t limit) { detail::check(try_set_frame_limit(limit)); }
+    void set_frame_limit(std::size_t limit) { detail::check(try_set_frame_limit(limit)); }    // the same
 #endif
 
+    // A byte came over a connection: what is to be sent.
     std::string_view reply(connection from, std::uint8_t byte) noexcept {
         std::size_t size = 0;
         auto line = static_cast<std::uint64_t>(from);
@@ -320,16 +327,18 @@ public:
             return out();
         return std::string_view(long_).substr(0, size);
     }
+    // The time of `patience` is over: what is to be sent.
     std::string_view timer() noexcept {
         lis_line_timer(&line_, &out_);
         return out();
     }
-    void restart() noexcept { lis_line_restart(&line_); }
+    void restart() noexcept { lis_line_restart(&line_); }    // gives up the session that goes on
 
-    lis_phase phase() noexcept { return lis_sender_phase(get()); }
-    lis_outcome outcome() noexcept { return lis_sender_outcome(get()); }
+    lis_phase phase() noexcept { return lis_sender_phase(get()); }          // what the sender waits for
+    lis_outcome outcome() noexcept { return lis_sender_outcome(get()); }    // how the last session ended
+    // How many frames of the session are acknowledged.
     std::uint64_t acknowledged() noexcept { return lis_sender_acknowledged(get()); }
-    // How long the phase lasts before its timer runs out; none if it has no timer.
+    // How long the phase lasts before its timer runs out; none if no timer runs.
     std::optional<std::chrono::seconds> patience() noexcept {
         switch (phase()) {
         case LIS_PHASE_NEUTRAL:
@@ -344,7 +353,7 @@ public:
     }
 };
 
-// Receives texts.
+// Receives texts: hear keeps each, and then replies.
 class receiver {
     detail::owner<lis_receiver, lis_receiver_size, lis_receiver_align, lis_receiver_init, lis_receiver_end> own_;
     std::string text_;
@@ -366,7 +375,7 @@ class receiver {
         return lis_receiver_text(get(), detail::at(text_), len) == LIS_STATUS_OK;
     }
 
-    // Restarts the receiver unless all went well, also if keep or send throws.
+    // Restarts the receiver unless all went well; so it does if keep or send throws.
     struct guard {
         receiver &its;
         bool good = false;
@@ -384,9 +393,9 @@ class receiver {
     }
 
 public:
-    // A step that is answered later: keep its text, send its reply, and call sent(). If that isn't called, no reply may
-    // go out, and the receiver restarts; so an error between the two acknowledges nothing. Meanwhile the receiver hears
-    // no more, and stays where it is.
+    // A step that is answered later: keep its text, send its reply, and call sent(). If sent() isn't called, no reply
+    // may go out, and the receiver restarts: an error in between acknowledges nothing. Until then the receiver hears
+    // nothing more, and stays in its place.
     class [[nodiscard]] answer_due {
         receiver *its_;    // null once nothing is due
         lis_step step_;
@@ -396,12 +405,13 @@ public:
             : its_(step.reply != 0 || step.has_text ? &its : nullptr), step_(step) {}
 
     public:
+        // What is due is due by the new one.
         answer_due(answer_due &&other) noexcept
             : its_(std::exchange(other.its_, nullptr)), step_(other.step_), text_(other.text_) {}
         answer_due &operator=(answer_due &&) = delete;
         ~answer_due() { drop(); }
 
-        const lis_step &step() const noexcept { return step_; }
+        const lis_step &step() const noexcept { return step_; }    // the step
         // The text that is complete, to be kept before the reply is sent.
         std::optional<std::string_view> text() const noexcept {
             return step_.has_text ? std::optional(text_) : std::nullopt;
@@ -410,9 +420,9 @@ public:
         std::optional<std::uint8_t> reply() const noexcept {
             return step_.reply != 0 ? std::optional(step_.reply) : std::nullopt;
         }
-        // The text was kept, and the reply was sent.
+        // Call it when the text was kept and the reply was sent.
         void sent() noexcept { its_ = nullptr; }
-        // No reply goes out.
+        // No reply goes out: the receiver restarts.
         void drop() noexcept {
             if (receiver *its = std::exchange(its_, nullptr))
                 its->restart();
@@ -422,13 +432,13 @@ public:
 #if defined(__cpp_exceptions)
     receiver() = default;
 #endif
-    explicit receiver(std::nothrow_t) noexcept : own_(std::nothrow) {}
-    explicit operator bool() const noexcept { return static_cast<bool>(own_); }
+    explicit receiver(std::nothrow_t) noexcept : own_(std::nothrow) {}    // throws nothing
+    explicit operator bool() const noexcept { return static_cast<bool>(own_); }    // false if there was no memory
 
-    // Hears bytes. For each text that is complete keep(text) is called, and only if it gives true (or nothing), and
-    // doesn't throw, send(reply). Else no reply is sent, the receiver restarts, the other bytes are dropped, and hear
-    // gives false; what keep or send throws goes on. So the sender keeps its texts and sends them again. each(step) is
-    // called first, for each step that means something.
+    // Hears bytes. It calls keep(text) with each text that is complete, and send(reply) only if keep returned true, or
+    // nothing, and threw nothing. Else no reply is sent, the receiver restarts, the other bytes are dropped, and hear
+    // returns false; what keep or send throws is passed on. So the sender still has its texts and sends them again.
+    // each(step) is called first, for each step that means something.
     template <class Keep, class Send, class Each = detail::nothing>
     bool hear(std::string_view bytes, Keep &&keep, Send &&send, Each &&each = Each()) {
         for (lis_step step; !bytes.empty();) {
@@ -441,9 +451,9 @@ public:
         return true;
     }
 
-    // Hears bytes up to the first step that means something, and takes them from the front of `bytes`. Its reply may be
-    // sent later; without a step all bytes are taken. If there is no memory for a text, the receiver restarts, and the
-    // note says so.
+    // Hears bytes up to the first step that means something, or all of them if none does, and takes them from the front
+    // of `bytes`. Its reply may be sent later. If there is no memory for a text, the receiver restarts, and the note
+    // says so.
     answer_due next_step(std::string_view &bytes) {
         lis_step step{};
         if (!bytes.empty())
@@ -458,8 +468,8 @@ public:
         return made;
     }
 
-    // The same for bytes that came after a time, when the line was last seen empty: a reply that could come after the
-    // sender's timer is not sent. It is one that is due when two thirds of that timer are over.
+    // As hear, for bytes that came after `since`, when the line was last seen empty: a reply that could come after the
+    // sender's timer is not sent, which is one that is due more than two thirds of that timer after `since`.
     template <class Keep, class Send, class Each = detail::nothing>
     bool hear_since(std::chrono::steady_clock::time_point since, std::string_view bytes, Keep &&keep, Send &&send,
                     Each &&each = Each()) {
@@ -476,21 +486,24 @@ public:
         lis_receiver_timer(get(), &step);
         return step;
     }
-    // Gives up what goes on: for a connection that was lost, before the first byte of the next.
+    // Gives up what goes on: call it when a connection was lost, before the first byte of the next one.
     void restart() noexcept { lis_receiver_restart(get()); }
+    // Says whether there is room for another frame from now on; without it a new frame is answered NAK.
     void set_room(bool room) noexcept { lis_receiver_set_room(get(), room); }
+    // Says how ENQ is answered from now on.
     void set_ready(lis_ready readiness) noexcept { lis_receiver_set_ready(get(), readiness); }
+    // Makes room for so many more bytes of text.
     lis_status try_reserve(std::uint64_t bytes) noexcept { return lis_receiver_reserve(get(), bytes); }
     // Sets how long the text of a frame may be, LIS_LIMIT_FRAME_TEXT or LIS_LIMIT_LONG_FRAME_TEXT, and makes the
     // receiver new.
     lis_status try_set_frame_limit(std::size_t limit) noexcept { return lis_receiver_set_limit(get(), limit); }
 #if defined(__cpp_exceptions)
-    void reserve(std::uint64_t bytes) { detail::check(try_reserve(bytes)); }
-    void set_frame_limit(std::size_t limit) { detail::check(try_set_frame_limit(limit)); }
+    void reserve(std::uint64_t bytes) { detail::check(try_reserve(bytes)); }                  // as try_reserve
+    void set_frame_limit(std::size_t limit) { detail::check(try_set_frame_limit(limit)); }    // as try_set_frame_limit
 #endif
-    bool is_open() noexcept { return lis_receiver_is_open(get()); }
-    std::uint64_t accepted() noexcept { return lis_receiver_accepted(get()); }
-    std::uint64_t held() noexcept { return lis_receiver_held(get()); }
+    bool is_open() noexcept { return lis_receiver_is_open(get()); }               // whether its timer runs
+    std::uint64_t accepted() noexcept { return lis_receiver_accepted(get()); }    // frames, since the line was opened
+    std::uint64_t held() noexcept { return lis_receiver_held(get()); }            // bytes of a text that isn't complete
 };
 
 // Reads the records of a stream that comes in pieces: for (auto &record : reader.feed(bytes)) ..
@@ -562,20 +575,24 @@ public:
         static auto key(const lis_part &part) noexcept { return std::tuple(part.field, part.repeat, part.component); }
 
     public:
+        // Its letter in upper case.
         char letter() const noexcept { return static_cast<char>(from_->found_.letter); }
+        // How many fields follow the letter, or a header's delimiters.
         std::size_t fields() const noexcept { return from_->found_.fields; }
+        // The delimiters of its message.
         const lis_delimiters &delimiters() const noexcept { return from_->delimiters_; }
         // Its text, without the CR.
         std::string_view text() const noexcept { return from_->text_; }
 
-        // All parts, in the order of the text: from begin() to end().
+        // The first of its parts, which are in the order of the text.
         const lis_part *begin() const {
             from_->split();
             return from_->parts_.data();
         }
-        const lis_part *end() const { return begin() + from_->count_; }
-        // The bytes of a part as they are in the text, and without its escapes.
+        const lis_part *end() const { return begin() + from_->count_; }    // after its last part
+        // The bytes of a part as they are in the text.
         std::string_view raw(const lis_part &part) const noexcept { return text().substr(part.offset, part.len); }
+        // The bytes that a part means: its escapes are decoded.
         std::string plain(const lis_part &part) const {
             std::string out(raw(part));
             std::size_t size = out.size();
@@ -584,8 +601,8 @@ public:
             out.resize(size);
             return out;
         }
-        // A component without its escapes; none if there is no such part. Fields are counted as the standard does: the
-        // first after the letter is 2, after a header's delimiters 3; repeats and components from 0.
+        // What a component means; none if there is no such part. Fields are counted as the standard does: the first
+        // after the letter is 2, after a header's delimiters 3; repeats and components from 0.
         std::optional<std::string> part(std::size_t field, std::size_t repeat = 0, std::size_t component = 0) const {
             auto wanted = std::tuple(field, repeat, component);
             auto found = std::lower_bound(begin(), end(), wanted,
@@ -596,7 +613,7 @@ public:
         }
     };
 
-    // The records of some bytes, to be gone through once.
+    // The records that some bytes complete, to be gone through once.
     template <bool Throws> class records {
         reader *from_;
         std::string_view rest_;
@@ -638,29 +655,30 @@ public:
             bool operator==(const iterator &other) const noexcept { return of_ == other.of_; }
             bool operator!=(const iterator &other) const noexcept { return of_ != other.of_; }
         };
-        iterator begin() { return advance() ? iterator(this) : end(); }
-        iterator end() noexcept { return iterator(this, nullptr); }
+        iterator begin() { return advance() ? iterator(this) : end(); }    // the next record
+        iterator end() noexcept { return iterator(this, nullptr); }        // after the last one
     };
 
 #if defined(__cpp_exceptions)
     reader() = default;
-    // The records that end in these bytes; message_error at one that can't be read, and then for good.
+    // The records that end in these bytes. One that can't be read throws message_error, and then each call does.
     records<true> feed(std::string_view bytes) noexcept { return {*this, bytes}; }
     template <class Bytes, detail::if_dies<Bytes> = 0> void feed(Bytes &&) = delete;
-    // The end of the stream; message_error if a message or a record isn't ended.
+    // The end of the stream: throws message_error if a message or a record isn't ended.
     void finish() {
         if (try_finish() != LIS_STATUS_OK)
             throw message_error(found_);
     }
 #endif
-    explicit reader(std::nothrow_t) noexcept : own_(std::nothrow) {}
-    explicit operator bool() const noexcept { return static_cast<bool>(own_); }
+    explicit reader(std::nothrow_t) noexcept : own_(std::nothrow) {}    // throws nothing
+    explicit operator bool() const noexcept { return static_cast<bool>(own_); }    // false if there was no memory
 
-    // The same without exceptions: it stops at a record that can't be read, and `refused` has it.
+    // As feed, without exceptions: it stops at a record that can't be read, and `refused` has it.
     records<false> try_feed(std::string_view bytes) noexcept { return {*this, bytes}; }
     template <class Bytes, detail::if_dies<Bytes> = 0> void try_feed(Bytes &&) = delete;
+    // The end of the stream: LIS_STATUS_UNFINISHED if a message or a record isn't ended.
     lis_status try_finish() noexcept { return lis_reader_finish(get(), &found_); }
-    // The record that can't be read, of the last piece or the end.
+    // The record that can't be read, of the last piece or of the end.
     std::optional<lis_found> refused() const noexcept {
         if (found_.kind == LIS_FOUND_REFUSED)
             return found_;
@@ -680,36 +698,45 @@ public:
 #if defined(__cpp_exceptions)
     writer() = default;
 #endif
-    explicit writer(std::nothrow_t) noexcept : own_(std::nothrow) {}
-    explicit operator bool() const noexcept { return static_cast<bool>(own_); }
+    explicit writer(std::nothrow_t) noexcept : own_(std::nothrow) {}    // throws nothing
+    explicit operator bool() const noexcept { return static_cast<bool>(own_); }    // false if there was no memory
 
+    // Drops all that was written, and begins with these delimiters.
     lis_status try_start(const lis_delimiters &delimiters) noexcept { return lis_writer_start(get(), &delimiters); }
+    // Begins a record by the letter of its kind.
     lis_status try_record(char letter) noexcept { return lis_writer_record(get(), static_cast<std::uint8_t>(letter)); }
+    // Writes a component that another one of the same repeat follows.
     lis_status try_component(std::string_view bytes) noexcept {
         return lis_writer_component(get(), detail::at(bytes), bytes.size());
     }
+    // Writes the last component of a repeat that another repeat of the field follows.
     lis_status try_repeat(std::string_view bytes) noexcept {
         return lis_writer_repeat(get(), detail::at(bytes), bytes.size());
     }
+    // Writes the last component of a field, for most fields the only one.
     lis_status try_field(std::string_view bytes) noexcept {
         return lis_writer_field(get(), detail::at(bytes), bytes.size());
     }
+    // Puts the record after the others.
     lis_status try_put() noexcept { return lis_writer_put(get(), &field_); }
-    // The field at fault of the last put, 0 if none is.
+    // The field that the last put failed for, 0 if none is at fault.
     std::size_t field_at_fault() const noexcept { return field_; }
 #if defined(__cpp_exceptions)
+    // As try_start.
     writer &start(const lis_delimiters &delimiters) { return detail::check(try_start(delimiters)), *this; }
-    writer &record(char letter) { return detail::check(try_record(letter)), *this; }
+    writer &record(char letter) { return detail::check(try_record(letter)), *this; }    // as try_record
+    // As try_component.
     writer &component(std::string_view bytes) { return detail::check(try_component(bytes)), *this; }
-    writer &repeat(std::string_view bytes) { return detail::check(try_repeat(bytes)), *this; }
-    writer &field(std::string_view bytes) { return detail::check(try_field(bytes)), *this; }
+    writer &repeat(std::string_view bytes) { return detail::check(try_repeat(bytes)), *this; }    // as try_repeat
+    writer &field(std::string_view bytes) { return detail::check(try_field(bytes)), *this; }      // as try_field
+    // As try_put; the error's index is the field at fault.
     writer &put() {
         lis_status status = try_put();
         return detail::check(status, field_), *this;
     }
 #endif
-    std::size_t size() noexcept { return lis_writer_texts(get()); }
-    // The text of a record that was put, with its CR; none if there are not so many.
+    std::size_t size() noexcept { return lis_writer_texts(get()); }    // how many records were put
+    // The text of a record that was put, with its CR, by its place from 0; none if there are not so many.
     std::optional<std::string> text(std::size_t place) {
         std::string out(lis_writer_text_len(get(), place), '\0');
         std::size_t size = 0;

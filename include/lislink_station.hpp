@@ -1,6 +1,6 @@
 // lislink::station of lislink.hpp: both ways of one line (LIS01-A2, 6.2.7 and 6.5), for C++17.
 //
-// Header only, over the C calls: tested and not proved. What lislink.hpp says of its owners holds for this one.
+// Header only, over the C calls: tested and not proved. What lislink.hpp says of its owners holds for this one too.
 #ifndef LISLINK_STATION_HPP
 #define LISLINK_STATION_HPP
 
@@ -8,15 +8,15 @@
 
 namespace lislink {
 
-// A side of a line on which both sides send: one owner for both ends. The bytes that a call gives are to be sent; there
-// may be none.
+// A side of a line on which both sides send: one owner for both ends. The bytes that a call returns are to be sent;
+// there may be none.
 class station {
     detail::owner<lis_station, lis_station_size, lis_station_align, lis_station_init, lis_station_end> own_;
     lis_answer answer_{};
     lis_place fault_{};
     std::string text_;
     std::string long_;      // room for a frame, with the long limit
-    bool spent_ = true;     // whether a reply may come that is late
+    bool spent_ = true;     // whether a late reply may come
 
     lis_station *get() noexcept { return own_.get(); }
 
@@ -45,8 +45,8 @@ class station {
     }
 
 public:
-    // An answer: keep its text, send its bytes, and call sent(). If that isn't called, nothing of it may go out: the
-    // line is closed, or, if the answer was of the sender, its session given up. Meanwhile the station hears no more.
+    // An answer: keep its text, send its bytes, and call sent(). If sent() isn't called, nothing of it may go out: the
+    // line is closed, or, if it was for the sender, its session is given up. Until then the station hears nothing more.
     class [[nodiscard]] answer_due {
         station *its_;
         lis_step step_;
@@ -59,15 +59,15 @@ public:
               text_(its.text_) {}
 
     public:
+        // What is due is due by the new one.
         answer_due(answer_due &&other) noexcept
             : its_(std::exchange(other.its_, nullptr)), step_(other.step_), is_step_(other.is_step_),
               send_(other.send_), text_(other.text_) {}
         answer_due &operator=(answer_due &&) = delete;
         ~answer_due() { drop(); }
 
-        // Whether it is a step of the receiver, and that step; else it was for the sender.
-        bool is_step() const noexcept { return is_step_; }
-        const lis_step &step() const noexcept { return step_; }
+        bool is_step() const noexcept { return is_step_; }         // whether it was for the receiver, not the sender
+        const lis_step &step() const noexcept { return step_; }    // the receiver's step
         // Whether nothing happened: the timer runs on. After any other answer it begins anew.
         bool is_quiet() const noexcept { return is_step_ && step_.note == LIS_NOTE_QUIET; }
         // The text that is complete, to be kept before anything is sent.
@@ -76,9 +76,9 @@ public:
         }
         // The bytes that are to be sent.
         std::string_view send() const noexcept { return send_; }
-        // The text was kept, and the bytes were sent.
+        // Call it when the text was kept and the bytes were sent.
         void sent() noexcept { its_ = nullptr; }
-        // Nothing goes out.
+        // Nothing goes out: the line is closed, or the session is given up.
         void drop() noexcept {
             if (station *its = std::exchange(its_, nullptr))
                 is_step_ ? its->close_line() : its->give_up();
@@ -86,24 +86,25 @@ public:
     };
 
 #if defined(__cpp_exceptions)
-    // A station of the usual limit on a frame's text.
+    // A station with the usual limit on a frame's text.
     explicit station(lis_role role) { begin(role); }
     // Sets the role and how long the text of a frame may be, and makes the station new, without a text.
     void begin(lis_role role, std::size_t limit = LIS_LIMIT_FRAME_TEXT) { detail::check(try_begin(role, limit)); }
-    void add(std::string_view text) { detail::check(try_add(text)); }
+    void add(std::string_view text) { detail::check(try_add(text)); }    // as try_add
+    // Asks for the line, as try_start; returns ENQ.
     std::string_view start() {
         std::string_view enq;
         lis_status status = try_start(enq);
         detail::check(status, fault_.index, fault_.place);
         return enq;
     }
-    void reserve(std::uint64_t bytes) { detail::check(try_reserve(bytes)); }
+    void reserve(std::uint64_t bytes) { detail::check(try_reserve(bytes)); }    // as try_reserve
 #endif
-    // A computer's station of the usual limit.
+    // A computer's station with the usual limit; throws nothing.
     explicit station(std::nothrow_t) noexcept : own_(std::nothrow) {}
-    explicit operator bool() const noexcept { return static_cast<bool>(own_); }
+    explicit operator bool() const noexcept { return static_cast<bool>(own_); }    // false if there was no memory
 
-    // As begin. It throws std::bad_alloc, and the station is as it was, if there is no memory.
+    // As begin. If there is no memory it throws std::bad_alloc, and the station is as it was.
     lis_status try_begin(lis_role role, std::size_t limit = LIS_LIMIT_FRAME_TEXT) {
         std::string room(limit == LIS_LIMIT_LONG_FRAME_TEXT ? LIS_LIMIT_LONG_FRAME_BYTES : 0, '\0');
         bool session = phase() != LIS_PHASE_NEUTRAL;
@@ -114,19 +115,19 @@ public:
         }
         return status;
     }
-    // A new connection was made; or a serial line was waited for, longer than the other side takes to answer, and what
-    // came was dropped. The station restarts.
+    // Call it when a new connection was made; on a serial line, when you have waited longer than the other side takes
+    // to answer, and dropped what came. The station restarts.
     void connected() noexcept {
         restart();
         spent_ = false;
     }
-    // A copy of a text for the next session.
+    // Adds a copy of a text to the next session.
     lis_status try_add(std::string_view text) noexcept {
         return lis_station_add_text(get(), detail::at(text), text.size());
     }
-    void clear() noexcept { lis_station_clear(get()); }
-    // Asks for the line: `out` is ENQ. LIS_STATUS_OLD_LINE before `connected`, and after a session that timed out or
-    // was given up; LIS_STATUS_LINE_OPEN while the other side has the line.
+    void clear() noexcept { lis_station_clear(get()); }    // drops the texts of the next session
+    // Asks for the line: `out` is ENQ. LIS_STATUS_OLD_LINE before `connected`, and, from when a session timed out or
+    // was given up, until `connected` is called again; LIS_STATUS_LINE_OPEN while the other side has the line.
     lis_status try_start(std::string_view &out) noexcept {
         out = std::string_view();
         fault_ = lis_place{};
@@ -137,11 +138,11 @@ public:
             out = detail::view(answer_.send.bytes, answer_.send.len);
         return status;
     }
-    // The text and the byte at fault of the last start.
+    // Which text and which byte of it the last start failed for.
     lis_place fault() const noexcept { return fault_; }
 
-    // Hears bytes up to the first answer, and takes them from the front of `bytes`; without one all are taken. If there
-    // is no memory for a text, the line is closed, and the note says so.
+    // Hears bytes up to the first answer, or all of them if there is none, and takes them from the front of `bytes`. If
+    // there is no memory for a text, the line is closed, and the note says so.
     answer_due next_answer(std::string_view &bytes) {
         answer_ = lis_answer{};
         answer_.is_step = true;
@@ -162,39 +163,46 @@ public:
         spent_ = spent_ || (session && outcome() == LIS_OUTCOME_TIMED_OUT);
         return answer_due(*this, answer_.send.len > 0);
     }
-    // How long the timer runs that runs now; none if none runs.
+    // How long the timer runs before it is over; none if no timer runs.
     std::optional<std::chrono::seconds> patience() noexcept {
         std::uint32_t seconds = 0;
         return lis_station_timer_seconds(get(), &seconds) ? std::optional(std::chrono::seconds(seconds)) : std::nullopt;
     }
-    // How long the line should be left to the other side, which waits for its turn; none if it doesn't.
+    // How long the line should be left to the other side, which waits for its turn; none if it doesn't wait.
     std::optional<std::chrono::seconds> turn() noexcept {
         std::uint32_t seconds = lis_station_turn_seconds(get());
         return seconds > 0 ? std::optional(std::chrono::seconds(seconds)) : std::nullopt;
     }
+    // Whether the other side asked for its turn, and hasn't had the line since.
     bool turn_asked() noexcept { return lis_station_turn_asked(get()); }
+    // While the other side has the line: asks it to let this side send.
     void ask_turn() noexcept { lis_station_ask_turn(get()); }
 
-    // Gives up the session of its own; drops that of the other side; does both.
+    // Gives up its own session.
     void give_up() noexcept {
         spent_ = spent_ || phase() != LIS_PHASE_NEUTRAL;
         lis_station_give_up(get());
     }
-    void close_line() noexcept { lis_station_close_line(get()); }
+    void close_line() noexcept { lis_station_close_line(get()); }    // drops the other side's session
+    // Does both, as when the connection is lost.
     void restart() noexcept {
         give_up();
         lis_station_restart(get());
     }
+    // Says whether the other side gets the line from now on: its ENQ is answered ACK, or NAK.
     void set_ready(bool ready) noexcept { lis_station_set_ready(get(), ready); }
+    // Makes room for so many more bytes of text.
     lis_status try_reserve(std::uint64_t bytes) noexcept { return lis_station_reserve(get(), bytes); }
 
-    bool awaits_reply() noexcept { return lis_station_awaits_reply(get()); }
-    lis_phase phase() noexcept { return lis_station_phase(get()); }
-    lis_outcome outcome() noexcept { return lis_station_outcome(get()); }
+    bool awaits_reply() noexcept { return lis_station_awaits_reply(get()); }    // whether the next byte is a reply
+    lis_phase phase() noexcept { return lis_station_phase(get()); }             // what its sender waits for
+    lis_outcome outcome() noexcept { return lis_station_outcome(get()); }       // how its last session ended
+    // How many frames of its own session are acknowledged.
     std::uint64_t acknowledged() noexcept { return lis_station_acknowledged(get()); }
-    bool is_open() noexcept { return lis_station_is_open(get()); }
+    bool is_open() noexcept { return lis_station_is_open(get()); }    // whether the other side has the line
+    // How many frames were accepted since the other side got the line.
     std::uint64_t accepted() noexcept { return lis_station_accepted(get()); }
-    std::uint64_t held() noexcept { return lis_station_held(get()); }
+    std::uint64_t held() noexcept { return lis_station_held(get()); }    // bytes of a text that isn't complete
 };
 
 } // namespace lislink
