@@ -19,16 +19,22 @@ class CaptureError(Exception):
 class Line(NamedTuple):
     """A line: `>` or `<` with bytes, `T`, `R`, `S` with how ENQ is answered, or nothing."""
 
+    #: `>`, `<`, `T`, `R`, `S`, or empty.
     mark: str
+    #: The bytes of `>` or `<`.
     data: bytes = b""
+    #: How ENQ is answered from `S` on: ready, busy or contending.
     ready: str = ""
 
 
 class Capture(NamedTuple):
-    """The lines of a capture, and the time of each in nanoseconds where it is known."""
+    """The lines of a capture, and the time of each in nanoseconds, if it is known."""
 
+    #: The version of the form, 1 or 2.
     version: int
+    #: Each line, with its number in the file.
     lines: List[Tuple[int, Line]]
+    #: The time of each line, or None.
     times: List[Optional[int]]
 
 

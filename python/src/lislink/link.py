@@ -113,23 +113,34 @@ class WrongThread(RuntimeError):
 
 
 class Signal(NamedTuple):
-    """A signal of the line. A frame has a number, whether it is the last of its message, and a text."""
+    """A signal of the line. What its kind doesn't have is 0, False or empty."""
 
+    #: What it is.
     kind: Kind
+    #: The number of a frame.
     number: int
+    #: Whether a frame is the last of its message.
     last: bool
+    #: What is wrong with a bad frame.
     fault: FrameFault
+    #: Of FrameFault.FORBIDDEN: the byte's place in the text, from 0.
     place: int
+    #: The text of a frame.
     text: bytes
 
 
 class Step(NamedTuple):
-    """A receiver's answer: the byte to send, the text that is delivered, and what it meant."""
+    """What a byte or the timer meant to a receiver, and what is to be done: keep the text, then send the reply."""
 
+    #: The byte to send; empty for none.
     reply: bytes
+    #: The text that is complete; None for most steps.
     text: Optional[bytes]
+    #: What it meant.
     note: Note
+    #: The number of a frame, or the FrameFault of one that is bad; else 0.
     detail: int
+    #: Of FrameFault.FORBIDDEN: the byte's place in the frame's text, from 0.
     place: int
 
 

@@ -74,12 +74,15 @@ class Entry:
     """A record in its message: fields by number or by name, its notes (C, M, S), and what belongs to it below."""
 
     def __init__(self, row: Row, number: int, encoding: str) -> None:
-        #: The record; its number in the message, from 1.
-        self.row, self.number = row, number
+        #: The record itself.
+        self.row = row
+        #: Its number in the message, from 1.
+        self.number = number
+        #: The encoding of its texts.
         self.encoding = encoding
-        #: Comments, manufacturer's and scientific records on this record.
+        #: The comments, manufacturer's and scientific records on it.
         self.notes: List[Entry] = []
-        #: Orders of a patient or a query, results of an order.
+        #: The orders of a patient or a query, the results of an order.
         self.children: List[Entry] = []
 
     @property
@@ -140,10 +143,13 @@ class Entry:
 
 
 class Finding(NamedTuple):
-    """A record whose sequence number isn't its position: the record's number in its message, and the position."""
+    """A record whose sequence number isn't its position under its parent."""
 
+    #: The record's number in its message, from 1.
     number: int
+    #: The record's letter.
     letter: str
+    #: The position, which the sequence number should be.
     position: int
 
 
@@ -151,9 +157,15 @@ class Message:
     """A whole message: a header, patients and queries with what is below them, and a terminator."""
 
     def __init__(self, rows: Iterable[Row], encoding: str = "latin-1") -> None:
-        self.rows, self.encoding = list(rows), encoding
+        #: Its records.
+        self.rows = list(rows)
+        #: The encoding of its texts.
+        self.encoding = encoding
+        #: Its patients, each with its orders.
         self.patients: List[Entry] = []
+        #: Its queries.
         self.queries: List[Entry] = []
+        #: All its records, in order.
         self.entries: List[Entry] = []
         self._build()
 
@@ -241,19 +253,26 @@ def _is_number(row: Row, position: int) -> bool:
 
 
 class Fault(NamedTuple):
-    """A message that can't be read: the error, the place of its first byte, and that of the rejected record."""
+    """A message that can't be read."""
 
+    #: Why its next record can't be read.
     error: MessageError
+    #: The place of its first byte in the stream.
     start: int
+    #: The place of that record.
     place: int
+    #: The records before that one.
     rows: List[Row]
 
 
 class Found(NamedTuple):
-    """A message, with the place of its first byte and of the end of each record in the stream."""
+    """A message, and its place in the stream."""
 
+    #: The message.
     message: Message
+    #: The place of its first byte.
     start: int
+    #: The place after the end of each of its records.
     ends: List[int]
 
 

@@ -16,12 +16,12 @@ class Role(enum.IntEnum):
 
 
 class Answer(NamedTuple):
-    """What a byte or the timer meant to a station: the bytes to send, and the receiver's step.
+    """What a byte or the timer meant to a station: keep the text, then send the bytes. The station's timer begins anew
+    at each answer."""
 
-    `step` is None if it was for the sender. If it has a text, keep that first, then send. The station's timer starts
-    anew at each answer."""
-
+    #: The bytes to send; there may be none.
     send: bytes
+    #: The receiver's step; None if it was for the sender.
     step: Optional[Step]
 
     @property

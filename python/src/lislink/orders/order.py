@@ -27,17 +27,25 @@ class OrderError(Exception):
 
 
 class Order(NamedTuple):
-    """What is to be measured of a sample; for one line, or for any that asks. A name is `last^first`, a date YYYYMMDD,
-    maybe with HHMM or HHMMSS after it."""
+    """What is to be measured of a sample. A date is YYYYMMDD, and HHMM or HHMMSS may follow."""
 
+    #: The sample.
     sample: str
+    #: The tests of it.
     tests: Tuple[str, ...]
+    #: The line that gets it; empty for any line that asks.
     line: str = ""
+    #: S, A, R, C or P: at once, as soon as possible, routine, call back, before an operation.
     priority: str = "R"
+    #: The patient's number.
     patient: str = ""
+    #: The patient's name, `last^first`.
     name: str = ""
+    #: The patient's date of birth.
     birth: str = ""
+    #: The patient's sex.
     sex: str = ""
+    #: When the sample was taken.
     collected: str = ""
 
     def checked(self) -> "Order":
