@@ -6,6 +6,7 @@
 # make install  puts what was built under $(PREFIX): program, library, headers, Python package, manual pages
 # make uninstall  removes these again
 # make deb      makes a package of Debian of them, build/lislink_VERSION_amd64.deb
+# make docs     makes the references for C, C++, Rust and Python, in build/docs (doxygen, cargo, python3-sphinx)
 #
 # Long runs, outside the gate:
 # make mutants  [CRATES="lis_link .."]   all mutants: the prover must reject each, and a test must notice it
@@ -27,7 +28,7 @@ PROGRAM = $(BUILD)/lislink
 ARCHIVE = $(BUILD)/liblis_c.a
 VERSION = $(shell cat VERSION)
 
-.PHONY: build check demo test mutants harmless soak plant bench bench-check library linked install uninstall deb fuzz
+.PHONY: build check demo test mutants harmless soak plant bench bench-check library linked install uninstall deb docs fuzz
 
 build:
 	@tools/needed python rt room
@@ -115,6 +116,10 @@ uninstall:
 # lislink_VERSION_amd64.deb in $(BUILD), for dpkg -i.
 deb: $(PROGRAM) $(BUILD)/liblislink.so.1
 	@BUILD=$(BUILD) packaging/deb
+
+docs:
+	@tools/docs $(BUILD)/docs
+	@echo 'The references are in $(BUILD)/docs/index.html'
 
 # Harnesses of libFuzzer over the library, so many seconds each.
 EACH = 600
