@@ -25,7 +25,8 @@ from tests import ROOT, kit
 PAGES = ["README.md", "CONTRIBUTING.md", "CHANGELOG.md", "SECURITY.md", "docs/*.md", "conformance/README.md",
          "python/README.md"]
 SOURCES = {
-    "rust": ["crates/uses/src/*.rt", "crates/quick_results/src/*.rt", "bindings/rust/**/*.rs"],
+    "rust": ["crates/uses/src/*.rt", "crates/quick_results/src/*.rt", "crates/lis_tests/src/*.rt", "examples/rattle/*.rs",
+             "bindings/rust/**/*.rs"],
     "c": ["examples/c/*.c", "bindings/**/*.c"],
     "cpp": ["examples/cpp/*.cpp", "tests/**/*.cpp"],
     "python": ["examples/python/*.py", "python/src/lislink/**/*.py"],
