@@ -1,8 +1,9 @@
 """The proved laboratory link of LIS01-A2 and LIS02-A2 for Python.
 
-`Scanner`, `Sender`, `Receiver`, `Station`, `Reader` and `Writer` call the proved library liblislink by ctypes;
-`Message` makes what a reader has read into data, `order_texts` the records of orders. The command is `lislab`. Nothing
-of this package itself is proved: it is tested.
+`Scanner`, `Sender`, `Receiver`, `Station`, `Reader` and `Writer` call the proved library liblislink by ctypes.
+`Message` makes data of the records that a reader read, and `order_texts` the records of orders. The command is
+`lislab`. The package itself is tested and not proved. The standard's timers are `REPLY`, `BUSY`, `CONTENTION` and
+`RECEIVER`, in seconds; a frame's text has at most `FRAME_TEXT` bytes, or `LONG_FRAME_TEXT` with the long limit.
 """
 from ._library import LibraryMissing
 from .capture import Capture, CaptureError, Line, read_capture, write_lines

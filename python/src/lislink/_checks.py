@@ -1,4 +1,4 @@
-"""What a caller hands in is tested here: ctypes alone would wrap numbers and read text that is no bytes."""
+"""What a caller gives is looked at here: ctypes alone would wrap numbers, and read text that is no bytes."""
 from typing import Any
 
 

@@ -1,7 +1,7 @@
 """The proved library liblislink, found and called by ctypes. It is loaded at the first call that needs it.
 
-The library is searched in this order: the file that LISLINK_LIBRARY names, beside this file, `build/` of the repository
-that this file belongs to, `lib/` of the Python's and the usual prefixes, and the system's loader.
+It is looked for in this order: the file that LISLINK_LIBRARY names, the folder of this file, `build/` of the
+repository that this file belongs to, `lib/` of the Python's and the usual prefixes, and the system's loader.
 """
 import ctypes
 import os
@@ -79,7 +79,7 @@ class RecordOut(ctypes.Structure):
     _fields_ = [("letter", ctypes.c_uint8), ("fields", ctypes.c_size_t), ("place", ctypes.c_size_t)]
 
 
-# What each call answers, and what it takes.
+# What each call returns, and what it takes.
 _CALLS: Dict[str, Any] = {
     "frame_write": (_BYTE, _BYTE, _FLAG, _POINTER, _SIZE, _POINTER, _POINTER),
     "long_frame_write": (_BYTE, _BYTE, _FLAG, _POINTER, _SIZE, _POINTER, _SIZE, _POINTER, _POINTER),

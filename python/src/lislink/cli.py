@@ -1,4 +1,4 @@
-"""The command `lislab`: what a laboratory runs beside the proved program `lislink`."""
+"""The command `lislab`: what a laboratory runs besides the proved program `lislink`."""
 import argparse
 import codecs
 import os
@@ -88,7 +88,7 @@ def _imported(data: bytes, ask: argparse.Namespace) -> Tuple[Capture, List[str]]
 
 
 def load(path: str, ask: argparse.Namespace) -> Tuple[Capture, List[str]]:
-    """A capture with the times beside it, or the capture of a log."""
+    """A capture with the times in the file next to it, or the capture of a log."""
     data = read_input(path)
     if ask.form is None and looks_like_capture(data):
         capture = read_capture(data)
@@ -107,7 +107,7 @@ def _looks_like_records(data: bytes) -> bool:
 
 
 def times_text(capture: Capture) -> str:
-    """The times beside a capture: a line for each of its lines."""
+    """The file of times next to a capture: a line for each of its lines."""
     head = ["" for _ in range(capture.lines[0][0] - 1)] if capture.lines else []
     return "".join(row + "\n" for row in head + [time_text(time) for time in capture.times])
 
@@ -340,7 +340,7 @@ def parser() -> argparse.ArgumentParser:
 
 
 def main(words: Optional[List[str]] = None) -> int:
-    """Runs the command; answers its exit status."""
+    """Runs the command; returns its exit status."""
     ask = parser().parse_args(words)
     try:
         return int(ask.run(ask))

@@ -1,7 +1,7 @@
 """The link of LIS01-A2: scanner, sender and receiver. Each decision is made by the proved library.
 
-A scanner, a sender and a receiver are context managers. Each belongs to the thread that made it: a call from another
-thread raises WrongThread. What the library rejects is a LinkError with its status.
+Scanners, senders and receivers are context managers. Each belongs to the thread that made it: a call from another
+thread raises WrongThread. A call that the library rejects raises LinkError with its status.
 """
 import ctypes
 import enum
@@ -15,12 +15,12 @@ from ._checks import as_bytes, as_flag, as_number
 REPLY, BUSY, CONTENTION, RECEIVER = 15, 10, 1, 30
 #: The most bytes of a frame's text: with the usual limit, and with the long one.
 FRAME_TEXT, LONG_FRAME_TEXT = 240, 63993
-# The kind of a signal whose text is next to it; it is a FRAME here.
+# The kind of a signal whose text doesn't fit into its struct; it is a FRAME here.
 _LONG_FRAME = 5
 
 
 class Status(enum.IntEnum):
-    """What a call that may fail answers."""
+    """What a call that may fail returns."""
 
     (
         OK,
@@ -84,9 +84,11 @@ class Note(enum.IntEnum):
         NO_ROOM,
         TEXT_TOO_LONG,
         TOO_MANY,
-        REFUSED_MEMORY,
+        OUT_OF_MEMORY,
         TIMED_OUT,
     ) = range(13)
+    # The names of the C constant, and of an earlier version.
+    TOO_LONG, REFUSED_MEMORY = TEXT_TOO_LONG, OUT_OF_MEMORY
 
 
 class Readiness(enum.IntEnum):
@@ -96,7 +98,7 @@ class Readiness(enum.IntEnum):
 
 
 class LinkError(Exception):
-    """A call was rejected: its status, and where it has them the text and the byte at fault, from 0."""
+    """A call was rejected: its status and, if it has them, the text and the byte at fault, from 0."""
 
     def __init__(self, status: int, index: Optional[int] = None, place: Optional[int] = None) -> None:
         super().__init__(Status(status).name, *(one for one in (index, place) if one is not None))
@@ -145,7 +147,7 @@ class Step(NamedTuple):
 
 
 def address(data: bytes) -> int:
-    """Where bytes are. Keep them as long as the address is used."""
+    """The address of bytes. Keep them as long as it is used."""
     return ctypes.cast(ctypes.c_char_p(data), ctypes.c_void_p).value or 0
 
 
@@ -176,7 +178,7 @@ def _long_frame_bytes(number: int, last: bool, text: bytes) -> bytes:
 
 
 class Owner:
-    """What lives in a block of memory; it is released by `close`, by `with`, or with the object."""
+    """The owner of a block of memory, which is released by `close`, at the end of `with`, or with the object."""
 
     _kind = ""
 
@@ -188,7 +190,7 @@ class Owner:
         start = ctypes.addressof(self._block)
         self._handle: Optional[_library.Handle] = _library.Handle(start + -start % align)
         calls[f"{self._kind}_init"](self._handle.at)
-        # Bytes of a piece that a loop has left unread: they are read before those of the next piece.
+        # The bytes of a piece that a loop left unread: they are read before those of the next piece.
         self._piece, self._at = b"", 0
 
     def _owned(self) -> _library.Handle:
@@ -203,7 +205,7 @@ class Owner:
         return _library.calls()[f"{self._kind}_{name}"](ctypes.byref(self._owned()), *words)
 
     def _set_limit(self, limit: int) -> None:
-        """How long a frame's text may be; an object that can't have that limit is closed."""
+        """Sets how long a frame's text may be. An object that can't have that limit is closed."""
         if limit == FRAME_TEXT:
             return
         try:
@@ -224,7 +226,7 @@ class Owner:
         return bytes(memoryview(copy)[:size])
 
     def _add(self, data: bytes) -> int:
-        """Puts a piece behind what is left; answers the place of its first byte, less than nothing is never it."""
+        """Puts a piece after what is left; returns how many bytes were left before it."""
         data = as_bytes(data)
         left = len(self._piece) - self._at
         self._owned()
@@ -232,7 +234,7 @@ class Owner:
         return left
 
     def _read_on(self, name: str, out: Any) -> int:
-        """Reads bytes that are left by a call of the library; answers how many it took."""
+        """Reads bytes that are left by a call of the library; returns how many it read."""
         piece = self._piece
         count: int = self._call(name, address(piece) + self._at, len(piece) - self._at, ctypes.byref(out))
         self._at += count
@@ -240,11 +242,11 @@ class Owner:
 
     @property
     def waiting(self) -> int:
-        """How many bytes that were handed in are still unread, since a loop was left early."""
+        """How many of the bytes that were given are still unread, since a loop was left early."""
         return len(self._piece) - self._at
 
     def close(self) -> None:
-        """Releases the block. A closed object answers no call."""
+        """Releases the block. No call can be made of an object that is closed."""
         if getattr(self, "_handle", None) is not None and self._thread != threading.get_ident():
             raise WrongThread(f"this {self._kind} belongs to the thread that made it")
         self._end()
@@ -261,7 +263,7 @@ class Owner:
         self.close()
 
     def __del__(self) -> None:
-        self._end()  # nobody else has the object by now, whatever thread collects it
+        self._end()  # nobody else has the object now, whatever thread collects it
 
 
 class Scanner(Owner):
@@ -274,11 +276,13 @@ class Scanner(Owner):
         self._set_limit(frame_limit)
 
     def feed(self, data: bytes) -> Iterator[Signal]:
-        """The signals of further bytes, in order. Bytes that a loop leaves unread are read by the next call."""
+        """The signals that these bytes complete, in order. Bytes that a loop leaves unread are read by the next
+        call."""
         return (signal for _, signal in self.feed_placed(data))
 
     def feed_placed(self, data: bytes) -> Iterator[Tuple[int, Signal]]:
-        """The same, each with the place in `data` of the byte that completes it; below 0 for bytes left before."""
+        """As `feed`, each signal with the place in `data` of the byte that completes it; below 0 for bytes of an
+        earlier piece."""
         left = self._add(data)
         return self._signals(left)
 
@@ -299,7 +303,7 @@ class Scanner(Owner):
 
 
 class Sender(Owner):
-    """The sending end. `start`, `reply` and `timer` answer the bytes to send.
+    """The sending end. `start`, `reply` and `timer` return the bytes to send.
 
     A frame's text has at most `frame_limit` bytes, FRAME_TEXT or LONG_FRAME_TEXT."""
 
@@ -311,7 +315,7 @@ class Sender(Owner):
         self._room = ctypes.create_string_buffer(LONG_FRAME_TEXT + 7) if frame_limit == LONG_FRAME_TEXT else None
 
     def add_text(self, text: bytes) -> None:
-        """Puts a copy of a text to the next session."""
+        """Adds a copy of a text to the next session."""
         text = as_bytes(text)
         status = self._call("add_text", address(text), len(text))
         if status:
@@ -322,7 +326,7 @@ class Sender(Owner):
         self._call("clear")
 
     def start(self) -> bytes:
-        """Starts a session with the texts that were put, and answers ENQ."""
+        """Starts a session with the texts that were added; returns ENQ, to be sent."""
         out, fault = _library.Bytes(), _library.Place()
         status = self._call("start", ctypes.byref(out), ctypes.byref(fault))
         if status:
@@ -330,7 +334,7 @@ class Sender(Owner):
         return bytes(out.bytes[: out.len])
 
     def reply(self, byte: int) -> bytes:
-        """A reply byte came."""
+        """A reply byte came: what is to be sent."""
         return self._sent("reply", as_number(byte, 0, 255, "the reply")) or self._long_frame()
 
     def _long_frame(self) -> bytes:
@@ -341,7 +345,7 @@ class Sender(Owner):
         return self._room.raw[: size.value]
 
     def timer(self) -> bytes:
-        """The time of `seconds` is over."""
+        """The time of `seconds` is over: what is to be sent."""
         return self._sent("timer")
 
     def restart(self) -> None:
@@ -370,12 +374,13 @@ class Sender(Owner):
 
     @property
     def seconds(self) -> Optional[int]:
-        """How long a reply is awaited, or the line left alone, before `timer`; None if no session goes on."""
+        """After how many seconds `timer` is due, if no reply comes; None if no session goes on."""
         return {Phase.NEUTRAL: None, Phase.BUSY: BUSY, Phase.CONTENTION: CONTENTION}.get(self.phase, REPLY)
 
 
 class Receiver(Owner):
-    """The receiving end. Keep a step's text first, then send its reply. If you can't keep it, restart and send nothing.
+    """The receiving end. Keep a step's text first, then send its reply. If you can't keep it, call `restart` and
+    send nothing.
 
     A frame's text has at most `frame_limit` bytes, FRAME_TEXT or LONG_FRAME_TEXT."""
 
@@ -386,12 +391,13 @@ class Receiver(Owner):
         self._set_limit(frame_limit)
 
     def hear(self, data: bytes) -> Iterator[Step]:
-        """The steps of further bytes that mean something, in order. Bytes that a loop leaves unheard are heard by the
+        """The steps of these bytes that mean something, in order. Bytes that a loop leaves unheard are heard by the
         next call."""
         return (step for _, step in self.hear_placed(data))
 
     def hear_placed(self, data: bytes) -> Iterator[Tuple[int, Step]]:
-        """The same, each with the place in `data` of the byte that it answers; below 0 for bytes left before."""
+        """As `hear`, each step with the place in `data` of the byte that it is about; below 0 for bytes of an
+        earlier piece."""
         left = self._add(data)
         return self._steps(left)
 
@@ -403,21 +409,21 @@ class Receiver(Owner):
                 yield self._at - 1 - left, self._told(out)
 
     def timer(self) -> Step:
-        """30 seconds without a byte are over."""
+        """The receiver's timer ran out: 30 seconds (RECEIVER) after the last step."""
         out = _library.StepOut()
         self._call("timer", ctypes.byref(out))
         return self._told(out)
 
     def restart(self) -> None:
-        """Drops the line and what is held."""
+        """Gives up what goes on: the line is closed, and what is held is dropped. Nothing is sent."""
         self._call("restart")
 
     def set_room(self, room: bool) -> None:
-        """Whether there is room for another frame."""
+        """Says whether there is room for another frame from now on; without it a new frame is answered NAK."""
         self._call("set_room", as_flag(room, "room"))
 
     def set_ready(self, readiness: Readiness) -> None:
-        """How ENQ is answered from here on."""
+        """Says how ENQ is answered from now on."""
         if isinstance(readiness, bool):
             raise TypeError("a Readiness is needed, not bool")
         self._call("set_ready", Readiness(readiness))
@@ -430,12 +436,12 @@ class Receiver(Owner):
 
     @property
     def is_open(self) -> bool:
-        """Whether the line is open, and the receiver's timer runs."""
+        """Whether the line is open, and so the receiver's timer runs."""
         return bool(self._call("is_open"))
 
     @property
     def accepted(self) -> int:
-        """How many frames were accepted since the line was opened."""
+        """How many frames were accepted since the line was last opened."""
         return int(self._call("accepted"))
 
     @property

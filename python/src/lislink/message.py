@@ -1,4 +1,4 @@
-"""Messages as data: patients, orders and results of what the proved reader has read, with LIS02-A2's names of
+"""Messages as data: the patients, orders and results in what the proved reader read, with LIS02-A2's names of
 fields."""
 import json
 from typing import Any, Dict, Generator, Iterable, Iterator, List, NamedTuple, Optional, Tuple, Union
@@ -8,7 +8,7 @@ from .records import MessageError, Reader
 from .rows import Row
 from .shown import Parts, as_parts, as_text
 
-#: The names of the fields behind a record's letter, by the standard's numbers (a header's delimiters are field 2).
+#: The names of the fields after a record's letter, by the standard's numbers (a header's delimiters are field 2).
 NAMES: Dict[str, Dict[int, str]] = {
     "H": dict(
         enumerate(
@@ -71,7 +71,7 @@ _NUMBERS = {letter: {name: number for number, name in names.items()} for letter,
 
 
 class Entry:
-    """A record in its message: fields by number or by name, its notes (C, M, S), and what belongs to it below."""
+    """A record in its message: its fields by number or by name, its notes (C, M, S), and the records below it."""
 
     def __init__(self, row: Row, number: int, encoding: str) -> None:
         #: The record itself.
@@ -101,16 +101,16 @@ class Entry:
         return [one for one in self.children if one.letter == "R"]
 
     def part(self, field: int, repeat: int = 0, component: int = 0) -> Optional[bytes]:
-        """A component's bytes with escapes undone; None if there is none."""
+        """The bytes that a component means; None if there is no such component."""
         return self.row.part(field, repeat, component)
 
     def text(self, field: int, repeat: int = 0, component: int = 0) -> str:
-        """A component as text in the message's encoding; empty if there is none."""
+        """A component as text in the message's encoding; empty if there is no such component."""
         return (self.part(field, repeat, component) or b"").decode(self.encoding, "replace")
 
     def whole(self, field: int) -> str:
-        """A field as text, its components joined by ^ and its repeats by a backslash. Escapes are undone but for what
-        would be read as these: `&S&`, `&R&`, and `&E&` where & would be read as an escape."""
+        """A field as text, its components joined by ^ and its repeats by a backslash. Escapes are decoded, but for
+        those of these two, `&S&` and `&R&`, and for `&E&` where an & would be read as an escape."""
         return as_text(self.row, field, self.encoding)
 
     def parts(self, field: int) -> Parts:
@@ -126,8 +126,8 @@ class Entry:
         )
 
     def to_dict(self, nested: bool = False) -> Dict[str, Any]:
-        """The record, its notes and what is below it, as plain data; fields that are empty are left out. Fields are
-        texts (`whole`), or lists where they have components or repeats (`parts`)."""
+        """The record, its notes and the records below it, as plain data; empty fields are left out. Fields are texts
+        (`whole`); if `nested`, those with components or repeats are lists (`parts`)."""
         names = NAMES.get(self.letter, {})
         told: Dict[str, Any] = {"record": self.letter}
         for number in range(self.row.first, self.row.first + self.row.count):
@@ -228,7 +228,7 @@ class Message:
         return found
 
     def to_dict(self, nested: bool = False) -> Dict[str, Any]:
-        """The message as plain data; fields are texts, or lists where they have components or repeats."""
+        """The message as plain data; fields are texts or, if `nested`, lists if they have components or repeats."""
         told = {
             "header": self.header.to_dict(nested),
             "patients": [one.to_dict(nested) for one in self.patients],
@@ -277,8 +277,8 @@ class Found(NamedTuple):
 
 
 def read_all(stream: bytes, encoding: str = "latin-1") -> Iterator[Union[Found, Fault]]:
-    """All messages of a stream, and a Fault for each that can't be read: it doesn't hide the later ones. Behind a fault
-    reading goes on at the next record that begins with H and a delimiter's byte."""
+    """All messages of a stream, and a Fault for each that can't be read, which doesn't hide the later ones: reading
+    goes on at the next record that begins with H and a byte that may be a delimiter."""
     stream, at = as_bytes(stream), 0
     while at < len(stream):
         fault = yield from _read_from(stream, at, encoding)
@@ -309,7 +309,7 @@ def _read_from(stream: bytes, begun: int, encoding: str) -> Generator[Found, Non
 
 
 def _next_header(stream: bytes, place: int, start: int) -> int:
-    """Where the next header may begin: at the rejected record, if it isn't the first of its message, or behind it."""
+    """Where the next header may begin: at the rejected record, if it isn't the first of its message, or after it."""
     at = place
     while at < len(stream):
         if stream[at : at + 1] in (b"H", b"h") and at > start and not stream[at + 1 : at + 2].isalnum():

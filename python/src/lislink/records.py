@@ -23,13 +23,13 @@ _LETTERS = [chr(letter) for letter in range(256)]
 
 
 class Reason(enum.IntEnum):
-    """Why a record can't be read where it is."""
+    """Why a record can't be read."""
 
     NONE, BAD_RECORD, NOT_HEADER, NO_PARENT, SECOND_HEADER, UNFINISHED, TOO_LONG, OUT_OF_MEMORY = range(8)
 
 
 class MessageError(Exception):
-    """A record that can't be read: its number in its message, from 1, why, and what goes with that."""
+    """A record that can't be read: its number in its message, from 1, the reason, and what the reason comes with."""
 
     def __init__(self, number: int, reason: int, detail: int, place: int) -> None:
         super().__init__(number, Reason(reason).name, detail, place)
@@ -64,14 +64,15 @@ class Record:
 
     @property
     def delimiters(self) -> bytes:
-        """Those that a header declares, or that the record was read under: field, repeat, component, escape."""
+        """The delimiters that a header declares, or that the record was read under: field, repeat, component,
+        escape."""
         return bytes(self._delimiters)
 
     def _whole(self) -> Tuple[int, int]:
         return address(self._text), len(self._text)
 
     def part(self, field: int, repeat: int = 0, component: int = 0) -> Optional[bytes]:
-        """The bytes of a component, its escapes as what they mean; None if there is none. The letter is field 1, and a
+        """The bytes that a component means; None if there is no such component. The letter is field 1, and a
         header's delimiters are field 2; repeats and components are counted from 0."""
         where = [
             as_number(one, 0, _MOST, name)
@@ -91,7 +92,7 @@ class Record:
 
 
 def records(texts: Iterable[bytes]) -> Iterator[Record]:
-    """The records of texts, each with a CR behind it, under the delimiters of the nearest header before them."""
+    """The records in texts, each of which may end with its CR, under the delimiters of the last header before them."""
     header = None
     for text in texts:
         text = as_bytes(text)
@@ -103,7 +104,7 @@ def records(texts: Iterable[bytes]) -> Iterator[Record]:
 
 
 class _Room(threading.local):
-    """What the library writes records and parts into: one for each thread, since it is read at once."""
+    """The room into which the library writes records and parts: one for each thread, since it is read at once."""
 
     def __init__(self) -> None:
         self.entries = (ctypes.c_uint64 * (_ENTRY.size * TOGETHER // 8))()
@@ -122,8 +123,8 @@ class Reader(Owner):
         super().__init__()
         #: How many bytes of the stream were read: after a record, up to its end.
         self.read = 0
-        #: How many the library has read; the records that it has read and that aren't given yet, the piece that they
-        #: are of, where that was read from, and the place of that in the stream.
+        #: How many bytes the library has read. Of the records that it has read and that aren't given yet: themselves,
+        #: their piece, where in the piece it read from, and the place of that in the stream.
         self._taken = 0
         self._left: Iterator[Tuple[Any, ...]] = iter(())
         self._source: Tuple[bytes, int, int] = b"", 0, 0
@@ -133,12 +134,12 @@ class Reader(Owner):
 
     @property
     def waiting(self) -> int:
-        """How many bytes that were handed in are still unread, since a loop was left early."""
+        """How many of the bytes that were given are still unread, since a loop was left early."""
         return super().waiting + (self._taken - self.read if operator.length_hint(self._left) else 0)
 
     def feed(self, data: bytes) -> Iterator[Row]:
-        """The records that further bytes end, in order; MessageError at the first that can't be read, and then at every
-        call, also of no bytes. Bytes that a loop leaves unread are read by the next call."""
+        """The records that end in these bytes, in order. MessageError at the first that can't be read, and then at
+        every call, even without bytes. Bytes that a loop leaves unread are read by the next call."""
         self._add(data)
         return self._rows()
 
@@ -172,7 +173,8 @@ class Reader(Owner):
         return read > 0
 
     def _read_on_by_itself(self) -> Optional[Row]:
-        """Reads bytes of a record that isn't whole in the piece, or can't be read: the record, if they end it."""
+        """Reads bytes of a record that isn't whole in the piece, or can't be read; returns the record, if they end
+        it."""
         out, at = _library.Found(), self._at
         self._taken += self._read_on("read", out)
         if out.kind == 2:
@@ -185,7 +187,7 @@ class Reader(Owner):
         return self._last_row(out)
 
     def _last_row(self, out: _library.Found) -> Row:
-        """The record that was read by itself, which the library then gives up."""
+        """The record that was read alone, which the library then gives up."""
         table, size = _library.Table(), ctypes.c_size_t()
         self._call("parts", _ROOM.parts, RECORD_BYTES, ctypes.byref(table))
         text = (ctypes.c_uint8 * table.len)()
@@ -195,7 +197,7 @@ class Reader(Owner):
         return Row(letter, bytes(text), self._marks, fields, table.count)
 
     def letters(self, data: bytes) -> Iterator[str]:
-        """The same without the fields: the letters of the records that further bytes end."""
+        """As `feed`, without the fields: the letters of the records that end in these bytes."""
         self._add(data)
         return self._letters()
 
@@ -223,8 +225,8 @@ Field = Union[bytes, Sequence[Union[bytes, Sequence[bytes]]]]
 
 
 class Writer(Owner):
-    """Writes records by their fields as link texts. A field is bytes, a list of components, or a list of repeats: of
-    these at least one is a list of components itself."""
+    """Writes records by their fields, as texts for the link. A field is bytes, a list of components, or a list of
+    repeats, at least one of which is a list of components itself."""
 
     _kind = "writer"
 
@@ -236,7 +238,8 @@ class Writer(Owner):
         self._check(self._call("start", ctypes.byref(_library.Delimiters(*given))))
 
     def record(self, letter: str, fields: Iterable[Field]) -> None:
-        """Puts a record behind the others; LinkError with the status, and the number of a field at fault as place."""
+        """Puts a record after the others; LinkError with the status and, as its place, the number of the field at
+        fault."""
         if not isinstance(letter, str) or len(letter) != 1 or ord(letter) > 255:
             raise TypeError("a record's letter is one character")
         self._check(self._call("record", ord(letter)))
@@ -249,7 +252,7 @@ class Writer(Owner):
         self._check(self._call("put", ctypes.byref(place)), place)
 
     def _put(self, repeat: Sequence[bytes], ends: str) -> None:
-        """Puts the components of a repeat, whose last one ends this."""
+        """Puts the components of a repeat; the last one ends the repeat or the field."""
         *others, last = [as_bytes(part) for part in repeat]
         for part in others:
             self._check(self._call("component", address(part), len(part)))
@@ -270,7 +273,8 @@ class Writer(Owner):
 
 
 def _repeats_of(field: Any) -> List[Sequence[bytes]]:
-    """The repeats of a field, each as its components; TypeError if it is none, ValueError if it has no component."""
+    """The repeats of a field, each as its components; TypeError for what can't be a field, ValueError without a
+    component."""
     parts = [field] if isinstance(field, (bytes, bytearray, memoryview)) else field
     if not isinstance(parts, (list, tuple)):
         raise TypeError(f"a field is bytes or a list of them, not {type(field).__name__}")
@@ -280,7 +284,8 @@ def _repeats_of(field: Any) -> List[Sequence[bytes]]:
 
 
 def messages(pieces: Iterable[bytes]) -> Iterator[List[Row]]:
-    """The messages of a stream, each as its records; MessageError if it can't be read, or ends too early."""
+    """The messages of a stream, each as its records; MessageError if one can't be read, or the stream ends within
+    one."""
     with Reader() as reader:
         rows: List[Row] = []
         for piece in pieces:

@@ -1,6 +1,7 @@
-"""A record of a message as data: its parts become bytes when they are asked for. The proved library says where a record
-is, its letter, its delimiters and how many fields and parts it has, and it decodes escapes. Splitting at the delimiters
-is done here: it must give these numbers, and `tests/field` compares it with the library's own parts."""
+"""A record of a message as data: its parts become bytes when they are asked for. The proved library says where a
+record is, what its letter and its delimiters are, and how many fields and parts it has; it also decodes escapes. The
+record is split at its delimiters here: that must give the same numbers, and `tests/field` compares it with the
+library's own parts."""
 import ctypes
 from typing import Any, Dict, Iterator, List, Optional, Tuple
 
@@ -23,13 +24,13 @@ def marks_of(delimiters: bytes) -> Marks:
 
 
 class Row:
-    """A record of a message: its letter, and its fields as lists of repeats, these as lists of components. As a pair it is
-    these two."""
+    """A record of a message: its letter, and its fields as lists of repeats, which are lists of components. It
+    unpacks to these two."""
 
     __slots__ = ("letter", "text", "count", "_marks", "_parts", "_split")
 
     def __init__(self, letter: str, text: bytes, marks: Marks, count: int, parts: Optional[int]) -> None:
-        #: The letter of its kind, in upper case; the record as it came, without its CR.
+        #: The letter of its kind in upper case, and the record as it came, without its CR.
         self.letter, self.text = letter, text
         #: How many fields it has after its letter, or after a header's delimiters.
         self.count = count
@@ -56,11 +57,12 @@ class Row:
 
     @property
     def delimiters(self) -> bytes:
-        """Those that it was read under: field, repeat, component, escape."""
+        """The delimiters that it was read under: field, repeat, component, escape."""
         return self._marks[6]
 
     def _cut(self) -> List[bytes]:
-        """The fields, each at its number less one; before them is something for the letter and a header's delimiters."""
+        """The fields, each at its number less one; in the first places is something for the letter and a header's
+        delimiters."""
         if self.letter == "H":
             found = self.text[5:].split(self._marks[0])
             found.insert(0, b"")
@@ -74,8 +76,8 @@ class Row:
         return found
 
     def part(self, field: int, repeat: int = 0, component: int = 0) -> Optional[bytes]:
-        """A component, its escapes as what they mean; None if there is none. The letter is field 1, a header's
-        delimiters are field 2; repeats and components count from 0."""
+        """The bytes that a component means; None if there is no such component. The letter is field 1, a header's
+        delimiters are field 2; repeats and components are counted from 0."""
         found = self._split or self._cut()
         if field < 3 and field < self.first or field > len(found):
             return None
@@ -94,16 +96,17 @@ class Row:
         return self._meant(one) if escape in one else one
 
     def written(self, number: int) -> bytes:
-        """A field as it came; empty if there is none. The letter is field 1, a header's delimiters are field 2."""
+        """A field as it came; empty if there is no such field. The letter is field 1, a header's delimiters are
+        field 2."""
         found = self._split or self._cut()
         return found[number - 1] if self.first <= number <= len(found) else b""
 
     def meaning(self, data: bytes) -> bytes:
-        """What the bytes of a component mean: its escapes undone."""
+        """What the bytes of a component mean: its escapes are decoded."""
         return self._meant(data) if self._marks[5] in data else data
 
     def field(self, number: int) -> List[List[bytes]]:
-        """A field as its repeats, these as lists of components; nothing if there is no such field."""
+        """A field as its repeats, which are lists of components; empty if there is no such field."""
         found = self._split or self._cut()
         return self._repeats(found[number - 1]) if self.first <= number <= len(found) else []
 
@@ -116,7 +119,7 @@ class Row:
 
     @property
     def fields(self) -> List[List[List[bytes]]]:
-        """All of it."""
+        """All fields, each as its repeats, which are lists of components."""
         _, between, inside, is_between, is_inside, escape, _ = self._marks
         found, text = self._split or self._cut(), self.text
         if self.letter == "H":

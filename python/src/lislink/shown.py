@@ -1,8 +1,8 @@
-"""A field as one text, or as its repeats and components; of neither is anything lost.
+"""A field as one text, or as its repeats and components; neither loses anything.
 
-In the text components are joined by ^ and repeats by a backslash. Escapes are undone but for those that tell something
-apart: ^ within a value is `&S&` and a backslash `&R&`; `&H&` and `&N&` are the marks of highlighting. Where & would be
-read as one of these, it is `&E&`. Whatever delimiters a message has, the text has these.
+In the text components are joined by ^ and repeats by a backslash, whatever delimiters the message has. Escapes are
+decoded, but for those without which two values would look alike: ^ within a value is `&S&`, a backslash `&R&`, and
+`&H&` and `&N&` are the marks of highlighting. Where an & would be read as one of these, it is `&E&`.
 """
 import re
 from typing import Iterator, List, Tuple, Union

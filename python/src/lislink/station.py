@@ -1,5 +1,5 @@
-"""Both ways of one line (LIS01-A2, 6.2.7 and 6.5): a sender and a receiver, and which of them a byte is for. Each
-decision is made by the proved library."""
+"""Both ways of one line (LIS01-A2, 6.2.7 and 6.5): a station is a sender and a receiver, and knows which of them a
+byte is for. Each decision is made by the proved library."""
 import ctypes
 import enum
 from typing import Iterable, Iterator, NamedTuple, Optional, Tuple
@@ -26,7 +26,7 @@ class Answer(NamedTuple):
 
     @property
     def text(self) -> Optional[bytes]:
-        """The text that is delivered, to be kept before anything is sent; None for most answers."""
+        """The text that is complete, to be kept before anything is sent; None for most answers."""
         return None if self.step is None else self.step.text
 
     @property
@@ -38,11 +38,11 @@ class Answer(NamedTuple):
 class Station(Owner):
     """One side of a line on which both sides send: it receives at any time, and sends a session when it is started.
 
-    Give it each byte that comes (`hear`), and call `timer` when `seconds` have passed since its last answer. It says
-    what to send. Bytes that have come are heard before the timer is let run out.
+    Give it each byte that comes (`hear`), and call `timer` when `seconds` have passed since its last answer; it says
+    what to send. Let it hear the bytes that have come before you let the timer run out.
 
-    Keep an answer's text first, then send its bytes. Can't you keep it: send nothing, call `close_line`, and start no
-    session for over 15 seconds. Send nothing that is late, either: a reply counts for 15 seconds at the other side. A
+    Keep an answer's text first, then send its bytes. If you can't keep it, send nothing, call `close_line`, and
+    start no session for over 15 seconds. Send no reply late, either: the other side waits for it for 15 seconds. A
     frame's text has at most `frame_limit` bytes, FRAME_TEXT or LONG_FRAME_TEXT."""
 
     _kind = "station"
@@ -62,12 +62,13 @@ class Station(Owner):
             raise LinkError(status)
 
     def start(self, texts: Iterable[bytes]) -> bytes:
-        """Asks for the line, to send these texts in one session; answers ENQ, to be sent.
+        """Asks for the line, to send these texts in one session; returns ENQ, to be sent.
 
-        LinkError, and the station is as before: LINE_OPEN while the other side has the line; IN_SESSION while a session
-        of its own goes on; NO_TEXT, FULL, OUT_OF_MEMORY; TOO_LONG or FORBIDDEN with the text and the byte. The session
-        is over when `phase` is NEUTRAL again; only `outcome` DONE says that all texts were acknowledged. Keep yours
-        until then: the station has them no more, however the session ended."""
+        LinkError, and the station is as before: LINE_OPEN while the other side has the line; IN_SESSION while a
+        session of its own goes on; NO_TEXT, FULL, OUT_OF_MEMORY; TOO_LONG or FORBIDDEN with the text and the byte.
+        The session is over when `phase` is NEUTRAL again, and only the `outcome` DONE says that all texts were
+        acknowledged. Keep yours until then: once a session is over, the station has its texts no more, however it
+        ended."""
         out, fault = _library.Bytes(), _library.Place()
         self._call("clear")
         try:
@@ -86,12 +87,13 @@ class Station(Owner):
             raise LinkError(status)
 
     def hear(self, data: bytes) -> Iterator[Answer]:
-        """The answers to further bytes that mean something, in order. Bytes that a loop leaves unheard are heard by the
-        next call."""
+        """The answers to these bytes that mean something, in order. Bytes that a loop leaves unheard are heard by
+        the next call."""
         return (answer for _, answer in self.hear_placed(data))
 
     def hear_placed(self, data: bytes) -> Iterator[Tuple[int, Answer]]:
-        """The same, each with the place in `data` of the byte that it answers; below 0 for bytes left before."""
+        """As `hear`, each answer with the place in `data` of the byte that it is about; below 0 for bytes of an
+        earlier piece."""
         left = self._add(data)
         return self._answers(left)
 
@@ -109,11 +111,12 @@ class Station(Owner):
         return self._told(out)
 
     def give_up(self) -> None:
-        """Gives up the session of its own that goes on; nothing is sent."""
+        """Gives up its own session; nothing is sent."""
         self._call("give_up")
 
     def close_line(self) -> None:
-        """Drops the other side's session and what is held of it: it is not heard until it asks for the line again."""
+        """Drops the other side's session and what is held of it: that side is not heard until it asks for the line
+        again."""
         self._call("close_line")
 
     def restart(self) -> None:
@@ -121,12 +124,12 @@ class Station(Owner):
         self._call("restart")
 
     def set_ready(self, ready: bool) -> None:
-        """Whether the other side gets the line from here on: ENQ is answered by ACK, or by NAK."""
+        """Says whether the other side gets the line from now on: its ENQ is answered ACK, or NAK."""
         self._call("set_ready", as_flag(ready, "ready"))
 
     def ask_turn(self) -> None:
-        """Asks for its turn while the other side has the line: the next frame that is accepted is answered EOT in place
-        of ACK."""
+        """While the other side has the line: asks it to let this side send. The next frame that is accepted is
+        answered EOT in place of ACK."""
         self._call("ask_turn")
 
     def reserve(self, count: int) -> None:
@@ -137,14 +140,14 @@ class Station(Owner):
 
     @property
     def seconds(self) -> Optional[int]:
-        """How long the timer runs that runs now, before `timer`; None if none runs, 0 if it is over at once."""
+        """After how many seconds `timer` is due; None if no timer runs, 0 if it is over at once."""
         seconds = ctypes.c_uint32()
         return seconds.value if self._call("timer_seconds", ctypes.byref(seconds)) else None
 
     @property
     def turn_seconds(self) -> Optional[int]:
-        """How long the line should be left to the other side before a start, since it waits for its turn; None if it
-        doesn't. It is over as soon as the other side has had a session."""
+        """How long to leave the line to the other side before a start, since it waits for its turn; None if it
+        doesn't wait. This is over as soon as the other side has had a session."""
         return self._call("turn_seconds") or None
 
     @property
@@ -169,7 +172,7 @@ class Station(Owner):
 
     @property
     def outcome(self) -> Outcome:
-        """How the last session of its own ended."""
+        """How its own last session ended."""
         return Outcome(self._call("outcome"))
 
     @property

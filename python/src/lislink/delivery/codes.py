@@ -116,7 +116,7 @@ class Codes:
 
     def applied(self, one: Stored) -> Stored:
         """A message with the laboratory's codes, its units, and values that are multiplied. What isn't in the table
-        stays as it is, and has a comment that says so after its own; Refused if a word can't be written in the
+        stays as it is, and gets a comment that says so after its own. `Refused` if a word can't be written in the
         message's encoding."""
         records: List[bytes] = []
         marks: List[bytes] = []

@@ -63,8 +63,8 @@ class Https:
             raise OptionError(f"{url}: a port from 1 to 65535 is wanted") from None
 
     def deliver(self, data: bytes, key: str, kind: str) -> None:
-        """Posts a message; Refused if the answer isn't 2xx. If the connection is an earlier message's, the server may
-        have closed it meanwhile: the message is sent once more, over a new one."""
+        """Posts a message; `Refused` if the answer isn't 2xx. If the connection is an earlier message's, the server
+        may have closed it meanwhile: the message is sent once more, over a new one."""
         fresh = self._line.sock is None
         try:
             self._post(data, key, kind)

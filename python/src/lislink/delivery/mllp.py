@@ -29,7 +29,7 @@ class Mllp:
         self._left = b""
 
     def deliver(self, data: bytes, key: str) -> None:
-        """Sends a message, and waits until it is accepted; Refused if it isn't. If the connection is an earlier
+        """Sends a message, and waits until it is accepted; `Refused` if it isn't. If the connection is an earlier
         message's, the receiver may have closed it meanwhile: the message is sent once more, over a new one."""
         fresh = self._line is None
         try:

@@ -42,7 +42,7 @@ def plain(value: decimal.Decimal) -> str:
 
 
 def number_of(text: str) -> Optional[Number]:
-    """The number that a value is; None if it is none."""
+    """The number that a value is; None if it is no number."""
     found = _VALUE.match(text)
     return Number(found[1], decimal.Decimal(found[2])) if found else None
 

@@ -56,7 +56,7 @@ class Case(NamedTuple):
 
 
 def message_of(one: Stored) -> Message:
-    """The message that is kept; Refused if it can't be read."""
+    """The message that is kept; `Refused` if it can't be read."""
     for each in read_all(one.body, one.encoding):
         if isinstance(each, Fault):
             raise Refused(f"message {one.number} can't be read: {each.error}")
@@ -128,7 +128,7 @@ def _result(message: Message, entry: Entry) -> Result:
 
 
 def time_of(text: str) -> str:
-    """A date or a time as records have it; empty if it is none."""
+    """A date or a time as records have it; empty for anything else."""
     return text if _moment(text) is not None else ""
 
 

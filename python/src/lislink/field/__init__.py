@@ -1,2 +1,2 @@
-"""The field kit: captures out of sniffers' logs, ladders, records made readable, tables. Nothing in it is proved; every
-decision of the protocol is asked of the proved library."""
+"""The field kit: captures out of sniffers' logs, ladders, records made readable, tables. Nothing in it is proved;
+the proved library makes each decision of the protocol."""

@@ -1,4 +1,4 @@
-"""What a change of a file of records does to its results: they are compared by their fields, before and after."""
+"""What a change of a file of records does to its results: their fields before and after are compared."""
 import bisect
 import re
 import string
@@ -11,7 +11,7 @@ from .faults import words
 
 #: What is between the halves of a record that goes on in the next frame.
 _JOINT = re.compile(rb"\x17(?:[0-9A-Fa-f]{2})?(?:\r\n|\r|\n)?\x06?\x02[0-7]?")
-#: Bytes that fill a record up, or a file: they are no part of a value.
+#: Bytes that pad a record or a file: they are no part of a value.
 _FILL = b"\0\x1a"
 
 
@@ -33,7 +33,7 @@ class Placed(NamedTuple):
 
 
 def _meaning(text: bytes, four: bytes, skip: int) -> bytes:
-    """What a record means, without so many fields at its beginning, and without empty ones at its end."""
+    """What a record means, without so many fields at its beginning and without the empty ones at its end."""
     escape = four[3:4]
     if escape and escape in text:
         row = Row(chr(text[0]), text, marks_of(four), text.count(four[:1]), None)
@@ -71,7 +71,7 @@ def _pieces(data: bytes) -> Iterator[Tuple[int, bytes]]:
 
 
 def _plain(data: bytes) -> bytes:
-    """The bytes of a file with one byte a character, and the halves of records put together."""
+    """The bytes of a file, one for each character, with the halves of records put together."""
     code = "utf-16" if data[:2] in (b"\xff\xfe", b"\xfe\xff") else None
     if code is None and data.count(0) * 3 > len(data):
         code = "utf-16-le" if data[1::2].count(0) > data[::2].count(0) else "utf-16-be"
@@ -138,7 +138,7 @@ def changes_of_results(before: bytes, after: bytes) -> Iterator[Tuple[int, str]]
 
 
 def _difference(one: Placed, other: Placed) -> str:
-    """What is different in a result."""
+    """What differs in a result."""
     if one.result.fields == other.result.fields:
         what = "order" if one.result.order != other.result.order else "patient"
         return f"a result has another {what} above it: '{words(one.text, 60)}'"

@@ -9,8 +9,8 @@ _LINE_END = rb"(?=[ \t]*(?:[\r\n]|\Z))"
 
 
 class Word(NamedTuple):
-    """How a word for CR and the one for LF are written, parts of them in lower case, and whether the same bytes may be
-    part of a value (the repeat delimiter and r, the component delimiter and M)."""
+    """How a word for CR and the one for LF are written, parts of them in lower case, and whether the same bytes may
+    be part of a value (the repeat delimiter and r, or the component delimiter and M)."""
 
     parts: Tuple[bytes, ...]
     cr: bytes
@@ -42,13 +42,14 @@ class Ending(NamedTuple):
     is_sure: bool
 
     def with_cr(self, data: bytes) -> bytes:
-        """The same bytes with a CR for each word, and for the line end behind it."""
+        """The same bytes with a CR in place of each word and of the line end after it."""
         return re.sub(self.places.pattern + rb"[ \t]*(?:\r\n|\r|\n)?", b"\r", data, flags=self.places.flags)
 
 
 def ending_of(data: bytes) -> Optional[Ending]:
-    """The word that ends records of these bytes; None if none does. At the end of a line it is one if each header ends
-    in it, since a value may be such a word; before a record's letter on the same line if it is in no doubt."""
+    """The word that ends the records of these bytes; None if none does. At the end of a line a word counts if each
+    header ends in it, since a value may be such a word; before a record's letter on the same line it counts if there
+    is no doubt."""
     small = data.lower()
     words = [word for word in WORDS if any(part in small for part in word.parts)]
     if not words:
@@ -83,9 +84,9 @@ def _ending(data: bytes, places: "re.Pattern[bytes]", is_sure: bool) -> Optional
 
 
 def _are_messages(data: bytes) -> bool:
-    """Whether these are whole messages in which no value can be meant that begins with M and a record's letter: each
-    record has the number that is due where it stands and doesn't end in an empty component, each result has its value,
-    each comment its source, and none has a letter whose number isn't due anywhere."""
+    """Whether these are whole messages in which no value can begin with M and a record's letter: each record has the
+    number that is due in its place and doesn't end in an empty component, each result has its value, each comment
+    its source, and no record has a letter whose number is due nowhere."""
     found = list(read_all(data))
     messages = [one.message for one in found if isinstance(one, Found)]
     return bool(found) and len(messages) == len(found) and all(map(_is_due, messages))
@@ -103,7 +104,7 @@ def _is_due(message: Message) -> bool:
 
 
 def ending_at(record: bytes) -> Optional[Ending]:
-    """The same for one record, which may have no header; a word that is in no doubt may be at its end."""
+    """The same for one record, which may have no header: the word at its end, if there is no doubt of it."""
     for word in WORDS:
         at_end = re.compile(word.ends() + rb"[ \t]*\Z", word.flags)
         if not word.is_doubtful and at_end.search(record):

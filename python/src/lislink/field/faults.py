@@ -1,5 +1,5 @@
 """Faults in words: why a frame or a record is rejected, the likely cause, and the command that helps. The proved
-library says what is rejected; this only explains."""
+library decides what is rejected; this explains it."""
 import functools
 import operator
 from typing import List, NamedTuple, Optional
@@ -15,7 +15,7 @@ _NAMES.update({9: "TAB", 127: "DEL", 17: "XON", 19: "XOFF"})
 
 
 def words(data: bytes, most: int = 0) -> str:
-    """Bytes as text, control bytes in words; cut behind so many bytes, if that isn't 0."""
+    """Bytes as text, control bytes in words; cut after so many bytes, if that isn't 0."""
     shown = data[:most] if most else data
     text = "".join(
         chr(one) if 32 <= one < 127 else f"<{_NAMES[one]}>" if one in _NAMES else f"<{one:02X}>" for one in shown
@@ -24,7 +24,7 @@ def words(data: bytes, most: int = 0) -> str:
 
 
 class Cause(NamedTuple):
-    """The likely cause of a fault, in words for a person, and for a checksum the other way to sum that gives it."""
+    """The likely cause of a fault in words, and for a checksum the other way to sum that gives it."""
 
     verdict: Verdict
     words: str
@@ -51,7 +51,7 @@ def checksum_of(body: bytes) -> Optional[Sum]:
 
 
 def cause_of_frame(body: bytes, fault: FrameFault, place: int, limit: int = FRAME_TEXT) -> Cause:
-    """Why the bytes between STX and LF are no frame whose text has at most so many bytes, as far as one can see."""
+    """Why the bytes between STX and LF are no frame, whose text may have so many bytes, as far as one can see."""
     if fault is FrameFault.TOO_LONG:
         length = len(body) - 5
         hint = " (`--long` takes it)" if limit < length <= LONG_FRAME_TEXT else ""
@@ -156,7 +156,7 @@ _HL7 = RecordCause("hl7", "this is HL7 version 2, another language", [])
 
 
 def cause_of_record(error: MessageError, record: bytes, is_rest: bool = False) -> RecordCause:
-    """Why the library rejects a record; `is_rest` if no CR is behind it."""
+    """Why the library rejects a record; `is_rest` if no CR follows it."""
     reason = error.reason
     if reason is Reason.BAD_RECORD:
         return _bad_record(Status(error.detail), error, record)
@@ -204,7 +204,7 @@ def _unfinished(record: bytes, is_rest: bool) -> RecordCause:
 
 
 def _in_words(record: bytes) -> Optional[RecordCause]:
-    """The cause if a word for CR ends a record within these bytes, which no CR ends."""
+    """The cause, if these bytes, which no CR ends, have a word for CR at the end of a record."""
     ending = ending_at(record)
     if ending is None:
         return None

@@ -15,8 +15,8 @@ ENQ, ACK, NAK, EOT, STX = 5, 6, 0x15, 4, 2
 
 class Row(NamedTuple):
     """A row of a ladder. `side` is `>` for the analyzer, `<` for the computer, `-` for an event. `level` is `good`,
-    `plain`, `warn` or `bad`, and `note` the sentence of its meaning. `reply` is what the proved receiver answers to it,
-    `heard` what it meant to it."""
+    `plain`, `warn` or `bad`, and `note` says in a sentence what the row means. `reply` is the proved receiver's
+    reply to it, and `heard` what it meant to that receiver."""
 
     line: int
     time: Optional[int]
@@ -42,7 +42,7 @@ _REJECTED = {
     Note.NO_ROOM: Verdict.NO_ROOM,
     Note.TEXT_TOO_LONG: Verdict.TEXT_TOO_LONG,
     Note.TOO_MANY: Verdict.TOO_MANY,
-    Note.REFUSED_MEMORY: Verdict.MEMORY,
+    Note.OUT_OF_MEMORY: Verdict.MEMORY,
 }
 _READY = {"ready": Meaning.READY, "busy": Meaning.IS_BUSY, "contending": Meaning.CONTENDING}
 
@@ -55,7 +55,8 @@ class Text(NamedTuple):
 
 
 class Look(NamedTuple):
-    """Something that looks wrong: its name, how bad, what it is, what to do, and the lines where it is first."""
+    """Something that looks wrong: its name, how bad it is, what it is, what to do, and the first lines that have
+    it."""
 
     name: str
     level: str
@@ -65,8 +66,8 @@ class Look(NamedTuple):
 
 
 def _has_echo(capture: Capture) -> bool:
-    """Whether frames of the analyzer come back from the computer's side, or ENQ again and again: a computer that wants
-    to send answers one ENQ by ENQ."""
+    """Whether frames of the analyzer come back from the computer's side, or ENQ again and again; a single ENQ in
+    answer to ENQ is a computer's that wants to send."""
     sent = back = b""
     for _, line in capture.lines:
         if line.mark == ">":
@@ -149,7 +150,7 @@ class Ladder:
     def _row(
         self, number: int, time: Optional[int], side: str, kind: str, title: str, meaning: Meaning, raw: bytes = b""
     ) -> None:
-        """A row at the end that no answer is due to."""
+        """A row at the end to which no answer is due."""
         self.rows.append(
             Row(number, time, side, kind, title, meaning.says(), meaning.level, raw, meaning=meaning)
         )
@@ -167,8 +168,7 @@ class Ladder:
             self.dropped.append((number, receiver.held))
 
     def _units(self, receiver: Receiver, scanner: Scanner, number: int, data: bytes, time: Optional[int]) -> None:
-        """The units that are completed in a line: each signal of the scanner, beside the receiver's step at its
-        byte."""
+        """The units that a line completes: each signal of the scanner, with the receiver's step at the same byte."""
         start, was_open = 0, bool(self._carry)
         for place, signal in scanner.feed_placed(data):
             raw, self._carry = self._carry + data[start : place + 1], b""
@@ -195,7 +195,7 @@ class Ladder:
 
     def _outside(self, number: int, time: Optional[int], data: bytes, was_open: bool = False) -> None:
         """Bytes before a unit: a frame that is dropped, since something else came before its LF, or bytes of no
-        frame. One that was open before this line is shown where it began."""
+        frame. A frame that was open before this line is shown where it began."""
         while data:
             cut = data.find(2, 1)
             piece, data = (data, b"") if cut < 0 else (data[:cut], data[cut:])
@@ -367,7 +367,7 @@ class Ladder:
         return (row for row in self.rows if row.side == ">" and row.kind in ("ENQ", "EOT", "frame", "bad"))
 
     def counts(self) -> Dict[str, int]:
-        """How many there are of what a summary tells."""
+        """How many there are of what a summary names."""
         kinds = [row.kind for row in self.units()]
         found = [one for one in self.messages if isinstance(one, Found)]
         return {
@@ -383,7 +383,7 @@ class Ladder:
                     Note.NO_ROOM,
                     Note.TEXT_TOO_LONG,
                     Note.TOO_MANY,
-                    Note.REFUSED_MEMORY,
+                    Note.OUT_OF_MEMORY,
                 )
             ),
             "texts": len(self.texts),

@@ -1,4 +1,4 @@
-"""What an importer reads: pieces of bytes with their side and time, and how a log is told to be wrong."""
+"""What an importer reads: pieces of bytes with their side and time; and the error of a log that can't be read."""
 import datetime
 import re
 from typing import List, NamedTuple, Optional
@@ -117,7 +117,7 @@ def _of_clock(found: "re.Match[str]") -> Optional[int]:
 
 
 def time_text(time: Optional[int]) -> str:
-    """A time as it is written beside a capture: with its date if it has one; empty if it isn't known."""
+    """A time as it is written in the file next to a capture: with its date if it has one; empty if it isn't known."""
     if time is None:
         return ""
     days, rest = divmod(time, _DAY)
@@ -187,8 +187,8 @@ def ascii_fits(text: str, data: bytes) -> bool:
     ) and (len(text) == len(data) or not text.strip() or data[len(text) :].strip(b" ") == b"")
 
 
-#: What is in a row that holds bytes of a line: the beginning of a record, pairs of digits, or the digits of a frame. A
-#: time has pairs too.
+#: What a row with bytes of a line has: the beginning of a record, pairs of digits, or the digits of a frame. A time
+#: has pairs of digits too.
 _BYTES = re.compile(
     r"(?<![A-Za-z])[HPORCQMSL]\|[\\\d]|(?<![0-9A-Za-z])(?:(?:[0-9A-Fa-f]{2}[ ,:]){3}|023[0-7](?:[0-9A-Fa-f]{2})+)"
 )
@@ -196,7 +196,7 @@ _TIME = re.compile(r"(?<![\d:])\d{1,2}:\d\d:\d\d(?![\d:])")
 
 
 def holds_bytes(text: str) -> bool:
-    """Whether a text holds what looks like bytes of a line. A row that does and can't be read is an error."""
+    """Whether a text has what looks like bytes of a line. A row that has it and can't be read is an error."""
     return _BYTES.search(_TIME.sub("", text)) is not None
 
 
@@ -213,7 +213,7 @@ def hex_row(text: str, most: int = 64) -> Optional[bytes]:
     def front(count: int) -> bytes:
         return bytes.fromhex("".join(re.sub("^0[xX]|,$", "", word) for word, _ in tokens[:count]))
 
-    # A column of text may look like digits: behind a gap it is text, if it shows the bytes before it.
+    # A column of text may look like digits: after a gap it is text, if it shows the bytes before it.
     for count in range(min(len(pairs), len(tokens) - 1), 0, -1):
         rest = text[tokens[count - 1][1] :]
         if re.match(r"\s{2}|\t", rest) and sum(pairs[:count]) <= most and _shows(rest, front(count)):
@@ -228,7 +228,8 @@ def hex_row(text: str, most: int = 64) -> Optional[bytes]:
 
 
 def _shows(rest: str, data: bytes) -> bool:
-    """Whether what is behind the pairs shows these bytes. Blanks before the text may belong to the dump or to it."""
+    """Whether what follows the pairs shows these bytes. Blanks before the text may belong to the dump or to the
+    text."""
     bare = rest.rstrip()
     return any(
         bare[:cut].isspace() and ascii_fits(bare[cut:], data)

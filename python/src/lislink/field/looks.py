@@ -1,5 +1,5 @@
-"""What looks wrong in a session, even where each rule is kept: in words, with the command that helps. A table of what
-is looked for, each with its verdict; what a verdict says is in `watch.verdicts`."""
+"""What looks wrong in a session, even if each rule is kept: in words, with the command that helps. A table says what
+is looked for, and the verdict on it; what a verdict says is in `watch.verdicts`."""
 import re
 from collections import Counter
 from typing import Any, Callable, Dict, Iterator, List, NamedTuple, Optional, Union
@@ -205,9 +205,9 @@ def _never_ended(ladder: Ladder) -> Iterator[Look]:
         yield look_of(Verdict.ETB, [line for line, _ in ladder.dropped], sum(count for _, count in ladder.dropped))
 
 
-#: Causes that noise doesn't have: the frame is right when it comes again, and what is wrong stays.
+#: Causes that are no noise: what is wrong stays, though the frame is right when it comes again.
 _KEPT = (Verdict.FLOW_CONTROL, Verdict.OUT_OF_TURN, Verdict.NO_ROOM, Verdict.MEMORY)
-#: Causes that damage has, next to frames that are right.
+#: Causes that are damage, next to frames that are right.
 _BY_DAMAGE = (
     Verdict.SUM,
     Verdict.SUM_NO_DIGITS,
@@ -246,7 +246,7 @@ def _is_noise(frames: List[Row], rows: List[Row]) -> bool:
 
 
 def _kind(row: Row) -> Verdict:
-    """Why a frame is rejected; of a checksum that is right by another way to sum, that the checksum is wrong."""
+    """Why a frame is rejected; that its checksum is wrong, even if it is right by another way to sum."""
     assert row.cause is not None
     return Verdict.SUM if row.cause.way and row.checksum is not None else row.cause.verdict
 

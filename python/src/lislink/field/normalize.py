@@ -1,4 +1,4 @@
-"""Record files of dialects made readable: each change is asked for by its own option and told with its line."""
+"""Record files of dialects made readable: each change is asked for by its own option, and reported with its line."""
 import bisect
 import re
 from typing import Dict, Iterator, List, NamedTuple, Set, Tuple
@@ -29,7 +29,7 @@ CHANGES: Dict[str, str] = {
     "orders": "an order O|n is put above a result that has none, a patient P|n above an order: such results carry no sample",
     "long": "a result, comment or maker's record of over 65,536 bytes is left out, with the comments on it",
 }
-#: Those that `--all` asks for. What they do to the results is compared, and a change is told.
+#: Those that `--all` asks for. The results before and after them are compared, and each that changed is printed.
 ALL = tuple(name for name in CHANGES if name not in ("orders", "long"))
 
 
@@ -48,7 +48,8 @@ class Work:
     """Records on their way: the line of each in the input, its bytes, and what ended it."""
 
     def __init__(self, data: bytes, asked: Set[str]) -> None:
-        self.data, self.asked, self.told = data, asked, []  # type: bytes, Set[str], List[Told]
+        self.data, self.asked = data, asked
+        self.told: List[Told] = []
         #: Changes that the input needs and that weren't asked for, each with its first line.
         self.needed: Dict[str, int] = {}
 
@@ -233,7 +234,7 @@ def _escaped(work: Work, records: List[Record]) -> Iterator[Record]:
 
 
 def _behind(work: Work, records: List[Record]) -> Iterator[Record]:
-    """Records behind L and before the next H; those before the first H too, since they belong to no message."""
+    """Records after L and before the next H, and those before the first H, which belong to no message."""
     level = b""
     for number, record, end in records:
         letter = record[:1].upper()
@@ -271,8 +272,8 @@ def _parents(work: Work, records: List[Record]) -> Iterator[Record]:
 
 
 def _long(work: Work, records: List[Record]) -> Iterator[Record]:
-    """Records that are too long to be read are left out, if nothing but comments belongs to them: those go with them,
-    since they would belong to the record before."""
+    """Records that are too long to be read are left out, if nothing but comments belongs to them. The comments go
+    with them, since they would else belong to the record before."""
     is_of_one = False
     for number, record, end in records:
         letter, is_long = record[:1].upper(), len(record) > RECORD_BYTES

@@ -1,11 +1,11 @@
 """Control bytes that a log of text writes by their numbers: `[02]`, `%02`, `=02`, `<2>`. Which of these a log has is
-seen at its frames, where such a number for STX is before the frame's number and the letter of a record."""
+seen at its frames: such a number for STX, then the frame's number and the letter of a record."""
 import re
 from typing import Callable, NamedTuple, Optional
 
 from .log import LogError
 
-#: What a frame begins with behind its STX: its number, and a record's letter.
+#: What a frame begins with after its STX: its number, and a record's letter.
 _FRAME = r"(?=[0-7][A-Za-z])"
 #: The link's bytes, TAB, LF and CR: those that a log of text writes by numbers when it shows letters as they are.
 _LINK = frozenset((2, 3, 4, 5, 6, 9, 10, 13, 0x15, 0x17))

@@ -352,14 +352,15 @@ def linked(every: List[Connection]) -> List[Connection]:
 
 
 def _one_after_another(found: List[Connection]) -> bool:
-    """Whether connections are between the same two machines, at one port of one of them, each behind the one before."""
+    """Whether connections are between the same two machines, at one port of one of them, and each follows the one
+    before."""
     common = frozenset.intersection(*(one.ports for one in found))
     same = len({one.addresses for one in found}) == 1 and bool(common)
     return same and all(_is_behind(after, before) for before, after in zip(found, found[1:]))
 
 
 def _is_behind(after: Connection, before: Connection) -> bool:
-    """Whether the bytes of a connection come behind those of another. The packets that end that one may come later."""
+    """Whether the bytes of a connection come after those of another. The packets that end the other may come later."""
     if not before.pieces or not after.pieces:
         return True
     last, first = before.pieces[-1].time, after.pieces[0].time
@@ -367,7 +368,7 @@ def _is_behind(after: Connection, before: Connection) -> bool:
 
 
 def joined(found: List[Connection], every: List[Connection], form: str) -> Log:
-    """The bytes of connections that follow one another. How many bytes the other ones have is told."""
+    """The bytes of connections that follow one another. A remark says how many bytes the other connections have."""
     pieces: List[Piece] = []
     remarks = []
     common = frozenset.intersection(*(one.ports for one in found))

@@ -1,4 +1,5 @@
-"""A ladder as one page of HTML, for a browser without a network: folding, a filter, printing. Colours go with words."""
+"""A ladder as one page of HTML, for a browser without a network. It can be folded, filtered and printed, and says in
+words what its colours say."""
 import html
 from typing import Iterable, Iterator, List, Optional
 
@@ -120,7 +121,7 @@ def _details(row: Row, is_judged: bool) -> str:
 
 
 def rows_of(rows: Iterable[Row], is_judged: bool = True, anchors: str = "l") -> Iterator[str]:
-    """The rows of a table, each with an anchor that begins so. If a receiver judged them, what it answers is said."""
+    """The rows of a table, each with an anchor that begins so; with the receiver's replies, if one heard them."""
     before: Optional[int] = None
     seen = set()
     for row in rows:

@@ -34,7 +34,7 @@ class Outgoing:
 
     @property
     def is_open(self) -> bool:
-        """Whether a frame isn't ended."""
+        """Whether a frame is open."""
         return bool(self._frame)
 
     def units(self, data: bytes) -> List[Unit]:

@@ -146,7 +146,7 @@ def interceptty(text: str) -> Log:
     return Log("interceptty", pieces, [])
 
 
-#: A line of Portmon with bytes: behind the length, behind a word, or pairs of digits alone.
+#: A line of Portmon with bytes: after the length, after a word, or pairs of digits alone.
 _WITH_BYTES = re.compile(
     r"IRP_MJ_(?:READ|WRITE)\b.*(?:\bLength:? \d+:|\bData:? +\S|\s[0-9A-Fa-f]{2}[ \t]+[0-9A-Fa-f]{2}\b)"
 )
@@ -170,8 +170,8 @@ def portmon(text: str) -> Log:
 
 
 def irp_table(text: str) -> Log:
-    """Tables with IRP_MJ_READ and IRP_MJ_WRITE, as Eltima's Serial Port Monitor exports them: the first column of pairs
-    behind the function is the bytes."""
+    """Tables with IRP_MJ_READ and IRP_MJ_WRITE, as Eltima's Serial Port Monitor exports them: the first column of
+    pairs after the function has the bytes."""
     pieces, left = [], []
     for number, line in enumerate(text.splitlines(), 1):
         found = re.search(r"\bIRP_MJ_(READ|WRITE)\b(.*)$", line)
@@ -362,7 +362,7 @@ def is_hex_dump(text: str) -> bool:
 
 
 def _is_hex_row(line: str, base: Optional[int]) -> bool:
-    """Whether a line is a row of a hex dump: an offset alone, or bytes behind it."""
+    """Whether a line is a row of a hex dump: an offset alone, or with bytes after it."""
     offset = _OFFSET.match(line) if base else None
     if offset and not line[offset.end() :].strip():
         return True

@@ -43,7 +43,7 @@ def row_text(row: Row) -> Iterator[str]:
 
 
 def ladder_lines(ladder: Ladder, only_wrong: bool = False) -> Iterator[str]:
-    """The rows of the ladder, with silences of over a second between them; or only those that look wrong."""
+    """The rows of the ladder, with the silences of over a second between them; or only the rows that look wrong."""
     yield f"{'line':>6} {'time':12}   {'analyzer'.ljust(_WIDTH - 7)} computer"
     before: Optional[int] = None
     for row in ladder.rows:

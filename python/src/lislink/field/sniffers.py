@@ -139,7 +139,7 @@ def _is_table(text: str) -> bool:
 
 
 def read_log(data: bytes, ask: Options) -> Log:
-    """The pieces of a log, in the form that is told or found."""
+    """The pieces of a log, in the form that is named or found."""
     try:
         return _read_log(data, ask)
     except (ValueError, IndexError, KeyError, struct.error) as error:
@@ -258,7 +258,8 @@ def _of_one_side(pieces: List[Piece], ask: Options, remarks: List[str]) -> List[
 
 
 def swapped(capture: Capture) -> Capture:
-    """A capture the other way round: the sides are swapped. What befell the computer's receiver says nothing then."""
+    """A capture the other way round: the sides are swapped. What happened to the computer's receiver says nothing
+    then."""
     told = [(line, time) for (_, line), time in zip(capture.lines, capture.times) if line.mark in ("", ">", "<")]
     lines = [line._replace(mark={">": "<", "<": ">"}.get(line.mark, "")) for line, _ in told]
     return Capture(1, list(enumerate(lines, 1)), [time for _, time in told])
@@ -299,7 +300,7 @@ def _analyzer(pieces: List[Piece], sides: List[str], ask: Options, remarks: List
 
 
 def _grouped(pieces: List[Piece]) -> List[Piece]:
-    """Single bytes that follow one another on one side are put together: a log by bytes knows no pieces."""
+    """Single bytes that follow one another on one side are put together, since a log byte by byte knows no pieces."""
     told: List[Piece] = []
     single = False
     for piece in pieces:
@@ -372,8 +373,8 @@ def _lines(pieces: List[Piece], analyzer: str, timer: Optional[float]) -> Captur
 
 
 def of_two_dumps(analyzer: bytes, computer: bytes) -> Tuple[Capture, List[str]]:
-    """A capture of the bytes of each direction: a reply of the computer is put behind each ENQ and each frame. The
-    order is made up by the rules of the link, and told to be."""
+    """A capture of the bytes of each direction: a reply of the computer is put after each ENQ and each frame. The
+    order is made up by the rules of the link, and a remark says so."""
     from ..link import Kind, Scanner
 
     lines: List[Line] = []

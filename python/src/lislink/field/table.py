@@ -14,7 +14,7 @@ from .looks import record_at
 USUAL = ("sample", "patient", "test", "value", "unit", "range", "flag", "status", "date", "instrument")
 #: Those of a table of orders.
 OF_ORDERS = ("sample", "patient", "tests", "priority", "collected", "requested", "action", "report")
-#: A message, a patient, an order and a result; in a table of orders the order stands for the result.
+#: A message, a patient, an order and a result; in a table of orders the order is in the result's place.
 Where = Tuple[Message, Entry, Entry, Entry]
 
 
@@ -116,8 +116,8 @@ def _of_field(source: str, field: Field, component: Component) -> Callable[[Wher
 def rows_of(
     stream: bytes, columns: List[Column], encoding: str, orders: bool = False
 ) -> Iterator["Tuple[Optional[List[Any]], str]"]:
-    """A row for each result, or for each order, or None and why for a message that can't be read: none of its results
-    is told."""
+    """A row for each result, or for each order; None and why for a message that can't be read, of which no result is
+    given."""
     number, letter = 0, "O" if orders else "R"
     for one in read_all(stream, encoding):
         number += 1
@@ -142,7 +142,7 @@ def _orders(message: Message) -> Iterator[Tuple[Entry, Entry, Entry]]:
 
 
 def line_writer(form: str, columns: List[Column]) -> Callable[[Optional[List[Any]]], str]:
-    """What makes a line of a row, in CSV, TSV or JSON lines; None is the line with the names."""
+    """What makes a line of a row, in CSV, TSV or JSON lines; of None it makes the line with the names."""
     names = [column.name for column in columns]
 
     def as_csv(row: Optional[List[Any]]) -> str:

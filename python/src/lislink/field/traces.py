@@ -23,7 +23,7 @@ _SURE = re.compile(
 _OUT = r"TX|TXD|SEND(?:ING|ALL|TO)?|SENT|WRITE|WRITTEN|WRITING|WROTE|XMIT|GESENDET|ENVIADO|ENVOY[EÉ]|OUT(?:PUT|GOING)?|TRANSMIT(?:TED)?"
 _IN = r"RX|RXD|RECV(?:D|FROM)?|RECEIVED?|RECEIVING|RCVD?|READ|READING|EMPFANGEN|RECIBIDO|RE[CÇ]U|IN(?:PUT|COMING)?"
 _NAME = r"[\w.:@/\-]*[\w.@/]"
-#: Directions, the most telling first. A named arrow tells who sends.
+#: Directions, the surest first. A named arrow says who sends.
 _MARKS: List[Tuple["re.Pattern[str]", Callable[["re.Match[str]"], str]]] = [
     (
         re.compile(
@@ -55,7 +55,7 @@ _MARKS: List[Tuple["re.Pattern[str]", Callable[["re.Match[str]"], str]]] = [
     (re.compile(r"\b(?P<a>com\d+|(?<=/dev/)tty\w+)\b", re.I), lambda found: found["a"].lower()),
     (re.compile(r"^(?P<a>[<>])(?=\s)"), lambda found: found["a"]),
 ]
-#: What a line must hold for these of the directions.
+#: What a line must have for these of the directions.
 _ARROWS = {0: ("->", "=>", "→", "»", "⇒"), 1: ("<-", "<=", "←", "«", "⇐"), 2: (" > ",)}
 _CLOCK_FIRST = re.compile(r"^(?:\d{1,4}[-/.]\d{1,2}[-/.]\d{1,4}[T ])?\d{1,2}:\d\d:\d\d(?:[.,]\d+)?[\s,;|]+")
 _SEPARATOR = re.compile(
@@ -160,7 +160,8 @@ def _way_of(text: str) -> str:
     rows = re.findall(r"(?:\\(?:[xX]|u00)02|[<\[{(](?:STX|0x02|02)[>\]})]|\u2402).*", text)
     if not rows or not re.search(r"\\[rn\\]", text):
         return _NUMBERS
-    # A tie goes to what the log shows: a backslash alone, as in H|\^&, and a \r where a frame has its CR.
+    # If two are as good, what the log shows decides: a backslash alone, as in H|\^&, and a \r where a frame has its
+    # CR.
     is_alone = re.search(r"(?<!\\)(?:\\\\)*\\[^\\rntabfve0xXu\"'/]", text)
     ways = [_ALONE, _DOUBLED, _NUMBERS] if is_alone else [_DOUBLED, _ALONE, _NUMBERS]
     if not re.search(r"\\r(?:\\|[<\[{(]|\u2403|[\"']?\s*$)", text, re.M):
@@ -266,7 +267,7 @@ def _marked(
 
 
 def _has_bytes(line: str) -> bool:
-    """Whether a line with a direction holds what looks like bytes of a line behind it."""
+    """Whether a line has, after its direction, what looks like bytes of a line."""
     for rank, (pattern, _) in enumerate(_MARKS):
         if rank in _ARROWS and not any(one in line for one in _ARROWS[rank]):
             continue
@@ -298,7 +299,8 @@ def _no_text_around(pieces: List[Piece]) -> None:
 
 
 def _with_line_ends(pieces: List[Piece], remarks: List[str]) -> List[Piece]:
-    """A log that shows no LF at all leaves out what is behind each checksum: CR LF is put there, and told."""
+    """A log that shows no LF at all leaves out what follows each checksum: CR LF is put there, and a remark says
+    so."""
     frame = re.compile(rb"\x02[^\x02]*[\x03\x17][0-9A-Fa-f]{2}\r?$", re.S)
     if any(b"\n" in piece.data for piece in pieces) or not any(frame.search(piece.data) for piece in pieces):
         return pieces
@@ -425,8 +427,8 @@ def _goes_on(line: str, grammar: Grammar, pieces: List[Piece]) -> bool:
 
 
 def _split(line: str, grammar: Grammar) -> Optional[Tuple[str, str, bytes]]:
-    """What is before the direction of a line, the direction and the bytes behind it; None if it has none. The first
-    direction whose rest is all bytes is the one."""
+    """What is before the direction of a line, the direction, and the bytes after it; None if it has no direction. It
+    is the first one whose rest is all bytes."""
     limit = len(line)
     if grammar.name == "words":
         sure = _SURE.search(line)

@@ -43,7 +43,7 @@ def follow_hex(text: str) -> Log:
 
 
 def follow_raw(text: str) -> Log:
-    """`tshark -z follow,tcp,raw,N`: a line of digits for each piece, those of the second end behind a tab."""
+    """`tshark -z follow,tcp,raw,N`: a line of digits for each piece, those of the second end after a tab."""
     pieces = []
     for number, line in enumerate(text.splitlines(), 1):
         if re.match(r"(=+|Follow:.*|Filter:.*|Node \d:.*|\s*)$", line):
@@ -201,7 +201,7 @@ def _side_columns(
             two.append(place)
     if port is not None:
         two = [one for one in two if any(row[one] == str(port) for _, row in rows)] or two
-    # Addresses tell best, then ports; a column of lengths may have two values too.
+    # Addresses are the surest, then ports; a column of lengths may have two values too.
     two.sort(
         key=lambda place: (
             not all(re.match(r"[\d.]+\.[\d.]+\.|.*:.*:", row[place]) for _, row in rows),

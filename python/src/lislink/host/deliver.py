@@ -161,7 +161,7 @@ class _Round:
         self._sent: Set[str] = set()
 
     def run(self) -> int:
-        """One of these rounds: how many messages were found. It ends with a Refused or a StoreError."""
+        """One of these rounds: how many messages were found. It ends with `Refused` or StoreError."""
         if self._unnoted is not None:
             self._note(self._unnoted)
         for key in wishes(self._cursor.path) if self._aside is not None else ():

@@ -1,6 +1,6 @@
-"""A line on which the host sends too: it answers queries and sends worklists, each in a session of its own. The proved
-station decides what each byte means, and for whom it is; here is when a session starts. What the analyzer sends comes
-first."""
+"""A line on which the host sends too: it answers queries and sends worklists, each in a session of its own. The
+proved station decides what each byte means and for whom it is; this module decides when a session starts. What the
+analyzer sends comes first."""
 import asyncio
 from collections import deque
 from typing import Any, Deque, List, Optional, Sequence

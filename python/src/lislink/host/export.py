@@ -25,7 +25,7 @@ class Wanted(NamedTuple):
 
 
 def time_of(word: str) -> float:
-    """The time of `2026-11-27`, `2026-11-27T10:30`, or these with a zone; ValueError if it is none."""
+    """The time of `2026-11-27`, `2026-11-27T10:30`, or these with a zone; ValueError for anything else."""
     return datetime.datetime.fromisoformat(word.replace("Z", "+00:00")).timestamp()
 
 

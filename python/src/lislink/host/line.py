@@ -1,5 +1,5 @@
-"""One line of a host: hears its bytes, keeps its texts, and replies. The proved receiver decides what each byte means
-and what is answered; here is when an answer goes out: after its text is kept, and never late."""
+"""One line of a host: it hears bytes, keeps texts, and replies. The proved receiver decides what each byte means and
+what is answered; this module decides when an answer goes out: after its text is kept, and never late."""
 import asyncio
 from collections import Counter, deque
 from typing import Callable, Deque, Dict, List, Optional, Sequence, Tuple
@@ -36,7 +36,7 @@ _COUNTED = {
     Note.NO_ROOM: "rejected",
     Note.TEXT_TOO_LONG: "rejected",
     Note.TOO_MANY: "rejected",
-    Note.REFUSED_MEMORY: "rejected",
+    Note.OUT_OF_MEMORY: "rejected",
     Note.TIMED_OUT: "timeouts",
 }
 
@@ -146,7 +146,7 @@ class Line:
         self._receiver.restart()
 
     def _seconds(self) -> Optional[float]:
-        """How long the timer runs that runs now."""
+        """How long the timer runs before it is over."""
         return RECEIVER if self._receiver.is_open else None
 
     def _end(self) -> None:

@@ -20,7 +20,7 @@ REJECTED = (
     Note.NO_ROOM,
     Note.TEXT_TOO_LONG,
     Note.TOO_MANY,
-    Note.REFUSED_MEMORY,
+    Note.OUT_OF_MEMORY,
 )
 
 

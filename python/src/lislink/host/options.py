@@ -9,8 +9,8 @@ from .mend import NAMES, SAME
 
 Network = Union[ipaddress.IPv4Network, ipaddress.IPv6Network]
 _MODES = re.compile(r"[5-8][NEO][12]$")
-#: When orders are sent: to an analyzer that asks, or also unasked. How one is told that there is no order: the message
-#: ends with I, its query comes back with X, or nothing.
+#: When orders are sent: to an analyzer that asks, or also unasked. How an analyzer learns that there is no order: the
+#: message ends with I, its query comes back with X, or nothing comes.
 ORDERS, NOTHINGS = ("ask", "send"), ("L-I", "Q-X", "silence")
 #: The links of a line: the standard's, and records between STX and ETX with no number and no checksum.
 LINKS = ("lis01", "plain")

@@ -35,7 +35,7 @@ class Site(NamedTuple):
 
 
 class Batch(NamedTuple):
-    """What is sent in one session: its texts, the orders that they tell, and how often these were tried."""
+    """What is sent in one session: its texts, the orders in them, and how often these were tried."""
 
     texts: Sequence[bytes]
     placed: Sequence[Placed] = ()

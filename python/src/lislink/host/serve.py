@@ -373,7 +373,7 @@ class Host:
             self._said[name] = why
             say(f"{name}: {why}")
 
-    # ---- serial lines, and what goes on beside the lines
+    # ---- serial lines, and what goes on besides the lines
 
     def _say_ready(self) -> None:
         """Says once that all lines can be heard. It waits for no device that isn't there."""

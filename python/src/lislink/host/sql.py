@@ -61,7 +61,7 @@ class SqlStore(Store):
 
     @abc.abstractmethod
     def join(self) -> None:
-        """Opens the store to change it beside the host that has it, if one has."""
+        """Opens the store to change it while a host may have it too."""
 
     def commit(self, units: Sequence[Unit]) -> None:
         with self.changing():

@@ -1,5 +1,5 @@
 """Telnet (RFC 854) as a terminal server speaks it on its ports: what it asks for is answered, and taken out of what
-comes. Every option is refused but BINARY (RFC 856) and SUPPRESS-GO-AHEAD (RFC 858)."""
+comes. Each option but BINARY (RFC 856) and SUPPRESS-GO-AHEAD (RFC 858) is rejected."""
 import re
 from typing import Set, Tuple
 
@@ -11,8 +11,8 @@ _ANSWERS = {_DO: (_WILL, _WONT), _DONT: (_WONT, _WONT), _WILL: (_DO, _DONT), _WO
 
 
 class Telnet:
-    """A connection on which Telnet is spoken. What a request changes nothing of isn't answered, so that no two ends
-    answer each other without end."""
+    """A connection on which Telnet is spoken. A request that changes nothing isn't answered, so that two ends don't
+    answer each other for ever."""
 
     def __init__(self) -> None:
         #: Options that are on: those of this end, and those of the other one.

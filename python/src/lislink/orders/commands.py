@@ -68,7 +68,7 @@ def _data_of(path: str) -> bytes:
 
 
 def run_add(ask: argparse.Namespace) -> int:
-    """Adds the orders of a file. If one of its rows is none, nothing is added, unless some are asked for."""
+    """Adds the orders of a file. If one of its rows is no order, nothing is added, unless `--some` is given."""
     good: List[Order] = []
     rejected = 0
     try:

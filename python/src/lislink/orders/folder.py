@@ -63,7 +63,7 @@ class FolderBook(OrderBook):
 
 
 def _read(path: str) -> Tuple[str, List[Order], List[str]]:
-    """What tells a file from others, its orders, and what is wrong with it."""
+    """What makes a file differ from others, its orders, and what is wrong with it."""
     try:
         with open(path, "rb") as file:
             about, data = os.fstat(file.fileno()), file.read(MOST + 1)

@@ -1,4 +1,4 @@
-"""An order, the files that hold orders, and the records that tell one to an analyzer (LIS02-A2, 6 to 8)."""
+"""An order, the files that hold orders, and the records by which an analyzer gets one (LIS02-A2, 6 to 8)."""
 import csv
 import io
 import json
@@ -84,7 +84,7 @@ def order_of(given: Dict[str, Any]) -> Order:
     return Order(sample=others.pop("sample", ""), tests=tuple(tests), **others).checked()
 
 
-#: A row of a file: its line, and its order or why it is none.
+#: A row of a file: its line, and its order, or why it can't be one.
 Read = Tuple[int, Union[Order, str]]
 
 

@@ -31,7 +31,7 @@ def query_of(row: Row, encoding: str) -> Query:
 
 
 def _date(row: Row, field: int) -> str:
-    """A date of a query: when what it asks for begins or ends (11.7, 11.8); empty if it is none."""
+    """A date of a query: when what it asks for begins or ends (11.7, 11.8); empty for anything else."""
     date = (row.part(field) or b"").decode("latin-1")
     return date if _DATE.match(date) else ""
 

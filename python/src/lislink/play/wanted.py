@@ -7,7 +7,7 @@ from .frames import ACK, EOT, NAK, checksum, made, quoted, read_frame, shown
 
 #: What differs: what was wanted, and what came, each as one word.
 Difference = Tuple[str, str]
-#: What stands for any text.
+#: What any text fits.
 ANY = b".."
 
 

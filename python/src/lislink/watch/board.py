@@ -57,7 +57,8 @@ class Board:
         }
 
     async def open(self, path: str, look: Callable[[], Dict[str, Any]]) -> None:
-        """Lets who may open a socket look: at all lines, or at the pieces of one. OSError if there can be no socket."""
+        """Opens a socket for those who may look: at all lines, or at the pieces of one. OSError if there can be no
+        socket."""
 
         def answer(asked: Dict[str, Any]) -> bytes:
             if asked.get("ask") == "lines":
@@ -74,6 +75,6 @@ class Board:
         self._door = door
 
     async def close(self) -> None:
-        """Lets nobody look any more."""
+        """Closes the socket: nobody looks any more."""
         if self._door is not None:
             await self._door.close()

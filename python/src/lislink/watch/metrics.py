@@ -51,7 +51,7 @@ _COUNTERS = (
 
 
 def metrics_of(data: Mapping[str, Any], undelivered: Mapping[str, int]) -> str:
-    """The metrics of what a host says of itself, and of how much is left to deliver by each cursor."""
+    """The metrics of what a host says of itself, and of how much each delivery has still to do."""
     out, lines = Metrics(), data["lines"]
     out.add("lislab_up", "gauge", "Whether the host answers.")
     out.sample("lislab_up", int(data["running"]))

@@ -19,7 +19,7 @@ from .verdicts import BAD, GOOD, SENDER_WRONG, Verdict
 PATIENCE, QUIET = 10.0, 1800.0
 #: So many rejected frames in a row are bad; so many sessions in a row that end without a frame; so many echoes.
 IN_A_ROW, EMPTY, ECHOES = 3, 5, 3
-#: So many reasons are told apart.
+#: So many reasons are counted one by one.
 REASONS = 16
 #: So much is remembered of what was bad.
 PAST = 50
@@ -38,7 +38,7 @@ _FRAMES = {
     Note.NO_ROOM: Verdict.NO_ROOM,
     Note.TEXT_TOO_LONG: Verdict.TEXT_TOO_LONG,
     Note.TOO_MANY: Verdict.TOO_MANY,
-    Note.REFUSED_MEMORY: Verdict.MEMORY,
+    Note.OUT_OF_MEMORY: Verdict.MEMORY,
 }
 
 

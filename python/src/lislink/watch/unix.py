@@ -1,5 +1,5 @@
-"""The Unix socket next to a store, through which its owner looks at a host that runs: one question a connection, a line
-of JSON; the answer is a line of JSON, and for a ring the bytes that it holds."""
+"""The Unix socket next to a store, through which its owner looks at a host that runs. A connection has one question,
+a line of JSON; the answer is a line of JSON and, for a ring, the bytes that it holds."""
 import asyncio
 import contextlib
 import json

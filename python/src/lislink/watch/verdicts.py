@@ -63,7 +63,7 @@ class Meaning(enum.Enum):
 @enum.unique
 class Verdict(enum.Enum):
     """What is wrong with a line, or worth a look: its name, how bad it is, what a ladder says of it, what to do, and
-    what is said of a line that runs, which has never a byte of a record."""
+    what is said of a line that runs, which never has a byte of a record."""
 
     HL7 = (
         "hl7",

@@ -173,7 +173,7 @@ class Server(ThreadingHTTPServer):
             self._room.release()
 
     def handle_error(self, request: Any, client_address: Any) -> None:
-        """Who goes away before the answer is none to speak of."""
+        """A reader who goes away before the answer is no error to speak of."""
 
 
 class Handler(BaseHTTPRequestHandler):
