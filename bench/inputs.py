@@ -1,6 +1,6 @@
 """What the benchmark and the test of cuts feed to the program: generated inputs, the same at every run.
 
-An input is a head and a block that may stand behind itself any number of times: sessions that end, messages that are
+An input is a head, and a block that may follow itself any number of times: sessions that end, messages that are
 whole. So a large input is a small one, repeated.
 """
 import random
@@ -46,7 +46,7 @@ def results_message(rng):
 
 
 def full_record(letter, fields, told):
-    """A record with as many fields as the standard lists, of which these are told."""
+    """A record with as many fields as the standard lists, of which these are given."""
     return letter + b"".join(b"|" + told.get(number, b"") for number in range(2, fields + 1))
 
 

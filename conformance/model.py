@@ -40,7 +40,7 @@ def text_fault(text, limit):
 
 
 def read_frame(stretch, limit):
-    """The frame that stands between STX and LF, or the name of the first fault."""
+    """The frame that the bytes between STX and LF are, or the name of the first fault."""
     if len(stretch) > limit + 5:
         return "TooLong"
     if len(stretch) < 5 or stretch[-1] != CR or stretch[-4] not in (ETB, ETX):
@@ -58,8 +58,8 @@ def read_frame(stretch, limit):
 
 
 def signals(stream, limit, heard=0):
-    """The signals of a stream: (place, signal) for each place from 'heard' on. A signal is ENQ, EOT, a Frame, or the name of
-    a fault. The nearest earlier byte among STX, EOT, ENQ and LF tells whether an LF ends a frame."""
+    """The signals of a stream: (place, signal) for each place from 'heard' on. A signal is ENQ, EOT, a Frame, or the
+    name of a fault. The nearest earlier byte among STX, EOT, ENQ and LF decides whether an LF ends a frame."""
     nearest = None
     for mark in re.finditer(rb"[\x02\x04\x05\x0a]", stream):
         place, byte = mark.start(), mark[0][0]
@@ -72,7 +72,7 @@ def signals(stream, limit, heard=0):
 
 
 def from_last_mark(stream):
-    """The part of a stream that signals of what comes behind it may depend on."""
+    """The part of a stream on which signals of what comes after it may depend."""
     return stream[max(stream.rfind(mark) for mark in (b"\x02", b"\x04", b"\x05", b"\x0a")):] if stream else stream
 
 
@@ -102,7 +102,7 @@ class Sender:
         return f"{self.phase} acknowledged={self.acknowledged} outcome={self.outcome}"
 
     def start_fault(self, texts):
-        """Why a start is refused, or None."""
+        """Why a start is rejected, or None."""
         if self.phase != "Neutral":
             return "InSession"
         if not texts:
@@ -155,7 +155,7 @@ Step = namedtuple("Step", "place note reply text")
 
 
 class Receiver:
-    """The computer's receiver, by the table of docs/LINK.md. 'refusals' has the places of growths that are refused, counted
+    """The computer's receiver, by the table of docs/LINK.md. `refusals` has the places of growths that fail, counted
     over accepted frames whose text isn't empty."""
 
     def __init__(self, limit, refusals=()):
@@ -404,8 +404,8 @@ def meaning(line, version):
 
 
 def capture(data, ended):
-    """The lines of a capture up to the first refused one, the version, and the number of the refused one or None. Where
-    the input has not ended, a last line without LF is none yet, but for one that is too long."""
+    """The lines of a capture up to the first malformed one, the version, and the number of the malformed one or
+    None. If the input has not ended, a last line without LF doesn't count yet, unless it is too long."""
     *whole, rest = data.split(b"\n")
     if rest and (ended or len(rest) > LONGEST_LINE):
         whole.append(rest)
@@ -469,7 +469,7 @@ def stopped_at(refused):
 
 
 def replay(data, limit, ended=True):
-    """'replay': each text handed out, and each reply that differs."""
+    """'replay': each text delivered, and each reply that differs."""
     lines, _, refused = capture(data, ended)
     output, replies, texts, differences = [], b"", 0, 0
     for line, steps in received(lines, limit):
@@ -495,7 +495,7 @@ def replay(data, limit, ended=True):
 
 
 def texts(data, limit, ended=True):
-    """'texts': the bytes of the texts that are handed out."""
+    """'texts': the bytes of the texts that are delivered."""
     lines, _, refused = capture(data, ended)
     whole = b"".join(step.text for _, steps in received(lines, limit) for step in steps if step.text is not None)
     return Run(whole, 0, "") if refused is None else stopped_at(refused)._replace(output=whole)

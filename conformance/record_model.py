@@ -1,4 +1,4 @@
-"""A plain model of records and messages, and of the commands over them; model.py has the rest, and tells more."""
+"""A plain model of records and messages, and of the commands over them; model.py has the rest, and says more."""
 import re
 from collections import namedtuple
 
@@ -29,7 +29,7 @@ def delimiter_fault(four):
 
 
 def read_symbols(text, delimiters):
-    """The symbols of a component, in the spelling of the rows: from its front, an escape ends at the next escape byte."""
+    """The symbols of a component, as the rows write them: from its front, an escape ends at the next escape byte."""
     field, repeat, component, escape = delimiters
     letters = {b"H": "+", b"N": "!", b"F": f"{field:02x}", b"S": f"{component:02x}", b"R": f"{repeat:02x}",
                b"E": f"{escape:02x}"}
@@ -49,7 +49,7 @@ def read_symbols(text, delimiters):
 
 
 def read_fields(text, delimiters):
-    """The fields of what stands behind a record's letter, or behind a header's delimiters."""
+    """The fields of what follows a record's letter, or a header's delimiters."""
     field, repeat, component, _ = (bytes([byte]) for byte in delimiters)
     return [[[read_symbols(part, delimiters) for part in again.split(component)] for again in one.split(repeat)]
             for one in text.split(field)[1:]]
@@ -64,7 +64,7 @@ def byte_fault(text):
 
 
 def read_header(text):
-    """The delimiters and the record of a header, or why it is none."""
+    """The delimiters and the record of a header, or why it can't be one."""
     if not text:
         return Refused("Empty")
     if text[:1] not in (b"H", b"h"):
@@ -81,7 +81,7 @@ def read_header(text):
 
 
 def read_record(text, delimiters):
-    """The record of another kind, or why the text is none."""
+    """The record of another kind, or why the text can't be one."""
     if not text:
         return Refused("Empty")
     if text[0] not in LETTERS[1:] + LETTERS[1:].lower():
@@ -105,14 +105,14 @@ def spell_symbol(symbol, delimiters):
 
 
 def spell_field(field, delimiters):
-    """A field's spelling."""
+    """A field's encoding."""
     _, repeat, component, _ = (bytes([byte]) for byte in delimiters)
     return repeat.join(component.join(b"".join(spell_symbol(symbol, delimiters) for symbol in part) for part in again)
                        for again in field)
 
 
 def spell(record, delimiters):
-    """A record's spelling, without its CR."""
+    """A record's encoding, without its CR."""
     head = record.letter.encode() + (bytes(delimiters) if record.letter == "H" else b"")
     return head + b"".join(bytes(delimiters[:1]) + spell_field(field, delimiters) for field in record.fields)
 
@@ -130,7 +130,8 @@ Stream = namedtuple("Stream", "messages open place fault held")
 
 
 def message_fault(text, opened, delimiters, level):
-    """What a record's text is in a message that has begun, or hasn't: a record, its delimiters, or why it is refused."""
+    """What a record's text is in a message that has begun, or hasn't: a record, its delimiters, or why it is
+    rejected."""
     if not text:
         return Refused("BadRecord.Empty")
     if text[0] not in LETTERS + LETTERS.lower():
@@ -151,8 +152,8 @@ def message_fault(text, opened, delimiters, level):
 
 
 def read_stream(data):
-    """The messages of a stream of records, the records of one that isn't closed, the place of the next record, the fault of
-    the first refused one as it is told before the end, and the bytes that are held."""
+    """The messages of a stream of records, the records of one that isn't closed, the place of the next record, the
+    fault of the first rejected one as it is reported before the end, and the bytes that are held."""
     messages, records, delimiters, level = [], [], None, None
     *ended, rest = data.split(b"\r")
     if len(rest) > LONGEST_RECORD:
@@ -165,7 +166,7 @@ def read_stream(data):
             return Stream(messages, records, place, f"{place}.{read.why}", 0)
         delimiters, record = read
         records.append(record)
-        # What an order or a result may stand under: the last patient or query, or an order behind it.
+        # What an order or a result may belong to: the last patient or query, or an order after it.
         level = record.letter if record.letter in "PQO" else level if record.letter != "H" else None
         if record.letter == "L":
             messages.append(Message(delimiters, records))
@@ -252,14 +253,14 @@ REASON_CODES = {"NotHeader": "G2", "NoParent": "G3", "SecondHeader": "G4", "Unfi
 
 
 def refused_line(messages, fault):
-    """The line of a refused record: the message's number, the record's place, and the code."""
+    """The line of a rejected record: the message's number, the record's place, and the code."""
     place, reason, *more = fault.split(".")
     code = f"G1 {RECORD_CODES[more[0]]}" if reason == "BadRecord" else REASON_CODES[reason]
     return f"refused {len(messages) + 1} {place} {code}"
 
 
 def check(data, limit, ended=True):
-    """'check': a line for each record, each finding, and a refused record."""
+    """'check': a line for each record, each finding, and a rejected record."""
     stream = read_stream(data)
     fault = end_fault(stream) if ended else stream.fault
     output, count = [], 0

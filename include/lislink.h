@@ -526,7 +526,7 @@ typedef struct lis_delimiters {
     uint8_t escape;       /* around an escape, usually & */
 } lis_delimiters;
 
-/* A record, or where a text is none. */
+/* A record, or why a text can't be one. */
 typedef struct lis_record {
     uint8_t letter;    /* its letter in upper case; 0 if the text is no record */
     size_t fields;     /* how many fields follow the letter, or a header's delimiters; 0 if the text is no record */

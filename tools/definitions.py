@@ -166,7 +166,7 @@ class Book:
         return self.named_in(definition.module, self.imports[definition.module], text)
 
     def closure(self, start):
-        """All that must be read for these definitions; and the types and the kit's names beside it."""
+        """All that must be read for these definitions, and the types and the kit's names next to it."""
         seen, types, todo = {}, set(), list(start)
         while todo:
             it = todo.pop()

@@ -1,4 +1,4 @@
-/* A message of one result, written record by record, with each allocation refused in turn. */
+/* A message of one result, written record by record, in which each allocation fails in turn. */
 #include "refusing_heap.h"
 #include <stdio.h>
 #include <string.h>

@@ -1,4 +1,4 @@
-/* An analyzer and a host, two processes on one line: what was sent is what was handed out. */
+/* An analyzer and a host, two processes on one line: what was sent is what was delivered. */
 #include "loops.h"
 #include <stdio.h>
 #include <string.h>

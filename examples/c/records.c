@@ -1,5 +1,5 @@
-/* The values of results out of a stream of records that comes in pieces, with each allocation refused in turn: a
- * refusal is told with its record, nothing leaks, and the stream can be read from its beginning. */
+/* The values of results out of a stream of records that comes in pieces, in which each allocation fails in turn: that
+ * is reported with its record, nothing leaks, and the stream can be read from its beginning. */
 #include "refusing_heap.h"
 #include <stdio.h>
 #include <string.h>

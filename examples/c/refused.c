@@ -1,4 +1,5 @@
-/* Each allocation of a session refused in turn: what was refused is told, nothing leaks, and the session can be had. */
+/* A session in which each allocation fails in turn: what failed is reported, nothing leaks, and the session can be
+ * had. */
 #include "refusing_heap.h"
 #include <stdio.h>
 #include <string.h>
@@ -6,7 +7,7 @@
 static char long_text[600];
 static size_t added, refused_adds, refused_frames, handed_out;
 
-/* Adds a text, twice where memory is refused. */
+/* Adds a text, and once more if there was no memory for it. */
 static bool add(lis_sender *sender) {
     uint8_t status = lis_sender_add_text(sender, (const uint8_t *)long_text, sizeof long_text);
     if (status == LIS_STATUS_OUT_OF_MEMORY) {

@@ -1,5 +1,5 @@
-/* The heap's three functions for programs that try what happens where memory is refused: the call of number
- * `refused_at` is. */
+/* The heap's three functions, for programs that try what happens without memory: the call of number `refused_at` gets
+ * none. */
 #ifndef REFUSING_HEAP_H
 #define REFUSING_HEAP_H
 

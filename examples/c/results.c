@@ -13,7 +13,7 @@ static void print_part(const lis_delimiters *delimiters, const uint8_t *record, 
         printf("%.*s", (int)size, (const char *)room);
 }
 
-/* A record without its CR; false where it is none. */
+/* Prints a record, without its CR; false if it can't be one. */
 static bool print_record(lis_delimiters *delimiters, const uint8_t *record, size_t len, uint8_t *room) {
     lis_record told;
     if (len > 0 && (record[0] == 'H' || record[0] == 'h'))

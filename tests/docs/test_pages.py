@@ -1,4 +1,4 @@
-"""The pages agree with the repository: README.md, docs/*.md, and the pages beside them that PAGES names.
+"""The pages agree with the repository: README.md, docs/*.md, and the other pages that PAGES names.
 
 Code that a page quotes is in a file that the gate proves or runs; each link and each path that a page names is there;
 each command of a page prints what the page says.
@@ -40,11 +40,11 @@ PATH = re.compile(rf"`((?:{FOLDERS})/[\w./+-]+)`")
 SHELL = {"sh", "console"}
 MARK = re.compile(r"<!-- (norun|sketch) -->\s*$")
 # The port of the pages' examples.
-PORT = re.compile(r"(?<=--listen )4000\b|(?<=\.py )4000\b|(?<=listen = )4000\b|(?<=:)4000\b")
+PORT = re.compile(r"(?<=--listen )4000\b|(?<=receive )4000\b|(?<=\.py )4000\b|(?<=listen = )4000\b|(?<=:)4000\b")
 
 
 def blocks(text):
-    """The code blocks of a page: the words behind its fence (none for an indented block) and how it is marked, its
+    """The code blocks of a page: the words after its fence (none for an indented block) and how it is marked, its
     lines, its first line."""
     lines, at = text.split("\n"), 0
     while at < len(lines):

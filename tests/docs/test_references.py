@@ -91,8 +91,8 @@ class References(kit.Test):
         with open(os.path.join(out, "python/index.html"), encoding="utf-8") as page:
             self.check("Alias for field" not in page.read(), "a field of a named tuple has no words")
         work = self.copy()
-        self.change(work, "python/src/lislink/rows.py", '"""A field as it came; empty if there is none.',
-                    '"""A field as it *came; empty if there is none.')
+        self.change(work, "python/src/lislink/rows.py", '"""A field as it came; empty',
+                    '"""A field as it *came; empty')
         self.is_noticed("python", work, "start-string without end-string")
 
     def test_docstrings(self):

@@ -1,14 +1,16 @@
-"""No document and no name or comment of the crates has a word of docs/words.table, outside code and quotations; each
-page and each crate is a check.
+"""No document, no name or comment of the crates, and no comment or docstring of the code around them has a word of
+docs/words.table, outside code and quotations; each page, each crate and each other file is a check.
 
 In a crate a name is looked at part by part: `read_after` has the parts `read` and `behind`. Names of the kit and of the
 C interface are not ours, and strings are what a program prints.
 """
 import bisect
 import glob
+import io
 import itertools
 import os
 import re
+import tokenize
 
 from tests import ROOT, kit
 from tests.docs.test_pages import pages
@@ -17,13 +19,28 @@ from tests.docs.test_pages import pages
 MADE = {"docs/API.md"}
 SOURCES = ["src/**/*.rt", "specs/**/*.antt", "proofs/**/*.antt"]
 MUTANTS = ["must-fail/*.edit", "mutants/*.edit", "harmless/*.edit"]
+# The code around the crates, whose comments and docstrings are looked at.
+AROUND = ["include/*", "examples/**/*.*", "bindings/rust/*/**/*.rs", "python/**/*.py", "conformance/*.py", "bench/*.py",
+          "tools/*.py"]
 NAME = re.compile(r"[^\W\d]\w*(?:-[^\W\d]\w*)*")
 PART = re.compile(r"[A-Z]+(?![a-z])|[A-Z]?[a-z]+")
 STRING = re.compile(r'b?"(?:[^"\\]|\\.)*"')
 # What a file takes from the kit: its braces, or the last name of the path.
 OUTER = re.compile(r"use (?!Rattle\.(?:lis_|uses|vectors))[\w.]+?\.(?:\{([^}]*)\}|(\w+)$)", re.M)
+# What a docstring follows: the beginning of a file, the end of a line, or that of a block.
+STATEMENT = (None, tokenize.ENCODING, tokenize.NEWLINE, tokenize.INDENT, tokenize.DEDENT)
 # The headline, whose words are fixed, is the one bold passage that ends so.
 HEADLINE = re.compile(r"\*\*Over every list of (?:[^*]|\*(?!\*))*?gives it back\.\*\*")
+
+
+# Files, and the words that are to be found in them, each with its line.
+FILES = [
+    ("a.py", '"""It stands\nbehind."""\ntold = "told"  # `told`, and told\n\n\ndef tell():\n    """It tells."""\n'
+     '    return """It\ntells."""\n', [(1, "stands"), (2, "behind"), (3, "told"), (7, "tells")]),
+    ("a.c", '/* It is\n * told. */ char told[] = "/* told */"; // stands\nint tell = \'"\'; /* beside */\n',
+     [(2, "stands"), (2, "told"), (3, "beside")]),
+    ("a.rs", '//! Told\nfn f() {} // stands\n', [(1, "Told"), (2, "stands")]),
+]
 
 
 def banned():
@@ -79,6 +96,27 @@ def of_comments(comments, forms):
                 yield block[bisect.bisect_right(ends, found.start())][0], found[0], plain
 
 
+def spoken(path, text):
+    """The comments of a source file in C, C++, Rust or Python, and its docstrings, as `halves` has comments."""
+    if not path.endswith(".py"):
+        mark = re.compile(r'("(?:[^"\\\n]|\\.)*"|\'(?:[^\'\\\n]|\\.)\')|/\*.*?\*/|//[^\n]*', re.S)
+        for found in mark.finditer(text):
+            if not found[1]:
+                yield block(text.count("\n", 0, found.start()) + 1, found[0])
+        return
+    before = None
+    for token in tokenize.generate_tokens(io.StringIO(text).readline):
+        is_doc = token.type == tokenize.STRING and '"""' in token.string[:4] and before in STATEMENT
+        if is_doc or token.type == tokenize.COMMENT:
+            yield block(token.start[0], token.string)
+        before = before if token.type in (tokenize.COMMENT, tokenize.NL) else token.type
+
+
+def block(line, text):
+    """A comment as its lines, without the marks round it."""
+    return [(line + place, it.strip(' \t/*!#:"')) for place, it in enumerate(text.split("\n"))]
+
+
 def of_names(text, parts, kept):
     """(place, name, plain) for each name of code that has a part of the table."""
     outer = {name.strip() for found in OUTER.finditer(text) for name in (found[1] or found[2]).split(",")}
@@ -114,6 +152,19 @@ class Words(kit.Test):
             found = sorted((text.count("\n", 0, it.start()) + 1, " ".join(it[0].split()), plain)
                            for form, plain in forms for it in form.finditer(text))
             self.check(not found, page, "".join(f"\n{page}:{line}: {word}: say {plain}" for line, word, plain in found))
+
+    def test_around(self):
+        forms = list(banned())
+        for path in sorted(path for form in AROUND for path in glob.glob(form, root_dir=ROOT, recursive=True)):
+            found = sorted(of_comments(spoken(path, kit.read(path)), forms))
+            self.check(not found, path, "".join(f"\n{path}:{line}: {word}: say {plain}" for line, word, plain in found))
+
+    def test_words_are_found(self):
+        """A word in a comment or a docstring is found, and none in code, in a string or in backquotes."""
+        forms = list(banned())
+        for path, text, wanted in FILES:
+            found = sorted((line, word) for line, word, _ in of_comments(spoken(path, text), forms))
+            self.same(f"words in {path}", found, wanted)
 
     def test_crates(self):
         forms, (parts, kept) = list(banned()), names_banned()

@@ -1,9 +1,9 @@
-//! Receives in an `async` function: keeping a text and sending its reply are both awaited. later PORT FILE; PORT 0 is one
-//! that is free, and is printed. An error between the two drops the answer, so the receiver restarts, and no reply goes
-//! out.
+//! Receives in an `async` function: keeping a text and sending its reply are both awaited. later PORT FILE; PORT 0 is
+//! one that is free, and is printed. An error between the two drops the answer, so the receiver restarts, and no reply
+//! goes out.
 //!
-//! The futures here are ready at once. With a runtime as tokio, `read` is `timeout(PAUSE, line.read(bytes))`, `send` is
-//! `line.write_all`, and `keep` is what `spawn_blocking` runs; `receive` stays as it is.
+//! The futures here are ready at once. With a runtime as tokio, `read` is `timeout(PAUSE, line.read(bytes))`, `send`
+//! is `line.write_all`, and `keep` is what `spawn_blocking` runs; `receive` stays as it is.
 
 mod port;
 

@@ -1,5 +1,5 @@
-//! The scripted session over the crate: a message is written, sent, heard, kept and read back, with each refusal on the
-//! way. Prints what tests/ffi/session.txt has.
+//! The scripted session over the crate: a message is written, sent, heard, kept and read back, with each call that is
+//! rejected on the way. Prints what tests/ffi/session.txt has.
 use lislink::{
     frame, long_frame, Connection, Error, Fault, FrameLimit, Heard, Outcome, Phase, Reader, Reason,
     Receiver, Scanner, Sender, Signal,
@@ -24,7 +24,7 @@ fn texts_of(writer: &mut Writer) -> Result<Vec<Vec<u8>>, Error> {
         .field(b"mmol/L")?
         .put()?;
     let refused = writer.record(b'R')?.field(b"1")?.field(b"a\nb")?.put().err().expect("LF");
-    println!("refused: {refused}, field {}", refused.index);
+    println!("refused: {refused}");
     writer.record(b'L')?.field(b"1")?.field(b"N")?.put()?;
     let count = writer.texts_len();
     assert_eq!(writer.text(count), None);
