@@ -1,5 +1,6 @@
 /* An analyzer: sends the texts of a message in one session, and reports how it ended. */
 #include "loops.h"
+#include <errno.h>
 #include <poll.h>
 #include <stdlib.h>
 #include <string.h>
@@ -17,11 +18,16 @@ static int seconds(lis_phase phase) {
     }
 }
 
-/* Waits for one byte: 1 and the byte, 0 if the time is over, -1 if the line is closed. */
+/* Waits for one byte: 1 and the byte, 0 if the time is over, -1 if the line is closed. A signal of the program's ends
+ * no wait. */
 static int await(int line, long long until, uint8_t *byte) {
-    long long left = until - milliseconds();
     struct pollfd ready = {line, POLLIN, 0};
-    if (left <= 0 || poll(&ready, 1, (int)left) == 0)
+    int came;
+    do {
+        long long left = until - milliseconds();
+        came = left > 0 ? poll(&ready, 1, (int)left) : 0;
+    } while (came < 0 && errno == EINTR);
+    if (came == 0)
         return 0;
     return read(line, byte, 1) == 1 ? 1 : -1;
 }

@@ -1,5 +1,6 @@
 /* A computer that hears an analyzer: keeps each text, and then replies in time. */
 #include "loops.h"
+#include <errno.h>
 #include <poll.h>
 #include <stdlib.h>
 #include <unistd.h>
@@ -55,7 +56,8 @@ static bool hear(struct work *work, const uint8_t *bytes, size_t len) {
     return true;
 }
 
-/* Waits for bytes; false if the receiver's timer is over first. It looks often, so that it knows how old they are. */
+/* Waits for bytes; false if the receiver's timer is over first. It looks often, so that it knows how old they are. A
+ * signal of the program's ends no wait. */
 static bool await(struct work *work) {
     struct pollfd ready = {work->line, POLLIN, 0};
     long long pause = scaled(work, 1);
@@ -64,9 +66,11 @@ static bool await(struct work *work) {
         bool open = lis_receiver_is_open(&work->receiver);
         if (open && left <= 0)
             return false;
-        if (poll(&ready, 1, (int)(open && left < pause ? left : pause)) != 0)
+        int came = poll(&ready, 1, (int)(open && left < pause ? left : pause));
+        if (came == 0)
+            work->empty = now;
+        else if (came > 0 || errno != EINTR)
             return true;
-        work->empty = now;
     }
 }
 
