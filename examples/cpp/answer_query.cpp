@@ -6,7 +6,8 @@
 // be late.
 #include <lislink_station.hpp>
 
-#include <arpa/inet.h>
+#include "port.hpp"
+
 #include <cerrno>
 #include <chrono>
 #include <cstdio>
@@ -64,10 +65,6 @@ class computer {
         return write(store_, text.data(), text.size()) == static_cast<ssize_t>(text.size()) && fsync(store_) == 0;
     }
 
-    bool send(std::string_view bytes) {
-        return ::send(line_, bytes.data(), bytes.size(), MSG_NOSIGNAL) == static_cast<ssize_t>(bytes.size());
-    }
-
     void run_timer() {
         auto seconds = station_.patience();
         due_ = seconds ? std::optional(clock_type::now() + *seconds) : std::nullopt;
@@ -75,7 +72,7 @@ class computer {
 
     // Keeps an answer's text, and then sends its bytes; whether both went well, in time.
     bool take(lislink::station::answer_due answer, clock_type::time_point since) {
-        if ((answer.text() && !keep(*answer.text())) || clock_type::now() - since > late || !send(answer.send()))
+        if ((answer.text() && !keep(*answer.text())) || clock_type::now() - since > late || !put(line_, answer.send()))
             return false;    // the answer is dropped: nothing of it goes out
         answer.sent();
         if (answer.is_step() && answer.step().note == LIS_NOTE_OPENED)
@@ -106,7 +103,7 @@ class computer {
         add_orders(station_, samples_);
         samples_.clear();
         is_sending_ = true;
-        bool sent = send(station_.start());
+        bool sent = put(line_, station_.start());
         run_timer();
         return sent;
     }
@@ -149,21 +146,6 @@ public:
         }
     }
 };
-
-static int accept_one(unsigned short port) {
-    int server = socket(AF_INET, SOCK_STREAM, 0);
-    sockaddr_in at{};
-    socklen_t size = sizeof at;
-    at.sin_family = AF_INET;
-    at.sin_port = htons(port);
-    at.sin_addr.s_addr = htonl(INADDR_LOOPBACK);
-    if (server < 0 || bind(server, reinterpret_cast<sockaddr *>(&at), sizeof at) != 0 || listen(server, 1) != 0
-        || getsockname(server, reinterpret_cast<sockaddr *>(&at), &size) != 0)
-        return -1;
-    std::printf("port %d\n", ntohs(at.sin_port));
-    std::fflush(stdout);
-    return accept(server, nullptr, nullptr);
-}
 
 int main(int count, char **words) {
     if (count != 3)

@@ -6,7 +6,8 @@
 // a timer that cancels it after a second, and async_write, and `store` posts to a thread pool; `session` stays as it is.
 #include <lislink.hpp>
 
-#include <arpa/inet.h>
+#include "port.hpp"
+
 #include <cerrno>
 #include <chrono>
 #include <cstdio>
@@ -49,7 +50,7 @@ struct line {
         events.push_back([=] { done(nothing ? std::nullopt : std::optional<std::size_t>(got > 0 ? got : 0)); });
     }
     void async_send(std::uint8_t reply, handler done) {
-        bool good = send(socket, &reply, 1, MSG_NOSIGNAL) == 1;
+        bool good = put(socket, {reinterpret_cast<const char *>(&reply), 1});
         events.push_back([done, good] { done(good); });
     }
 };
@@ -111,28 +112,18 @@ public:
     }
 };
 
-static int accept_one(unsigned short port) {
-    int server = socket(AF_INET, SOCK_STREAM, 0);
-    sockaddr_in at{};
-    socklen_t size = sizeof at;
-    at.sin_family = AF_INET;
-    at.sin_port = htons(port);
-    at.sin_addr.s_addr = htonl(INADDR_LOOPBACK);
-    if (server < 0 || bind(server, reinterpret_cast<sockaddr *>(&at), sizeof at) != 0 || listen(server, 1) != 0
-        || getsockname(server, reinterpret_cast<sockaddr *>(&at), &size) != 0)
-        return -1;
-    std::printf("port %d\n", ntohs(at.sin_port));
-    std::fflush(stdout);
-    int socket_of_line = accept(server, nullptr, nullptr);
+// The line of the first analyzer that connects; a read of it waits for a second.
+static int line_of(unsigned short port) {
+    int socket = accept_one(port);
     const timeval pause{1, 0};
-    return setsockopt(socket_of_line, SOL_SOCKET, SO_RCVTIMEO, &pause, sizeof pause) == 0 ? socket_of_line : -1;
+    return setsockopt(socket, SOL_SOCKET, SO_RCVTIMEO, &pause, sizeof pause) == 0 ? socket : -1;
 }
 
 int main(int count, char **words) {
     if (count != 3)
         return std::fputs("usage: later PORT FILE\n", stderr), 2;
     store kept{open(words[2], O_WRONLY | O_APPEND | O_CREAT, 0600)};
-    line analyzer{kept.file < 0 ? -1 : accept_one(static_cast<unsigned short>(std::atoi(words[1])))};
+    line analyzer{kept.file < 0 ? -1 : line_of(static_cast<unsigned short>(std::atoi(words[1])))};
     if (analyzer.socket < 0)
         return std::perror("later"), 1;
     session its(analyzer, kept);

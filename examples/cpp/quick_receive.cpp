@@ -1,12 +1,13 @@
-// Receives from an analyzer whose line is descriptor 0, and keeps each text in a file before it is acknowledged:
-// quick_receive FILE. The receiver's timer runs too.
+// Receives from an analyzer that connects to a TCP port, and keeps each text in a file before it is acknowledged:
+// quick_receive PORT FILE; port 0 is one that is free, and is printed. The receiver's timer runs too.
 #include <lislink.hpp>
+
+#include "port.hpp"
 
 #include <chrono>
 #include <cstdlib>
 #include <fcntl.h>
 #include <poll.h>
-#include <unistd.h>
 
 using clock_type = std::chrono::steady_clock;
 
@@ -20,29 +21,31 @@ static bool keep(int store, std::string_view text) {
     return kept;
 }
 
+// Whether bytes come within a second, or the end of the line.
 static bool comes(int line) {
     pollfd ready = {line, POLLIN, 0};
     return poll(&ready, 1, 1000) != 0;
 }
 
 int main(int count, char **words) {
-    int store = count == 2 ? open(words[1], O_WRONLY | O_CREAT | O_APPEND, 0600) : -1;
-    if (store < 0)
-        return 1;
+    int store = count == 3 ? open(words[2], O_WRONLY | O_CREAT | O_APPEND, 0600) : -1;
+    int line = store < 0 ? -1 : accept_one(static_cast<unsigned short>(std::atoi(words[1])));
+    if (line < 0)
+        return std::fputs("usage: quick_receive PORT FILE\n", stderr), 1;
     lislink::receiver receiver;
     char bytes[512];
     auto empty = clock_type::now(), meant = empty;    // when the line was last seen empty; when bytes meant something
     for (;;) {
-        for (auto before = clock_type::now(); !comes(0); before = clock_type::now()) {
+        for (auto before = clock_type::now(); !comes(line); before = clock_type::now()) {
             empty = before;
             if (receiver.is_open() && before - meant > std::chrono::seconds(LIS_SECONDS_RECEIVER))
                 receiver.timer();
         }
         auto before = clock_type::now();
-        ssize_t got = read(0, bytes, sizeof bytes);
+        ssize_t got = read(line, bytes, sizeof bytes);
         if (got <= 0)
             return got == 0 ? 0 : 1;
-        auto send = [](std::uint8_t reply) { return write(0, &reply, 1) == 1; };
+        auto send = [&](std::uint8_t reply) { return put(line, {reinterpret_cast<const char *>(&reply), 1}); };
         auto each = [&](const lis_step &) { meant = clock_type::now(); };
         auto kept = [&](std::string_view text) { return keep(store, text); };
         receiver.hear_since(empty, {bytes, static_cast<std::size_t>(got)}, kept, send, each);    // keep, then reply

@@ -37,7 +37,7 @@ pub fn frame(number: u8, last: bool, text: &[u8]) -> Result<Bytes, Error> {
     let status = unsafe {
         sys::lis_frame_write(number, last, text.as_ptr(), text.len(), out.get(), &mut place)
     };
-    Error::of(status, 0, place)?;
+    Error::at_byte(status, place)?;
     Ok(out)
 }
 
@@ -76,7 +76,7 @@ pub fn long_frame(number: u8, last: bool, text: &[u8]) -> Result<Vec<u8>, Error>
             &mut place,
         )
     };
-    Error::of(status, 0, place)?;
+    Error::at_byte(status, place)?;
     Ok(out)
 }
 
@@ -96,7 +96,7 @@ pub enum Signal {
         /// Its text.
         text: Vec<u8>,
     },
-    /// A bad frame, and the byte of its text that no text may hold.
+    /// A bad frame: what is wrong with it, and the byte of its text that no text may hold.
     BadFrame(Fault, usize),
 }
 
@@ -115,11 +115,11 @@ impl Scanner {
         Scanner(Block::new())
     }
 
-    /// The same for frames whose texts are within a limit; an error if there is no memory for it.
+    /// A scanner of frames whose texts have at most so many bytes; an error if there is no memory for it.
     pub fn with_frame_limit(limit: FrameLimit) -> Result<Self, Error> {
         let mut scanner = Self::new();
         let status = unsafe { sys::lis_scanner_set_limit(scanner.0.get(), limit.bytes()) };
-        Error::of(status, 0, 0)?;
+        Error::of(status)?;
         Ok(scanner)
     }
 
@@ -131,7 +131,7 @@ impl Scanner {
         text
     }
 
-    /// The signals of these bytes. What the iterator was not asked for is not read.
+    /// The signals that these bytes complete. Bytes that the iterator isn't asked for are not read.
     pub fn feed<'a>(&'a mut self, bytes: &'a [u8]) -> impl Iterator<Item = Signal> + 'a {
         let mut rest = bytes;
         std::iter::from_fn(move || {

@@ -30,29 +30,67 @@ pub use writer::{Delimiters, Writer};
 
 use std::fmt;
 
-/// Why a call did nothing: its status, and which text and byte is at fault (0 if none is).
+/// Why a call did nothing: its status, and which text, field or byte is at fault (0 if none is). It prints the status
+/// in words and, if the call has it, the place.
 #[derive(Clone, Copy, Debug, PartialEq, Eq)]
 pub struct Error {
-    /// What the call answered.
+    /// What the C call returned.
     pub status: Status,
     /// The text of a session, from 0, or the field of a record.
     pub index: usize,
-    /// The byte of it that no text may hold.
+    /// The byte of the text that no text may hold, from 0.
     pub place: usize,
+    at: At,
+}
+
+/// What a call has the place of.
+#[derive(Clone, Copy, Debug, PartialEq, Eq)]
+enum At {
+    Nothing,
+    Byte,
+    Text,
+    Field,
 }
 
 impl Error {
-    fn of(status: u8, index: usize, place: usize) -> Result<(), Error> {
+    fn of(status: u8) -> Result<(), Error> {
+        Error::at(At::Nothing, status, 0, 0)
+    }
+
+    /// Of a call on one text.
+    fn at_byte(status: u8, place: usize) -> Result<(), Error> {
+        Error::at(At::Byte, status, 0, place)
+    }
+
+    /// Of the start of a session.
+    fn at_text(status: u8, fault: lislink_sys::lis_place) -> Result<(), Error> {
+        Error::at(At::Text, status, fault.index, fault.place)
+    }
+
+    /// Of a record that is put.
+    fn at_field(status: u8, field: usize) -> Result<(), Error> {
+        Error::at(At::Field, status, field, 0)
+    }
+
+    fn at(at: At, status: u8, index: usize, place: usize) -> Result<(), Error> {
         match Status::of(status) {
             Status::Ok => Ok(()),
-            status => Err(Error { status, index, place }),
+            status => Err(Error { status, index, place, at }),
         }
     }
 }
 
 impl fmt::Display for Error {
     fn fmt(&self, f: &mut fmt::Formatter<'_>) -> fmt::Result {
-        self.status.fmt(f)
+        let Error { status, index, place, at } = *self;
+        status.fmt(f)?;
+        match (at, status) {
+            (At::Byte, Status::Forbidden) => write!(f, ", byte {place} from 0"),
+            (At::Text, Status::Forbidden) => write!(f, ", text {index}, byte {place} from 0"),
+            (At::Text, Status::TooLong) => write!(f, ", text {index} from 0"),
+            (At::Field, _) if index > 0 => write!(f, ", field {index}"),
+            _ => Ok(()),
+        }
     }
 }
 

@@ -1,32 +1,41 @@
 //! The reader, and the records that it reads.
-use crate::{block::Block, Delimiters, Reason};
+use crate::{block::Block, Delimiters, Reason, Status};
 use lislink_sys as sys;
 use std::borrow::Cow;
 use std::fmt;
 
-/// Why a record can't be read.
+/// Why a record can't be read. It prints the record's number, the reason and, of a text that is no record, why.
 #[derive(Clone, Copy, Debug, PartialEq, Eq)]
 pub struct MessageError {
     /// Its number in its message, from 1 for a header.
     pub number: u64,
     /// What is wrong with it.
     pub reason: Reason,
-    /// The status of its text, or its letter.
+    /// The number of the status of its text ([`Status::of`]), or its letter.
     pub detail: u8,
-    /// The byte that no text may hold.
+    /// The byte that no text may hold, from 0.
     pub place: usize,
 }
 
 impl fmt::Display for MessageError {
     fn fmt(&self, f: &mut fmt::Formatter<'_>) -> fmt::Result {
-        write!(f, "record {}: {}", self.number, self.reason)
+        let MessageError { number, reason, detail, place } = *self;
+        write!(f, "record {number}: {reason}")?;
+        match (reason, Status::of(detail)) {
+            (Reason::BadRecord, Status::Forbidden) => {
+                write!(f, ": {}, byte {place} from 0", Status::Forbidden)
+            }
+            (Reason::BadRecord, status) => write!(f, ": {status}"),
+            (Reason::NoParent, _) => write!(f, ", {}", char::from(detail)),
+            _ => Ok(()),
+        }
     }
 }
 
 impl std::error::Error for MessageError {}
 
-/// A component of a record, and which it is. Fields are counted as the standard does: the first after the letter is 2,
-/// after a header's delimiters 3; repeats and components from 0.
+/// A component of a record. Fields are counted as the standard does: the first after the letter is 2, after a header's
+/// delimiters 3; repeats and components from 0.
 #[derive(Clone, Copy, Debug, PartialEq, Eq)]
 pub struct Part<'r> {
     /// The field.
@@ -42,7 +51,7 @@ pub struct Part<'r> {
 }
 
 impl<'r> Part<'r> {
-    /// Its bytes, escapes as what they mean.
+    /// The bytes that it means: its escapes are decoded.
     pub fn bytes(&self) -> Cow<'r, [u8]> {
         if !self.escaped {
             return Cow::Borrowed(self.raw);
@@ -105,7 +114,7 @@ impl Record {
         self.parts.iter().map(|part| self.part_of(part))
     }
 
-    /// The bytes of a component, escapes as what they mean.
+    /// The bytes that a component means; none if there is no such part.
     pub fn part(&self, field: usize, repeat: usize, component: usize) -> Option<Cow<'_, [u8]>> {
         let wanted = (field, repeat, component);
         let key =
@@ -133,8 +142,8 @@ impl Reader {
         Reader { block: Block::new(), parts: Vec::new() }
     }
 
-    /// The records that end in these bytes. One that can't be read is the last, and the reader then gives that fault
-    /// for good. What the iterator was not asked for is not read.
+    /// The records that end in these bytes. One that can't be read is the last, and the reader gives that error for
+    /// good. Bytes that the iterator isn't asked for are not read.
     pub fn feed<'a>(&'a mut self, bytes: &'a [u8]) -> Records<'a> {
         Records { reader: self, rest: bytes }
     }

@@ -8,9 +8,9 @@ use std::time::{Duration, Instant};
 pub struct Step {
     /// What it meant.
     pub note: Note,
-    /// The frame's number, or the number of its fault.
+    /// The frame's number, or the number of its fault ([`Fault::of`](crate::Fault::of)).
     pub detail: u8,
-    /// The byte that no text may hold.
+    /// The byte of a bad frame's text that no text may hold, from 0.
     pub place: usize,
 }
 
@@ -24,7 +24,7 @@ pub enum Heard {
     GaveUp,
 }
 
-/// Receives texts.
+/// Receives texts: keeps each, and then replies.
 pub struct Receiver {
     block: Block<sys::lis_receiver>,
     text: Vec<u8>,
@@ -36,9 +36,9 @@ impl Default for Receiver {
     }
 }
 
-/// A step that is answered later: keep its text, send its reply, and say [`sent`](Self::sent). If that isn't said, no
-/// reply may go out, and the receiver restarts as this is dropped; so an error between the two acknowledges nothing.
-#[must_use = "keep the text, send the reply, and then say `sent`; else the receiver restarts"]
+/// A step that is answered later: keep its text, send its reply, and call [`sent`](Self::sent). If that isn't called,
+/// no reply may go out, and the receiver restarts when this is dropped: an error in between acknowledges nothing.
+#[must_use = "keep the text, send the reply, and then call `sent`; else the receiver restarts"]
 pub struct Answer<'a> {
     receiver: &'a mut Receiver,
     step: Step,
@@ -63,7 +63,7 @@ impl Answer<'_> {
         self.reply
     }
 
-    /// The text was kept, and the reply was sent.
+    /// Call it when the text was kept and the reply was sent.
     pub fn sent(mut self) {
         self.is_due = false;
     }
@@ -77,7 +77,7 @@ impl Drop for Answer<'_> {
     }
 }
 
-/// Restarts the receiver unless all went well, also if a closure panics.
+/// Restarts the receiver unless all went well; so it does if a closure panics.
 struct Guard<'a> {
     receiver: &'a mut Receiver,
     good: bool,
@@ -92,21 +92,22 @@ impl Drop for Guard<'_> {
 }
 
 impl Receiver {
-    /// A receiver, neutral and ready.
+    /// A receiver that is ready, on a line that isn't open.
     pub fn new() -> Self {
         Receiver { block: Block::new(), text: Vec::new() }
     }
 
-    /// The same for frames whose texts are within a limit; an error if there is no memory for it.
+    /// A receiver of frames whose texts have at most so many bytes; an error if there is no memory for it.
     pub fn with_frame_limit(limit: FrameLimit) -> Result<Self, Error> {
         let mut receiver = Self::new();
         let status = unsafe { sys::lis_receiver_set_limit(receiver.block.get(), limit.bytes()) };
-        Error::of(status, 0, 0)?;
+        Error::of(status)?;
         Ok(receiver)
     }
 
-    /// Hears bytes. For each text that is complete `keep` is called, and only if it says true `send`, with the reply.
-    /// Else no reply is sent, so that the sender keeps its texts and sends them again.
+    /// Hears bytes: calls `keep` with each text that is complete, and only if that returns true `send`, with the reply.
+    /// If either returns false, no reply is sent and the receiver restarts: the sender still has its texts, and sends
+    /// them again.
     pub fn hear(
         &mut self,
         bytes: &[u8],
@@ -116,8 +117,9 @@ impl Receiver {
         self.hear_each(bytes, keep, send, |_| ())
     }
 
-    /// The same for bytes that came after a time, when the line was last seen empty: a reply that could come after the
-    /// sender's timer is not sent. It is one that is due when two thirds of that timer are over.
+    /// As [`hear`](Self::hear), for bytes that came after `since`, when the line was last seen empty: a reply that
+    /// could come after the sender's timer is not sent, which is one that is due more than two thirds of that timer
+    /// after `since`.
     pub fn hear_since(
         &mut self,
         since: Instant,
@@ -129,7 +131,7 @@ impl Receiver {
         self.hear(bytes, keep, |reply| since.elapsed() <= patience && send(reply))
     }
 
-    /// The same, with each step that means something before its text is kept.
+    /// As [`hear`](Self::hear); `each` is called first, with each step that means something.
     pub fn hear_each(
         &mut self,
         bytes: &[u8],
@@ -157,9 +159,9 @@ impl Receiver {
         Heard::All
     }
 
-    /// Hears bytes up to the first step that means something, and takes them from the front of `bytes`. Its reply may be
-    /// sent later, as after an `await`; until then the receiver hears no more. Without a step all bytes are taken. If
-    /// there is no memory for a text, the receiver restarts, and the note says so.
+    /// Hears bytes up to the first step that means something, or all of them if none does, and takes them from the
+    /// front of `bytes`. Its reply may be sent later, as after an `await`; until then the receiver hears nothing more.
+    /// If there is no memory for a text, the receiver restarts, and the note says so.
     pub fn next_step(&mut self, bytes: &mut &[u8]) -> Answer<'_> {
         let mut step = no_step();
         if !bytes.is_empty() {
@@ -202,26 +204,26 @@ impl Receiver {
         step_of(&step)
     }
 
-    /// Gives up what goes on: for a connection that was lost, before the first byte of the next.
+    /// Gives up what goes on: call it when a connection was lost, before the first byte of the next one.
     pub fn restart(&mut self) {
         unsafe { sys::lis_receiver_restart(self.block.get()) };
     }
 
-    /// Whether there is room for another frame from now on.
+    /// Says whether there is room for another frame from now on; without it a new frame is answered NAK.
     pub fn set_room(&mut self, room: bool) {
         unsafe { sys::lis_receiver_set_room(self.block.get(), room) };
     }
 
-    /// How ENQ is answered from now on.
+    /// Says how ENQ is answered from now on.
     pub fn set_ready(&mut self, ready: Ready) -> Result<(), Error> {
         let status = unsafe { sys::lis_receiver_set_ready(self.block.get(), ready.number()) };
-        Error::of(status, 0, 0)
+        Error::of(status)
     }
 
     /// Makes room for so many more bytes of text.
     pub fn reserve(&mut self, bytes: u64) -> Result<(), Error> {
         let status = unsafe { sys::lis_receiver_reserve(self.block.get(), bytes) };
-        Error::of(status, 0, 0)
+        Error::of(status)
     }
 
     /// Whether the line is open, and so the receiver's timer runs.

@@ -22,7 +22,7 @@ impl<'t> From<&'t [u8]> for Text<'t> {
     }
 }
 
-/// Sends texts. The bytes that a call gives are to be sent; there may be none.
+/// Sends texts. The bytes that a call returns are to be sent; there may be none.
 pub struct Sender<'t> {
     line: sys::lis_line,
     _block: Block<sys::lis_sender>,
@@ -51,17 +51,17 @@ impl<'t> Sender<'t> {
         Sender { line, _block: block, limit, sent: Vec::new(), texts: PhantomData }
     }
 
-    /// The same for frames whose texts are within a limit.
+    /// A sender of frames whose texts have at most so many bytes.
     pub fn with_frame_limit(limit: FrameLimit) -> Result<Self, Error> {
         let mut sender = Self::new();
         let status = unsafe { sys::lis_sender_set_limit(&mut sender.line.sender, limit.bytes()) };
-        Error::of(status, 0, 0)?;
+        Error::of(status)?;
         sender.limit = limit;
         Ok(sender)
     }
 
-    /// A new connection was made; or a serial line was waited for, longer than the computer takes to answer, and what
-    /// came was dropped. A session that goes on is restarted.
+    /// Call it when a new connection was made; on a serial line, when you have waited longer than the computer takes to
+    /// answer, and dropped what came. A session that goes on is restarted.
     pub fn connected(&mut self) -> Connection {
         Connection(unsafe { sys::lis_line_connected(&mut self.line) })
     }
@@ -70,7 +70,7 @@ impl<'t> Sender<'t> {
     pub fn add(&mut self, text: &[u8]) -> Result<(), Error> {
         let status =
             unsafe { sys::lis_sender_add_text(&mut self.line.sender, text.as_ptr(), text.len()) };
-        Error::of(status, 0, 0)
+        Error::of(status)
     }
 
     /// Drops the texts of the next session.
@@ -78,27 +78,27 @@ impl<'t> Sender<'t> {
         unsafe { sys::lis_sender_clear(&mut self.line.sender) };
     }
 
-    /// Starts a session with the texts that were added, which gives ENQ. [`Status::OldLine`](crate::Status::OldLine)
-    /// before [`connected`](Self::connected), and after a session that timed out or was restarted. The texts of the
-    /// session are gone when it is over, however it ended.
+    /// Starts a session with the texts that were added: ENQ, to be sent. [`Status::OldLine`](crate::Status::OldLine)
+    /// before [`connected`](Self::connected), and, from when a session timed out or was restarted, until `connected` is
+    /// called again. Once a session is over, its texts are gone, however it ended.
     pub fn start(&mut self) -> Result<Bytes, Error> {
         let (mut out, mut fault) = (Bytes::none(), sys::lis_place { index: 0, place: 0 });
         let status = unsafe { sys::lis_line_start(&mut self.line, out.get(), &mut fault) };
-        Error::of(status, fault.index, fault.place)?;
+        Error::at_text(status, fault)?;
         Ok(out)
     }
 
-    /// The same with texts that stay with their owner, and without memory.
+    /// Starts a session with texts that stay with their owner, and takes no memory.
     pub fn start_lent(&mut self, texts: &'t [Text<'t>]) -> Result<Bytes, Error> {
         let (mut out, mut fault) = (Bytes::none(), sys::lis_place { index: 0, place: 0 });
         let (line, first) = (&mut self.line, texts.as_ptr().cast());
         let status =
             unsafe { sys::lis_line_start_lent(line, first, texts.len(), out.get(), &mut fault) };
-        Error::of(status, fault.index, fault.place)?;
+        Error::at_text(status, fault)?;
         Ok(out)
     }
 
-    /// A byte came over a connection. The bytes to be sent are good until the next call.
+    /// A byte came over a connection: what is to be sent.
     #[must_use = "these bytes are to be sent"]
     pub fn reply(&mut self, from: Connection, byte: u8) -> &[u8] {
         let mut out = Bytes::none();
@@ -115,7 +115,7 @@ impl<'t> Sender<'t> {
         &self.sent
     }
 
-    /// The phase's timer ran out.
+    /// The time of [`patience`](Self::patience) is over: what is to be sent.
     #[must_use = "these bytes are to be sent"]
     pub fn timer(&mut self) -> Bytes {
         let mut out = Bytes::none();
@@ -143,7 +143,7 @@ impl<'t> Sender<'t> {
         unsafe { sys::lis_sender_acknowledged(&mut self.handle()) }
     }
 
-    /// How long the phase lasts before its timer runs out.
+    /// How long the phase lasts before its timer runs out; none if no timer runs.
     pub fn patience(&self) -> Option<Duration> {
         match self.phase() {
             Phase::Neutral => None,

@@ -1,23 +1,23 @@
 //! The station: both ways of one line.
 use crate::receiver::{no_step, step_of};
-use crate::{block::Block, Bytes, Error, FrameLimit, Note, Outcome, Phase, Role, Status, Step};
+use crate::{block::Block, Bytes, Error, FrameLimit, Note, Outcome, Phase, Role, Step};
 use lislink_sys as sys;
 use std::time::Duration;
 
-/// A side of a line on which both sides send. The bytes that a call gives are to be sent; there may be none.
+/// A side of a line on which both sides send. The bytes that a call returns are to be sent; there may be none.
 pub struct Station {
     block: Block<sys::lis_station>,
     limit: FrameLimit,
     // The text that is complete, and the bytes that are to be sent.
     text: Vec<u8>,
     send: Vec<u8>,
-    // Whether a reply may come that is late.
+    // Whether a late reply may come.
     spent: bool,
 }
 
-/// An answer: keep its text, send its bytes, and say [`sent`](Self::sent). If that isn't said, nothing of it may go
-/// out: as this is dropped the line is closed, or, if the answer was of the sender, its session given up.
-#[must_use = "keep the text, send the bytes, and then say `sent`; else the line is closed"]
+/// An answer: keep its text, send its bytes, and call [`sent`](Self::sent). If that isn't called, nothing of it may go
+/// out: when this is dropped the line is closed, or, if it was for the sender, its session is given up.
+#[must_use = "keep the text, send the bytes, and then call `sent`; else the line is closed"]
 pub struct StationAnswer<'a> {
     station: &'a mut Station,
     step: Option<Step>,
@@ -46,7 +46,7 @@ impl StationAnswer<'_> {
         &self.station.send
     }
 
-    /// The text was kept, and the bytes were sent.
+    /// Call it when the text was kept and the bytes were sent.
     pub fn sent(mut self) {
         self.is_due = false;
     }
@@ -67,27 +67,28 @@ impl Station {
     pub fn new(role: Role, limit: FrameLimit) -> Result<Self, Error> {
         let mut block = Block::new();
         let status = unsafe { sys::lis_station_begin(block.get(), role.number(), limit.bytes()) };
-        Error::of(status, 0, 0)?;
+        Error::of(status)?;
         Ok(Station { block, limit, text: Vec::new(), send: Vec::new(), spent: true })
     }
 
-    /// A new connection was made; or a serial line was waited for, longer than the other side takes to answer, and what
-    /// came was dropped. The station restarts.
+    /// Call it when a new connection was made; on a serial line, when you have waited longer than the other side takes
+    /// to answer, and dropped what came. The station restarts.
     pub fn connected(&mut self) {
         self.restart();
         self.spent = false;
     }
 
-    /// Asks for the line, to send these texts in one session, which gives ENQ. [`Status::OldLine`] before
-    /// [`connected`](Self::connected), and after a session that timed out or was given up; [`Status::LineOpen`] while
-    /// the other side has the line. The station is then as before. Only [`Outcome::Done`] says that all texts were
+    /// Asks for the line, to send these texts in one session: ENQ, to be sent. It fails, and the station is as before,
+    /// with [`Status::LineOpen`](crate::Status::LineOpen) while the other side has the line, and with
+    /// [`Status::OldLine`](crate::Status::OldLine) before [`connected`](Self::connected) and, from when a session timed
+    /// out or was given up, until `connected` is called again. Only [`Outcome::Done`] says that all texts were
     /// acknowledged: keep them until then.
     pub fn start<T: AsRef<[u8]>>(
         &mut self,
         texts: impl IntoIterator<Item = T>,
     ) -> Result<Bytes, Error> {
         if self.spent {
-            return Err(Error { status: Status::OldLine, index: 0, place: 0 });
+            Error::of(sys::LIS_STATUS_OLD_LINE)?;
         }
         self.clear();
         let started = self.add_all(texts).and_then(|()| self.start_added());
@@ -99,14 +100,14 @@ impl Station {
         texts.into_iter().try_for_each(|text| {
             let (station, text) = (self.block.get(), text.as_ref());
             let status = unsafe { sys::lis_station_add_text(station, text.as_ptr(), text.len()) };
-            Error::of(status, 0, 0)
+            Error::of(status)
         })
     }
 
     fn start_added(&mut self) -> Result<Bytes, Error> {
         let (mut out, mut fault) = (Bytes::none(), sys::lis_place { index: 0, place: 0 });
         let status = unsafe { sys::lis_station_start(self.block.get(), out.get(), &mut fault) };
-        Error::of(status, fault.index, fault.place)?;
+        Error::at_text(status, fault)?;
         Ok(out)
     }
 
@@ -114,8 +115,8 @@ impl Station {
         unsafe { sys::lis_station_clear(self.block.get()) };
     }
 
-    /// Hears bytes up to the first answer, and takes them from the front of `bytes`. It may be sent later, as after an
-    /// `await`; until then the station hears no more. Without an answer all bytes are taken. If there is no memory for
+    /// Hears bytes up to the first answer, or all of them if there is none, and takes them from the front of `bytes`.
+    /// It may be sent later, as after an `await`; until then the station hears nothing more. If there is no memory for
     /// a text, the line is closed, and the note says so.
     pub fn next_answer(&mut self, bytes: &mut &[u8]) -> StationAnswer<'_> {
         let mut out = no_answer();
@@ -174,7 +175,7 @@ impl Station {
         status == sys::LIS_STATUS_OK
     }
 
-    /// How long the timer runs that runs now, before [`timer`](Self::timer).
+    /// How long the timer runs before [`timer`](Self::timer) is due; none if no timer runs.
     pub fn patience(&self) -> Option<Duration> {
         let mut seconds = 0;
         let runs =
@@ -182,7 +183,7 @@ impl Station {
         runs.then(|| Duration::from_secs(seconds.into()))
     }
 
-    /// How long the line should be left to the other side, which waits for its turn.
+    /// How long the line should be left to the other side, which waits for its turn; none if it doesn't wait.
     pub fn turn(&self) -> Option<Duration> {
         let seconds = unsafe { sys::lis_station_turn_seconds(&mut self.block.handle()) };
         (seconds > 0).then(|| Duration::from_secs(seconds.into()))
@@ -193,12 +194,13 @@ impl Station {
         unsafe { sys::lis_station_turn_asked(&mut self.block.handle()) }
     }
 
-    /// Asks for its turn while the other side has the line: the next frame that is accepted is answered EOT.
+    /// While the other side has the line: asks it to let this side send. The next frame that is accepted is answered
+    /// EOT.
     pub fn ask_turn(&mut self) {
         unsafe { sys::lis_station_ask_turn(self.block.get()) };
     }
 
-    /// Gives up the session of its own; nothing is sent.
+    /// Gives up its own session; nothing is sent.
     pub fn give_up(&mut self) {
         self.spent = self.spent || self.phase() != Phase::Neutral;
         unsafe { sys::lis_station_give_up(self.block.get()) };
@@ -215,7 +217,7 @@ impl Station {
         unsafe { sys::lis_station_restart(self.block.get()) };
     }
 
-    /// Whether the other side gets the line from now on: its ENQ is answered ACK, or NAK.
+    /// Says whether the other side gets the line from now on: its ENQ is answered ACK, or NAK.
     pub fn set_ready(&mut self, ready: bool) {
         unsafe { sys::lis_station_set_ready(self.block.get(), ready) };
     }
@@ -223,7 +225,7 @@ impl Station {
     /// Makes room for so many more bytes of text.
     pub fn reserve(&mut self, bytes: u64) -> Result<(), Error> {
         let status = unsafe { sys::lis_station_reserve(self.block.get(), bytes) };
-        Error::of(status, 0, 0)
+        Error::of(status)
     }
 
     /// Whether the next byte is a reply to its own ENQ or frame.
@@ -236,7 +238,7 @@ impl Station {
         Phase::of(unsafe { sys::lis_station_phase(&mut self.block.handle()) })
     }
 
-    /// How the last session of its own ended.
+    /// How its own last session ended.
     pub fn outcome(&self) -> Outcome {
         Outcome::of(unsafe { sys::lis_station_outcome(&mut self.block.handle()) })
     }

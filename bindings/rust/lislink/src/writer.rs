@@ -49,35 +49,35 @@ impl Writer {
 
     /// Drops all that was written, and begins with these delimiters.
     pub fn start(&mut self, delimiters: Delimiters) -> Result<&mut Self, Error> {
-        Error::of(unsafe { sys::lis_writer_start(self.0.get(), &delimiters.to_sys()) }, 0, 0)?;
+        Error::of(unsafe { sys::lis_writer_start(self.0.get(), &delimiters.to_sys()) })?;
         Ok(self)
     }
 
     /// Begins a record by the letter of its kind.
     pub fn record(&mut self, letter: u8) -> Result<&mut Self, Error> {
-        Error::of(unsafe { sys::lis_writer_record(self.0.get(), letter) }, 0, 0)?;
+        Error::of(unsafe { sys::lis_writer_record(self.0.get(), letter) })?;
         Ok(self)
     }
 
-    /// A component of the next field that isn't the last of its repeat.
+    /// Writes a component that another one of the same repeat follows.
     pub fn component(&mut self, bytes: &[u8]) -> Result<&mut Self, Error> {
         let status =
             unsafe { sys::lis_writer_component(self.0.get(), bytes.as_ptr(), bytes.len()) };
-        Error::of(status, 0, 0)?;
+        Error::of(status)?;
         Ok(self)
     }
 
-    /// The last component of a repeat of the next field, which another repeat follows.
+    /// Writes the last component of a repeat that another repeat of the field follows.
     pub fn repeat(&mut self, bytes: &[u8]) -> Result<&mut Self, Error> {
         let status = unsafe { sys::lis_writer_repeat(self.0.get(), bytes.as_ptr(), bytes.len()) };
-        Error::of(status, 0, 0)?;
+        Error::of(status)?;
         Ok(self)
     }
 
-    /// The last component of the next field, for most fields the only one.
+    /// Writes the last component of a field, for most fields the only one.
     pub fn field(&mut self, bytes: &[u8]) -> Result<&mut Self, Error> {
         let status = unsafe { sys::lis_writer_field(self.0.get(), bytes.as_ptr(), bytes.len()) };
-        Error::of(status, 0, 0)?;
+        Error::of(status)?;
         Ok(self)
     }
 
@@ -85,7 +85,7 @@ impl Writer {
     pub fn put(&mut self) -> Result<&mut Self, Error> {
         let mut field = 0;
         let status = unsafe { sys::lis_writer_put(self.0.get(), &mut field) };
-        Error::of(status, field, 0)?;
+        Error::at_field(status, field)?;
         Ok(self)
     }
 
@@ -94,7 +94,7 @@ impl Writer {
         unsafe { sys::lis_writer_texts(&mut self.0.handle()) }
     }
 
-    /// The text of a record, with its CR.
+    /// The text of a record that was put, with its CR, by its place from 0; none if there are not so many.
     pub fn text(&self, place: usize) -> Option<Vec<u8>> {
         let mut writer = self.0.handle();
         let len = unsafe { sys::lis_writer_text_len(&mut writer, place) };

@@ -11,6 +11,49 @@ const HEADER: &[u8] = b"\x021H|\\^&\r\x03E5\r\n";
 
 fn is_send<T: Send>() {}
 
+/// What an error prints.
+fn said<T, E: std::fmt::Display>(result: Result<T, E>) -> String {
+    result.err().expect("an error").to_string()
+}
+
+#[test]
+fn an_error_prints_its_place() {
+    let words = "the text has a byte that no text may hold";
+    assert_eq!(said(long_frame(1, true, b"a\x02")), format!("{words}, byte 1 from 0"));
+    let mut sender = Sender::new();
+    let _ = sender.connected();
+    sender.add(b"good\r").unwrap();
+    sender.add(b"bad\x02\r").unwrap();
+    assert_eq!(said(sender.start()), format!("{words}, text 1, byte 3 from 0"));
+    sender.clear();
+    assert_eq!(said(sender.start()), "there is no text to send");
+    sender.add(&vec![b'a'; 1_048_577]).unwrap();
+    let long = "there are more bytes than the limit allows, text 0 from 0";
+    assert_eq!(said(sender.start()), long);
+    let mut writer = Writer::new();
+    writer.record(b'H').unwrap().put().unwrap();
+    writer.record(b'P').unwrap().field(b"1").unwrap().field(b"a\n").unwrap();
+    assert_eq!(said(writer.put()), format!("{words}, field 3"));
+    assert_eq!(
+        said(Receiver::new().reserve(1_048_577)),
+        "there are more bytes than the limit allows"
+    );
+}
+
+#[test]
+fn a_record_that_cant_be_read_prints_its_number_and_why() {
+    let refused = |bytes: &[u8]| said(Reader::new().feed(bytes).last().expect("a record"));
+    let words = "record 2: the text is not a record: ";
+    assert_eq!(
+        refused(b"H|\\^&\rP|1\n\r"),
+        format!("{words}the text has a byte that no text may hold, byte 3 from 0")
+    );
+    let letter = "no letter of such a record, or no field delimiter after it";
+    assert_eq!(refused(b"H|\\^&\rX|1\r"), format!("{words}{letter}"));
+    assert_eq!(refused(b"H|\\^&\rR|1\r"), "record 2: the record has no parent in the message, R");
+    assert_eq!(refused(b"P|1\r"), "record 1: outside a message a header comes first");
+}
+
 #[test]
 fn a_field_may_have_repeats() {
     let mut writer = Writer::new();

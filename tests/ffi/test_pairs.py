@@ -1,0 +1,131 @@
+"""The samples that send a file and those that receive, in C++ and Rust, over TCP: each sender to each receiver; to a host
+that takes nothing, one that is busy, and one that closes the line; and a record that can't be sent."""
+import os
+import shutil
+import socket
+import subprocess
+import time
+
+from tests import ROOT, kit
+from tests.ffi.test_samples import ACK, ENQ, EOT, InPython, ask, frame, kept, told
+
+NAK = b"\x15"
+CPP = ["g++", "-std=c++17", "-Wall", "-Wextra", "-Werror", "-pedantic", f"-I{ROOT}/include", "-g", "-O1",
+       "-fsanitize=address,undefined", "-fno-sanitize-recover=all"]
+PANEL = os.path.join(ROOT, "samples/panel.records")
+#: How long a sender may take that asks a busy computer three times, and how long it takes at least.
+BUSY, LEAST = 40, 29
+
+
+class Host:
+    """A host of the test's, with the line of a sample that sends a file to it."""
+
+    def __init__(self, program, file, env):
+        with socket.create_server(("127.0.0.1", 0)) as server:
+            server.settimeout(10)
+            words = [program, f"127.0.0.1:{server.getsockname()[1]}", file]
+            self.process = subprocess.Popen(words, stdout=subprocess.PIPE, stderr=subprocess.PIPE, env=env)
+            self.line, self.begun = server.accept()[0], time.monotonic()
+
+    def end(self, seconds=10):
+        """The status that it ends with, and what it says."""
+        try:
+            said = b"".join(self.process.communicate(timeout=seconds))
+        except subprocess.TimeoutExpired:
+            self.process.kill()
+            return None, b"".join(self.process.communicate())
+        finally:
+            self.line.close()
+        return self.process.returncode, said
+
+
+class Pairs(kit.Test):
+    def setUp(self):
+        self.build, self.work = kit.built("build"), kit.folder_of(self)
+        self.env = {**os.environ, "LD_LIBRARY_PATH": self.build}
+        self.senders, self.receivers = {}, {}
+
+    def in_cpp(self):
+        """Compiles the samples in C++."""
+        for name, programs in (("quick_send", self.senders), ("quick_receive", self.receivers)):
+            to = f"{self.work}/{name}"
+            if self.runs([*CPP, f"{ROOT}/examples/cpp/{name}.cpp", f"{self.build}/liblislink.a", "-o", to]):
+                programs[f"{name}.cpp"] = to
+
+    def in_rust(self):
+        """Builds all samples in Rust, as cargo does."""
+        env = {**os.environ, "CARGO_TARGET_DIR": f"{self.work}/rust", "LISLINK_LIB_DIR": self.build,
+               "CARGO_NET_OFFLINE": "true", "RUSTFLAGS": "-D warnings"}
+        if self.runs(["cargo", "build", "--quiet", "--offline", "--locked", "--examples"], env=env,
+                     cwd=f"{ROOT}/bindings/rust"):
+            self.senders["send.rs"] = f"{self.work}/rust/debug/examples/send"
+            self.receivers["receive.rs"] = f"{self.work}/rust/debug/examples/receive"
+
+    def host(self, program, file=PANEL):
+        return Host(program, file, self.env)
+
+    def test_pairs(self):
+        if shutil.which("g++"):
+            self.in_cpp()
+        else:
+            print("skipped: g++: some checks: quick_send.cpp and quick_receive.cpp")
+        if shutil.which("cargo"):
+            self.in_rust()
+        else:
+            print("skipped: cargo: some checks: send.rs and receive.rs")
+        busy = {name: self.host(program) for name, program in self.senders.items()}
+        good = {name: told(host.line, 1) == ENQ for name, host in busy.items()}
+        for host in busy.values():
+            host.line.sendall(NAK)
+        for sender in self.senders:
+            for receiver in self.receivers:
+                self.of_pair(sender, receiver)
+            self.of_failures(sender, self.senders[sender])
+        for name, host in busy.items():
+            self.of_busy(name, host, good[name])
+
+    def of_pair(self, sender, receiver):
+        """A file that is sent is what is kept."""
+        path = f"{self.work}/{sender}-{receiver}"
+        words = [self.receivers[receiver], "0", path]
+        with subprocess.Popen(words, stdout=subprocess.PIPE, stderr=subprocess.DEVNULL, env=self.env) as receives:
+            port = int(receives.stdout.readline().split()[1])
+            ran = subprocess.run([self.senders[sender], f"127.0.0.1:{port}", PANEL], capture_output=True, text=True,
+                                 timeout=60, env=self.env)
+            receives.wait(10)
+        with open(PANEL, "rb") as file:
+            sent = file.read()
+        count = sent.count(b"\r")
+        good = ran.returncode == 0 and ran.stdout == f"all texts are acknowledged, frames: {count}\n"
+        self.check(good and kept(path) == sent, f"{sender} to {receiver}", ran.stdout + ran.stderr)
+
+    def of_failures(self, name, program):
+        """A frame that is rejected six times; a line that is closed while the host is busy; a record with LF."""
+        with open(PANEL, "rb") as file:
+            first = frame(1, file.read().split(b"\r")[0] + b"\r")
+        host = self.host(program)
+        good = told(host.line, 1) == ENQ and ask(host.line, ACK, first)
+        for _ in range(5):
+            good = good and ask(host.line, NAK, first)
+        good = good and ask(host.line, NAK, EOT)
+        status, said = host.end()
+        self.check(good and status == 1 and b"six times" in said, f"{name}: a host that takes nothing", repr(said))
+        host = self.host(program)
+        good = told(host.line, 1) == ENQ and host.line.sendall(NAK) is None
+        host.line.close()
+        self.check(good and host.end()[0] == 1, f"{name}: a busy host that closes the line")
+        path = f"{self.work}/wrong.records"
+        with open(path, "wb") as file:
+            file.write(b"H|\\^&\rP|1\n\r")
+        host = self.host(program, path)
+        status, said = host.end()
+        self.check(status == 1 and b"no text may hold" in said, f"{name}: a record that can't be sent", repr(said))
+
+    def of_busy(self, name, host, good):
+        """NAK to ENQ three times: it asks after 10 seconds each time, and then gives up."""
+        for _ in range(2):
+            good = good and told(host.line, 1, 12) == ENQ
+            host.line.sendall(NAK)
+        status, said = host.end(BUSY - (time.monotonic() - host.begun))
+        took = time.monotonic() - host.begun
+        self.check(good and status == 1 and LEAST < took < BUSY, f"{name}: a host that stays busy, {took:.0f} s", repr(said))
