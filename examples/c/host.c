@@ -67,10 +67,11 @@ static bool await(struct work *work) {
         if (open && left <= 0)
             return false;
         int came = poll(&ready, 1, (int)(open && left < pause ? left : pause));
-        if (came == 0)
-            work->empty = now;
-        else if (came > 0 || errno != EINTR)
+        if (came < 0 && errno == EINTR)
+            came = poll(&ready, 1, 0);
+        if (came != 0)
             return true;
+        work->empty = now;
     }
 }
 

@@ -58,7 +58,7 @@ class InC:
 
 
 class InPython(InC):
-    """quick_receive.py, over TCP."""
+    """quick_receive.py, or another sample that receives on a TCP port."""
 
     def __init__(self, words, **how):
         self.process = subprocess.Popen(words, stdout=subprocess.PIPE, stderr=subprocess.DEVNULL, **how)
@@ -99,7 +99,7 @@ def whole(start, path, said):
 def of_receivers(test, work, how):
     path = f"{work}/kept"
     starts = {"quick_receive.c": lambda to: InC([f"{work}/quick_receive", to]),
-              "quick_receive.cpp": lambda to: InC([f"{work}/quick_receive_cpp", to]),
+              "quick_receive.cpp": lambda to: InPython([f"{work}/quick_receive_cpp", "0", to]),
               "quick_receive.py": lambda to: InPython([sys.executable, RECEIVE, "0", to], **how),
               "async_receive.py": lambda to: InPython([sys.executable, LATER, "0", to], **how)}
     for name, start in starts.items():
@@ -195,7 +195,7 @@ class Samples(kit.Test):
         if not library or not all(built):
             return
         how, late = python_over(library), paused(InC([f"{work}/quick_receive", f"{work}/late"]))
-        late_in_cpp = paused(InC([f"{work}/quick_receive_cpp", f"{work}/late_in_cpp"]))
+        late_in_cpp = paused(InPython([f"{work}/quick_receive_cpp", "0", f"{work}/late_in_cpp"]))
         late_too = paused(InPython([sys.executable, LATER, "0", f"{work}/late_too"], **how))
         of_receivers(self, work, how)
         of_host(self, work)

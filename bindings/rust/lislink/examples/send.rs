@@ -4,6 +4,7 @@
 use lislink::{Outcome, Phase, Sender};
 use std::io::{self, ErrorKind, Read, Write};
 use std::net::TcpStream;
+use std::process::ExitCode;
 use std::time::{Duration, Instant};
 
 /// How often ENQ is sent to a computer that is busy.
@@ -49,19 +50,29 @@ fn run(line: &mut TcpStream, sender: &mut Sender) -> io::Result<()> {
     }
 }
 
-fn main() -> io::Result<()> {
-    let words: Vec<String> = std::env::args().collect();
-    let [_, place, path] = words.as_slice() else {
-        return Err(io::Error::other("usage: send HOST:PORT FILE"));
-    };
+/// Sends a file; whether all of it was acknowledged.
+fn send(place: &str, path: &str) -> io::Result<bool> {
     let mut sender = Sender::new();
     for record in std::fs::read(path)?.split_inclusive(|byte| *byte == b'\r') {
         sender.add(record).map_err(io::Error::other)?;
     }
-    let ended = run(&mut TcpStream::connect(place)?, &mut sender);
+    run(&mut TcpStream::connect(place)?, &mut sender)?;
     println!("{}, frames: {}", sender.outcome(), sender.acknowledged());
-    match sender.outcome() {
-        Outcome::Done => Ok(()),
-        _ => Err(ended.err().unwrap_or_else(|| io::Error::other("not all was acknowledged"))),
+    Ok(sender.outcome() == Outcome::Done)
+}
+
+fn main() -> ExitCode {
+    let words: Vec<String> = std::env::args().collect();
+    let [_, place, path] = words.as_slice() else {
+        eprintln!("usage: send HOST:PORT FILE");
+        return ExitCode::from(2);
+    };
+    match send(place, path) {
+        Ok(true) => ExitCode::SUCCESS,
+        Ok(false) => ExitCode::FAILURE,
+        Err(fault) => {
+            eprintln!("send: {fault}");
+            ExitCode::FAILURE
+        }
     }
 }
