@@ -113,7 +113,7 @@ class Records(FieldTest):
         """A value with an escaped delimiter reads otherwise than one with two components or repeats."""
         values = (b"a&S&b", b"a^b", b"a&R&b", b"a\\b", b"&H&a&N&", b"&E&H&E&a&E&N&E&", b"a & b", b"&X5E&")
         data = GOOD.replace(b"R|1|^^^GLU|5.4", b"\r".join(b"R|1|^^^GLU|" + value for value in values))
-        for options in (["csv"], ["tsv"], ["jsonl"], ["jsonl", "--nested"]):
+        for options in (["csv"], ["tsv"], ["json"], ["json", "--nested"]):
             lines = lislab("table", "--no-header", "--fields", "value", "--format", *options, data=data).lines
             self.same(f"{options}: values are told apart", len(set(lines)), len(values))
         flat = ["a&S&b", "a^b", "a&R&b", "a\\b", "&H&a&N&", "&E&H&E&a&E&N&E&", "a & b", "&S&"]
@@ -121,9 +121,11 @@ class Records(FieldTest):
         self.same("CSV", cells, flat)
         nested = ["a^b", ["a", "b"], "a\\b", [["a"], ["b"]], *flat[4:7], "^"]
         for options, wanted in (([], flat), (["--nested"], nested)):
-            ran = lislab("table", "--format", "jsonl", "--fields", "value", *options, data=data)
+            ran = lislab("table", "--format", "json", "--fields", "value", *options, data=data)
             self.same(f"JSON lines {options}", [json.loads(line)["value"] for line in ran.lines], wanted)
         self.same("--nested is for JSON", lislab("table", "--nested", data=data).status, 2)
+        lines = [lislab("table", "--format", name, data=data).lines for name in ("json", "jsonl")]
+        self.check(lines[0] == lines[1] and lines[0][0].startswith("{"), "jsonl is another name of json", repr(lines[1]))
         code = GOOD.replace(b"R|1|^^^GLU", b"R|1|^^^a&S&b")
         both = [table(one, "--no-header", "--fields", "test,R.3.4")[1][0] for one in (code, GOOD)]
         self.same("a component", both, [["a&S&b", "a&S&b"], ["GLU", "GLU"]])
@@ -241,7 +243,7 @@ class Records(FieldTest):
         self.same("table: escapes are undone", table(escaped)[1][1][3], 'a|b\r\n"&')
         tab = lislab("table", "--format", "tsv", data=escaped.replace(b"&F&", b"&X09&")).lines
         self.same("table: TSV", (len(tab), tab[1].split("\t")[3]), (2, 'a\\tb\\r\\n"&'))
-        told = [json.loads(line) for line in lislab("table", "--format", "jsonl", data=escaped + GOOD).lines]
+        told = [json.loads(line) for line in lislab("table", "--format", "json", data=escaped + GOOD).lines]
         self.same("table: JSON lines", [one["value"] for one in told], ['a|b\r\n"&', "5.4"])
 
     def test_table_of_bad_messages(self):

@@ -222,8 +222,8 @@ def run_table(ask: argparse.Namespace) -> int:
     """Writes results as a table."""
     usual = table.OF_ORDERS if ask.orders else table.USUAL
     names = [name.strip() for name in ask.fields.split(",")] if ask.fields else list(usual)
-    if ask.nested and ask.format != "jsonl":
-        raise table.TableError("--nested is for --format jsonl")
+    if ask.nested and ask.format != "json":
+        raise table.TableError("--nested is for --format json")
     columns = table.columns_of(names, ask.sample_from, ask.nested, ask.orders)
     line = table.line_writer(ask.format, columns)
     out: List[str] = [] if ask.no_header else [line(None)]
@@ -298,7 +298,7 @@ def _add_table(one: argparse.ArgumentParser) -> None:
         "records", nargs="*", help="files of records, captures or logs; standard input if none is named"
     )
     one.add_argument("-o", "--output", metavar="FILE")
-    one.add_argument("--format", choices=("csv", "tsv", "jsonl"), default="csv")
+    one.add_argument("--format", type=table.form_of, choices=table.FORMS, default="csv", help="(%(default)s)")
     one.add_argument(
         "--fields",
         metavar="NAMES",

@@ -4,6 +4,7 @@ import os
 from typing import Any, Callable, List
 
 from .._library import calls
+from ..field.table import form_of
 from ..host import deliver, export
 from ..host.commands import _COUNT, _FACTOR, _store
 from ..host.files import is_locked
@@ -35,7 +36,10 @@ def _add_deliver(one: argparse.ArgumentParser) -> None:
     )
     one.add_argument("--directory", metavar="DIR", help="the same as --to DIR")
     one.add_argument(
-        "--format", choices=export.FORMATS, help="(oru over MLLP, fhir over HTTPS, else records)"
+        "--format",
+        type=form_of,
+        choices=export.FORMATS,
+        help="(oru over MLLP, fhir over HTTPS, else records)",
     )
     one.add_argument("--codes", metavar="FILE", help="the laboratory's codes and units, as lislab codes checks them")
     one.add_argument("--ca", metavar="FILE", help="the authorities of a certificate, in PEM; else the system's")

@@ -85,7 +85,7 @@ class Ladder:
     def __init__(self, capture: Capture, encoding: str = "latin-1", frame_limit: int = FRAME_TEXT) -> None:
         self.rows: List[Row] = []
         self.texts: List[Text] = []
-        self.differences: List[Tuple[int, bytes, bytes]] = []  # the line (0 for the end), wanted, got
+        self.differences: List[Tuple[int, bytes, bytes]] = []  # the line (0 for the end), sent, due
         self.notes: Dict[Note, int] = {}
         self.dropped: List[Tuple[int, int]] = []  # texts that were never ended: the line, how many bytes
         self.analyzer = b"".join(line.data for _, line in capture.lines if line.mark == ">")

@@ -10,6 +10,8 @@ from ..shown import as_parts, as_text, component_text
 from .faults import cause_of_record, code_of
 from .looks import record_at
 
+#: The forms of a table.
+FORMS = ("csv", "tsv", "json")
 #: The columns that a table has if none are named.
 USUAL = ("sample", "patient", "test", "value", "unit", "range", "flag", "status", "date", "instrument")
 #: Those of a table of orders.
@@ -160,4 +162,9 @@ def line_writer(form: str, columns: List[Column]) -> Callable[[Optional[List[Any
     def as_json(row: Optional[List[Any]]) -> str:
         return "" if row is None else json.dumps(dict(zip(names, row)), ensure_ascii=False) + "\n"
 
-    return {"csv": as_csv, "tsv": as_tsv, "jsonl": as_json}[form]
+    return dict(zip(FORMS, (as_csv, as_tsv, as_json)))[form]
+
+
+def form_of(name: str) -> str:
+    """The name of a form; `jsonl` is another one of `json`, which is JSON lines."""
+    return "json" if name == "jsonl" else name

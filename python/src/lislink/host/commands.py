@@ -12,6 +12,7 @@ import sys
 from typing import Any, Callable, ContextManager, Iterator, List, Optional, Sequence, Union
 
 from .._library import calls
+from ..field.table import form_of
 from ..orders.book import open_book
 from ..watch.unix import socket_of
 from . import asker, export, lines, options, send, serve, status
@@ -336,7 +337,7 @@ def run_status(ask: argparse.Namespace) -> int:
 
 def _add_export(one: argparse.ArgumentParser) -> None:
     _store(one)
-    one.add_argument("--format", choices=export.FORMATS, default="json", help="(%(default)s)")
+    one.add_argument("--format", type=form_of, choices=export.FORMATS, default="json", help="(%(default)s)")
     one.add_argument("--since", metavar="TIME", help="kept at this time or later: 2026-11-27 or 2026-11-27T10:30")
     one.add_argument(
         "--after", type=_PLACE, default=0, metavar="NUMBER", help="whole messages with a greater number"
