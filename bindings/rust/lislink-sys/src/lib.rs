@@ -1,4 +1,4 @@
-//! The C calls of `lislink.h`, which says what each takes, answers and asks of its caller. Made from it by
+//! The C calls of `lislink.h`, which says what each takes, returns and asks of its caller. Made from it by
 //! `bindings/rust/generate`.
 #![no_std]
 #![allow(non_camel_case_types)]
