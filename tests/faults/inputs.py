@@ -61,7 +61,7 @@ def link_inputs(rng, count):
 
 
 def link_edges():
-    """Repeats, stretches without an end, and lengths round the limits of a frame."""
+    """Repeats, frame bodies without an end, and lengths round the limits of a frame."""
     for byte in (STX, LF, ENQ, EOT, CR, ETX, 0x26, 0):
         yield f"10,000 bytes {byte:02x}", bytes([byte]) * 10000
         yield f"STX, 10,000 bytes {byte:02x}, LF, a frame", b"\x02" + bytes([byte]) * 10000 + b"\n" + frame(1, b"A")
@@ -103,7 +103,7 @@ def sender_cases():
 
 
 def receiver_cases():
-    """Each byte for a receiver that is neutral, open, inside a frame, behind one, busy or contending."""
+    """Each byte for a receiver that is neutral, open, inside a frame, after one, busy or contending."""
     opened = ["receiver.new", "receiver.bytes 05"]
     held = opened + ["receiver.bytes 0231411738390d0a"]
     for calls in (["receiver.new"], opened, opened + ["receiver.bytes 023141"], held, held + ["receiver.bytes 0232"],
@@ -230,7 +230,7 @@ def four(rng):
 
 
 def headers(rng, count):
-    """Texts for a header: odd delimiters, and what may stand behind them."""
+    """Texts for a header: odd delimiters, and what may follow them."""
     for _ in range(count):
         delimiters = four(rng)
         letter = rng.choice((b"H", b"H", b"H", b"h", b"P", b"", b"\x00"))
@@ -297,7 +297,7 @@ def streams(rng, count):
 
 
 def fed_edges():
-    """A record of the longest length in pieces, and one that is told too long at its last letter."""
+    """A record of the longest length in pieces, and one that is reported too long at its last letter."""
     for letters in (65534, 65535):
         yield ["message.new", "message.feed 487c5c5e260d", f"message.feed 507c{'41' * 65533}",
                f"message.feed {'41' * (letters - 65533)}", "message.feed 0d", "message.feed 4c0d", "message.finish"]

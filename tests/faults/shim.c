@@ -1,5 +1,5 @@
-/* Stands between a tested program and the C library, by LD_PRELOAD: it counts growths of memory, reads of standard input
-   and writes of standard output, and refuses or shortens those that the test picks. shim.py builds and drives it.
+/* Is between a tested program and the C library, by LD_PRELOAD: it counts growths of memory, reads of standard input and
+   writes of standard output, and lets those fail, or shortens them, that the test picks. shim.py builds and drives it.
 
    What it is to do and what it counted is a table of numbers in the file that SHIM names, shared with the test. */
 #define _GNU_SOURCE
@@ -14,7 +14,7 @@
 /* The table's numbers, in the order of shim.py. */
 struct table {
     long armed;       /* whether growths count */
-    long refuse;      /* the growth that is refused, from 1; 0 for none, -1 for each */
+    long refuse;      /* the growth that fails, from 1; 0 for none, -1 for each */
     long least;       /* growths of fewer bytes do not count */
     long growths;
     long refused;
@@ -27,8 +27,8 @@ struct table {
     long fail_write;  /* the write that fails; 0 for none */
     long writes;
     long written_bytes;
-    long fail_error;  /* the error of what fails; 0 for a write that takes nothing, or a read that tells the end */
-    long lines;       /* whether standard input is a list of lines, each with the growth to refuse in its call */
+    long fail_error;  /* the error of what fails; 0 for a write that takes nothing, or a read at the end */
+    long lines;       /* whether standard input is a list of lines, each with the growth that fails in its call */
     long fail_told;   /* whether writes to standard error fail */
     long later_calls; /* reads and writes of standard input and output that follow on one that failed */
 };
@@ -53,7 +53,7 @@ __attribute__((constructor)) static void begin(void) {
     if (told) report = open(told, O_WRONLY | O_APPEND | O_CLOEXEC);
 }
 
-/* Whether this growth is refused. */
+/* Whether this growth fails. */
 static int refused(size_t bytes) {
     if (!table->armed || (long)bytes < table->least) return 0;
     table->growths++;
@@ -86,7 +86,7 @@ static ssize_t plain_write(int file, const void *place, size_t most) {
     return call(file, place, most);
 }
 
-/* Lines: 'REFUSE LEAST CALL'. The program gets CALL in pieces: all but its last two bytes, these two one by one, its LF. A
+/* Lines: `REFUSE LEAST CALL`. The program gets CALL in pieces: all but its last two bytes, these two one by one, its LF. A
    program that keeps the line in a buffer, which doubles where it is full, takes no memory for the LF, unless the line has
    just 8 bytes or a multiple of 8,192. So what is counted from there to the next read is what the call takes. */
 enum { ROOM = 1 << 23 };

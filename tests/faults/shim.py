@@ -1,4 +1,4 @@
-"""Builds shim.c with the C compiler and runs programs under it: with growths of memory refused, and with reads and
+"""Builds shim.c with the C compiler and runs programs under it: with growths of memory that fail, and with reads and
 writes that fail or move few bytes."""
 import mmap
 import os
@@ -9,7 +9,7 @@ import tempfile
 from collections import namedtuple
 
 HERE = os.path.dirname(os.path.abspath(__file__))
-# The numbers of the table that the shim shares with the test; shim.c tells each.
+# The numbers of the table that the shim shares with the test; shim.c says what each is.
 NAMES = ("armed refuse least growths refused read_most fail_read reads read_bytes write_most short_write fail_write "
          "writes written_bytes fail_error lines fail_told later_calls").split()
 # No run of a test takes longer: it has at most a few megabytes to read, and is through in well under a second.
@@ -59,8 +59,9 @@ class Shim:
         return Ran(ran.returncode, ran.stdout, ran.stderr, self.counted())
 
     def ask(self, program, asked):
-        """Asks a program lines, (growth to refuse, least bytes of a growth that counts, line) each, and gives what it
-        told of each. A growth that was refused outside of a call would end the program: then answers are missing."""
+        """Asks a program lines, each as (growth that fails, least bytes of a growth that counts, line), and gives
+        what the program answered to each. A growth that fails outside of a call would end the program: then answers
+        are missing."""
         with open(self.path("report"), "wb"):
             pass
         self.set({"lines": 1})

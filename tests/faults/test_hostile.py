@@ -78,7 +78,7 @@ def cut(rng, data):
 
 
 def cases():
-    """All calls; those that use what others leave stand together."""
+    """All calls; those that use what others leave are next to them."""
     rng = random.Random(SEED)
     for limit in (model.USUAL, model.LONG):
         yield [f"limit {limit}"]
@@ -108,7 +108,7 @@ def record_cases(rng):
 
 
 def batches():
-    """The calls of some cases at a time, behind the limit that holds for them."""
+    """The calls of some cases at a time, after the limit that holds for them."""
     some, limit = [], "limit 240"
     for case in cases():
         limit = case[0] if case[0].startswith("limit ") else limit

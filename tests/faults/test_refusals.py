@@ -1,10 +1,10 @@
-"""Each growth of memory refused in turn.
+"""Each growth of memory fails in turn.
 
-`vectors` answers calls of conformance rows. A call of a case is asked with its first growth refused, with its second,
-and so on until a run meets none; trials.py says what it may answer and leave. `lislink` is run by its commands, each
-growth refused in turn too. Of the tests of crates/record_tests, those of lists to which memory is refused pass whatever
-growth is. Of these and of the tests of crates/link_tests, each growth of the tests of calls that take no memory is
-counted.
+`vectors` answers calls of conformance rows. A call of a case is asked with its first growth failing, with its
+second, and so on until a run has none left; trials.py says what it may answer and leave. `lislink` is run by its
+commands, with each growth failing in turn too. Of the tests of crates/record_tests, those of lists that get no
+memory pass whichever growth fails. Of these and of the tests of crates/link_tests, each growth of the tests of calls
+that take no memory is counted.
 """
 import itertools
 
@@ -14,7 +14,7 @@ from tests import kit
 from tests.faults.shim import Shim
 from tests.faults.trials import OUT, TRIALS, Plain, named
 
-# Of each kind so many of the shorter cases; the calls that are refused memory; how long a case may be.
+# Of each kind so many of the shorter cases; the calls that get no memory; how long a case may be.
 KINDS = {"texts": (30, ("text.split",), 3000), "sender": (12, ("sender.start",), 2500),
          "link": (20, ("link.play",), 4000), "late": (10, ("late.play",), 2000),
          "receiver": (40, ("receiver.bytes", "receiver.reserve"), 2500),
@@ -35,7 +35,7 @@ def picked(kind):
 
 
 class Tally:
-    """How many growths were refused, and how the calls answered."""
+    """How many growths failed, and how the calls answered."""
 
     def __init__(self):
         self.out = self.named = self.full = 0
@@ -53,7 +53,8 @@ class Tally:
 
 
 def try_call(shim, program, trial, growths, test, tally):
-    """Asks a call with each of its growths refused in turn, and once more with one after the last, which none meets."""
+    """Asks a call with each of its growths failing in turn, and once more with one after the last, which it doesn't
+    reach."""
     before = [(0, 0, call) for call, _ in trial.case[:trial.place]]
     behind = [(0, 0, call) for call in trial.follow()]
     asked = [line for growth in range(1, growths + 2) for line in before + [(growth, 0, trial.call)] + behind]
@@ -112,7 +113,7 @@ def long_text():
 
 
 def try_reserved(shim, program, test):
-    """With room reserved, a long text is taken while each larger growth is refused; without, it is refused at some
+    """With room reserved, a long text is taken while each larger growth fails; without, memory runs out at some
     frame, with NAK and the state as before, and the frame sent again is taken."""
     frames = long_text()
     hear = [f"receiver.bytes {data}" for data in frames[:-1]]
@@ -143,8 +144,8 @@ def try_reserved(shim, program, test):
 # What a reader of messages answers without memory.
 
 def try_unended(shim, program, test):
-    """How many bytes are held and the end of the stream are told without memory: of a record that isn't ended, in a
-    message that isn't closed, and of a message that is whole, no growth as large as either is asked for."""
+    """How many bytes are held, and the end of the stream, are reported without memory: of a record that isn't ended,
+    in a message that isn't closed, and of a message that is whole, no growth as large as either is asked for."""
     message = b"H|\\^&\rP|1\r" + b"C|1|%s\r" % (b"A" * 40) * 200
     calls = ["message.feed -", "message.finish"]
     for stream in (message + b"C|1|" + b"A" * 60000, message + b"L|1\r"):
@@ -161,7 +162,7 @@ def try_unended(shim, program, test):
 
 SESSION = b"> 05\n< 06\n> 0231411738390d0a\n< 06\n> 0232410337360d0a\n< 06\n> 0233420337380D0A\n< 15\n> 04\n"
 SECOND = b"capture 2\nS busy\n> 05\nS ready\n> 05\n< 1506\n" + b"> 0231" + b"4142" * 60 + b"033337430d0a\n"
-# A text of 20 frames, whose replies gather, and one more.
+# A text of 20 frames, whose replies add up, and one more.
 LONGER = b"> 05\n" + b"".join(b"> %s\n" % frame(k, b"A" * 200, model.ETX if k > 20 else model.ETB).encode()
                              for k in range(1, 23))
 LINK = bytes.fromhex("05 0231487c5c5e260d0345350d0a 02324c7c317c4e0d0330350d0a 04")
@@ -177,12 +178,12 @@ WITHOUT_REPLIES = "texts"
 ENQUIRY = b"> 05\n"
 # How many growths 8,000 results may take: their text has under 2 to the 18th bytes, and some more things grow.
 MOST_GROWTHS = 40
-# Commands whose text has no closing line: the text of a refused run may lack nothing.
+# Commands whose text has no closing line: the text of a run without memory may lack nothing.
 UNCLOSED = ("texts", "results")
 
 
 def try_run(shim, program, command, data, test):
-    """Runs a command with each growth refused in turn, until a run meets none; how many were refused."""
+    """Runs a command with each growth failing in turn, until a run has none left; how many failed."""
     wanted = model.run(command, data)
     error = f"{wanted.error}\n".encode() if wanted.error else b""
     whole, name = (wanted.output, wanted.status, error), command.split()[0]
@@ -205,7 +206,7 @@ def long_message(count):
 
 
 def try_commands(shim, program, test):
-    """Tries all commands; how many growths were refused."""
+    """Tries all commands; how many growths failed."""
     refused = 0
     for command, known in model.COMMANDS.items():
         name = command.split()[0]
@@ -222,12 +223,12 @@ def try_commands(shim, program, test):
 
 # Tests of lists
 
-# The module of crates/record_tests whose tests pass also where a growth is refused.
+# The module of crates/record_tests whose tests pass even if a growth fails.
 OF_LISTS = "memory::"
 
 
 def try_test(shim, tests, name, test):
-    """Runs a test with each growth refused in turn, until a run meets none; how many were refused."""
+    """Runs a test with each growth failing in turn, until a run has none left; how many failed."""
     for growth in itertools.count(1):
         ran = shim.run([tests, name], b"", armed=1, refuse=growth)
         is_passed = not ran.status and ran.output.endswith(b"test result: ok\n")
@@ -237,7 +238,7 @@ def try_test(shim, tests, name, test):
 
 
 def try_tests(shim, tests, test):
-    """Tries all tests of lists; how many growths were refused."""
+    """Tries all tests of lists; how many growths failed."""
     listed = shim.run([tests, "--list"], b"").output.decode().splitlines()
     names = [line.removesuffix(": test") for line in listed if line.startswith(OF_LISTS)]
     refused = 0

@@ -1,4 +1,4 @@
-"""What a call may answer that is refused memory, and what may follow: by the row, and for receivers and readers of
+"""What a call may answer that gets no memory, and what may follow: by the row, and for receivers and readers of
 messages by conformance/model.py. conformance/README.md says what such a call may leave."""
 import copy
 import re
@@ -15,7 +15,7 @@ def named(call):
 
 
 class Plain:
-    """A call that leaves nothing behind, or all of it only where it succeeds: again it is answered in full."""
+    """A call that leaves nothing, or all of it only if it succeeds: made again it is answered in full."""
 
     REFUSALS = {"record.header": r"fault OutOfMemory", "record.read": r"fault OutOfMemory",
                 "message.build": r"fault \d+\.OutOfMemory"}
@@ -27,27 +27,27 @@ class Plain:
         self.last = (0, 0)
 
     def follow(self):
-        """The calls behind the refused one."""
+        """The calls after the one that failed."""
         return [self.call] + [call for call, _ in self.behind]
 
     def comes_far(self):
-        """Whether what refused calls left came far enough, all growths having been refused in turn."""
+        """Whether what the failed calls left came far enough, now that each growth has failed in turn."""
         return True
 
     def is_named(self, answer):
-        """Whether an answer is the refusal that the call names; the texts of a message are refused by themselves."""
+        """Whether an answer is the failure that the call names; the texts of a message fail by themselves."""
         refusal = self.REFUSALS.get(named(self.call))
         return bool(refusal and re.fullmatch(refusal, answer)) or is_without_texts(answer, self.wanted)
 
     def holds(self, answers):
-        """Whether the answers of the refused call and of those behind it are ones that may be given."""
+        """Whether the answers of the failed call and of those after it are ones that may be given."""
         first, *rest = answers
         return (first in (OUT, self.wanted) or self.is_named(first)) and rest == [self.wanted] + [
             wanted for _, wanted in self.behind]
 
 
 def is_without_texts(answer, wanted):
-    """Whether an answer is the wanted one but for a message's texts, which were refused memory."""
+    """Whether an answer is the wanted one but for a message's texts, for which memory ran out."""
     parts = answer.split(" texts=refused:OutOfMemory written=")
     if len(parts) != 2 or not wanted.startswith(parts[0] + " texts="):
         return False
@@ -71,7 +71,7 @@ class Build(Plain):
 
 
 class Start(Plain):
-    """A start of a sender: the texts are refused before it, or the answer behind it."""
+    """A start of a sender: memory runs out for the texts before it, or for the answer after it."""
 
     def holds(self, answers):
         first, again, *rest = answers
@@ -82,8 +82,8 @@ class Start(Plain):
 
 
 class Hear(Plain):
-    """Bytes to a receiver: NAK and the state as before where its text can't grow. Two receivers hear them, one byte by
-    byte, the other at once; where the answer itself was refused memory each has heard a front of the bytes."""
+    """Bytes to a receiver: NAK and the state as before if its text can't grow. Two receivers hear them, one byte by
+    byte, the other at once; if memory ran out for the answer itself, each has heard a prefix of the bytes."""
 
     def __init__(self, case, place):
         super().__init__(case, place)
@@ -98,7 +98,7 @@ class Hear(Plain):
         return ["receiver.bytes -", self.call, "receiver.bytes -"]
 
     def heard(self, upto=None, refused=()):
-        """A receiver that has heard a front of the bytes, and what it answered."""
+        """A receiver that has heard a prefix of the bytes, and what it answered."""
         receiver = copy.copy(self.receiver)
         receiver.refusals, receiver.growths = refused, 0
         word = state_word(receiver, receiver.hear(self.data[:upto]))
@@ -120,7 +120,7 @@ class Hear(Plain):
             yield None, whole, refused
 
     def told(self, answer, one, other):
-        """The answers to the call and to those behind it."""
+        """The answers to the call and to those after it."""
         both = [copy.copy(one[0]), copy.copy(other[0])]
         return tuple([answer or at_once(one[1], other[1])] + [
             at_once(*(state_word(receiver, receiver.hear(data)) for receiver in both))
@@ -143,7 +143,7 @@ def at_once(one, other):
 
 
 class Reserve(Plain):
-    """Room for a receiver: refused, it leaves the state as it was."""
+    """Room for a receiver: without memory the state stays as it was."""
 
     def follow(self):
         return ["receiver.bytes -"] + super().follow()
@@ -155,8 +155,8 @@ class Reserve(Plain):
 
 
 class Feed(Plain):
-    """A piece for a reader of messages: it fails for good, and delivers what was completed before; or the answer itself
-    was refused memory, with the piece read or not."""
+    """A piece for a reader of messages: it fails for good, and delivers what was completed before; or memory ran out
+    for the answer itself, with the piece read or not."""
 
     def __init__(self, case, place):
         super().__init__(case, place)
@@ -167,7 +167,7 @@ class Feed(Plain):
         return ["message.feed -", self.call, "message.finish"]
 
     def reading(self, stream):
-        """What a reader that has read a stream answers to the calls behind."""
+        """What a reader that has read a stream answers to the calls after it."""
         answers = model.Answers()
         answers.stream = stream
         return [answers.answer(call) for call in self.follow()]
@@ -185,7 +185,7 @@ class Feed(Plain):
         return rest in (may + [self.failed(int(failed[1]))] if failed else may)
 
     def refusal(self, answer):
-        """How many messages a refused call handed out, and the place of its record."""
+        """How many messages a failed call delivered, and the place of its record."""
         found = re.search(r"(?:^| )fault=(\d+)\.OutOfMemory held=0$", answer)
         return (answer[:found.start()], int(found[1])) if found else None
 
@@ -197,8 +197,8 @@ class Feed(Plain):
         return [f"messages=0 {word} held=0"] * 2 + [word.replace("=", " ")]
 
     def fits(self, messages, place):
-        """Whether these messages are the first of the wanted ones, and the place is one of the next. With later growths
-        refused no fewer are handed out, and none is refused earlier."""
+        """Whether these messages are the first of the wanted ones, and the place is one of the next. The later the
+        growth that fails, the more messages are delivered, or as many."""
         wanted = split_messages(self.wanted.rsplit(" fault=", 1)[0])
         given = split_messages(messages)
         stream = model.read_stream(self.before + self.piece)
@@ -210,7 +210,7 @@ class Feed(Plain):
 
 
     def comes_far(self):
-        """Whether it kept all messages but the last when the last growths were refused: none that was whole is lost."""
+        """Whether it kept all messages but the last when the last growths failed: none that was whole is lost."""
         wanted = split_messages(self.wanted.rsplit(" fault=", 1)[0])
         return self.last[0] >= len(wanted) - 1
 

@@ -102,7 +102,7 @@ static int with_host(struct lane *lane, pthread_t *thread) {
     return pair[0];
 }
 
-/* Puts bytes to a queue, all of them to go on after a pause and behind those before them. */
+/* Puts bytes to a queue, all of them to go on after a pause and after those before them. */
 static void put(struct queue *queue, const uint8_t *bytes, size_t len, long long pause) {
     long long due = milliseconds() + pause;
     if (queue->len > 0 && queue->due[queue->len - 1] > due)

@@ -1,5 +1,5 @@
 /* Frames whose texts have over 240 bytes: written, scanned whole and byte by byte, received and sent, with each limit,
- * each refusal, and no memory for the long limit. Prints how many things were compared. */
+ * each call that is rejected, and no memory for the long limit. Prints how many things were compared. */
 #include "lislink.h"
 #include "../../examples/c/refusing_heap.h"
 #include <stdio.h>
@@ -35,7 +35,7 @@ static size_t written(uint8_t number, bool last, size_t len) {
     return size;
 }
 
-/* A long frame of up to 240 bytes is that of lis_frame_write, and what is refused leaves the buffer as it was. */
+/* A long frame of up to 240 bytes is that of lis_frame_write, and one that is rejected leaves the buffer as it was. */
 static void of_writing(void) {
     lis_bytes bytes;
     for (size_t len = 0; len <= LIS_LIMIT_FRAME_TEXT; len += 80) {

@@ -42,7 +42,7 @@ static inline int digit_of(uint8_t byte) {
     return value > 15 ? value - 6 : value;
 }
 
-/* The bytes of an escape without its two escape bytes; how many they are, or -1 if it is none. */
+/* The bytes of an escape without its two escape bytes; how many they are, or -1 if it is no escape. */
 static inline long wanted_escape(const lis_delimiters *by, const uint8_t *inside, size_t len, uint8_t *out) {
     if (len == 1) {
         switch (inside[0]) {

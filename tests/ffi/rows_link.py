@@ -62,7 +62,7 @@ def texts_of(word):
 
 
 def begun(sender, texts):
-    """What a sender emits when it is started with texts, or the refusal of the last one."""
+    """What a sender emits when it is started with texts, or why the last start failed."""
     for text in texts:
         sender.add_text(text)
     try:
@@ -85,7 +85,7 @@ class Session:
 
 
 class Link:
-    """A link between a sender and a receiver of the library. What is on its way, and what comes of an event, is told by
+    """A link between a sender and a receiver of the library. What is on its way, and what comes of an event, is in
     conformance/README.md; whether damage may happen, by the model, from the bytes that the receiver heard."""
 
     def __init__(self):
@@ -157,7 +157,7 @@ class Link:
             if step.note is Note.OPENED:
                 self.opener = number
             if step.note is Note.ACCEPTED:
-                # The frame is the unit's; its number is what the receiver tells.
+                # The frame is the unit's; its number is what the receiver reports.
                 word = emit_word(unit).removeprefix("frame:")
                 self.sessions[self.opener].accepted.append(f"{step.detail}{word[1:]}")
             if step.text is not None:
@@ -177,7 +177,7 @@ class Link:
             self.come(byte)
 
     def come(self, byte):
-        """A reply comes to the sender. A frame stands once in what was sent: another is due where it's acknowledged."""
+        """The sender gets a reply. A frame is in what was sent once: the next one is due when it is acknowledged."""
         emitted = self.sender.reply(byte)
         if emitted not in EMITTED:
             frame, sent = emit_word(emitted).removeprefix("frame:"), self.sessions[-1].sent

@@ -12,7 +12,7 @@ REASONS = {"BadRecord": Reason.BAD_RECORD, "NotHeader": Reason.NOT_HEADER, "NoPa
            "SecondHeader": Reason.SECOND_HEADER, "Unfinished": Reason.UNFINISHED, "RecordTooLong": Reason.TOO_LONG}
 PUT_FAULTS = {"NotHeader": Status.PUT_NOT_HEADER, "NoParent": Status.PUT_NO_PARENT,
               "SecondHeader": Status.PUT_SECOND_HEADER, "CharNotText": Status.FORBIDDEN, "TooLong": Status.TOO_LONG}
-# What has to stand before a record of a letter.
+# What has to be before a record of a letter.
 PARENTS = {"H": "", "O": "HP", "R": "HPO"}
 MESSAGE = re.compile(r" message delimiters=\S+ records=(\d+) tree=(\S+) ")
 RECORD_OF_TREE = re.compile(r"[A-Z][^][*A-Z]*")
@@ -22,7 +22,7 @@ NOT_SAID = re.compile("[~+!]")
 # Records
 
 def text_fault(why):
-    """The status and the place by which the library tells why a text is no record."""
+    """The status and the place by which the library says why a text is no record."""
     name, _, rest = why.partition(".")
     return TEXT_FAULTS[name], int(rest) if name == "Byte" else 0
 
@@ -33,7 +33,7 @@ def plain(component):
 
 
 def content(record):
-    """The letter and the fields of a row's record, as a reader tells them."""
+    """The letter and the fields of a row's record, as a reader gives them."""
     letter, *fields = record.split("/")
     return letter, [[[plain(part) for part in repeat.split(",")] for repeat in field.split(";")] for field in fields]
 
@@ -54,7 +54,7 @@ def holds(record, wanted, first):
 
 
 def is_refused(wanted, *words):
-    """Whether a text is refused as a row has it."""
+    """Whether a text is rejected as a row has it."""
     try:
         Record(*words)
     except LinkError as error:
@@ -93,7 +93,7 @@ class Stream:
 
 
 def is_fault(error, wanted):
-    """Whether a reader's fault is the refusal of a row; None is 'none'."""
+    """Whether a reader's fault is that of a row; None is 'none'."""
     if error is None or wanted == "none":
         return error is None and wanted == "none"
     place, reason, *rest = wanted.split(".", 2)
@@ -118,7 +118,7 @@ def are_told(told, error, wanted):
 # Writing
 
 def said(record):
-    """The fields of a row's record as a writer is told them, each as its repeats; None where it can't be told: a
+    """The fields of a row's record as a writer gets them, each as its repeats; None if it can't get them: a
     component is characters, without hexadecimal escapes and highlighting."""
     return None if NOT_SAID.search(record) else content(record)[1]
 
@@ -133,17 +133,17 @@ def put(writer, letter, fields):
 
 
 def put_fault(how):
-    """The same for a row's refusal."""
+    """The same for a row's fault."""
     name, _, rest = how.partition(".")
     return PUT_FAULTS[name], int(rest) if name == "CharNotText" else None
 
 
 def write(delimiters, records):
-    """Writes records up to the first that is refused: the texts, and its place with the refusal, or None."""
+    """Writes records up to the first that is rejected: the texts, and its place with the fault, or None."""
     with Writer() as writer:
         writer.start(bytes_of(delimiters))
         for place, record in enumerate(records, 1):
-            # One that can't be told stands there by its letter.
+            # A record that a writer can't get is there by its letter alone.
             fault = put(writer, record[0], said(record) or [])
             if fault:
                 return writer.texts(), (place, fault)
@@ -151,7 +151,7 @@ def write(delimiters, records):
 
 
 def wanted_fault(wanted, records):
-    """The refusal of a row as 'write' has it, or None. Unknown where the writer has none such."""
+    """The fault of a row as `write` has it, or None. Unknown if the writer has no such fault."""
     found = re.match(r"fault (\d+)\.(.*)", wanted) or re.search(r" texts=refused:(\d+)\.(\S+)", wanted)
     if not found:
         return None
@@ -189,7 +189,7 @@ class Records:
         return header.delimiters == bytes_of(delimiters) and holds(header, record, 3)
 
     def record_read(self, wanted, delimiters, text):
-        # The delimiters of a call stand in a header of no field.
+        # The delimiters of a call are put into a header without a field.
         header = Record(b"H" + bytes_of(delimiters))
         if wanted.startswith("fault "):
             return is_refused(wanted, bytes_of(text), header)

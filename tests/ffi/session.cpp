@@ -1,5 +1,5 @@
-// The scripted session over lislink.hpp: a message is written, sent, heard, kept and read back, with each refusal on
-// the way. Prints what tests/ffi/session.txt has.
+// The scripted session over lislink.hpp: a message is written, sent, heard, kept and read back, with each call that
+// is rejected on the way. Prints what tests/ffi/session.txt has.
 #include <lislink.hpp>
 
 #include <cstdio>

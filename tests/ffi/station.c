@@ -1,5 +1,5 @@
-/* Stations: each call at values of LIS01-A2 (6.2 to 6.5), one against another with both limits, each refusal, no bytes
- * at a null pointer, and no memory. Prints how many things were compared. */
+/* Stations: each call at values of LIS01-A2 (6.2 to 6.5), one against another with both limits, each call that is
+ * rejected, no bytes at a null pointer, and no memory. Prints how many things were compared. */
 #include "lislink.h"
 #include "../../examples/c/refusing_heap.h"
 #include <stdio.h>

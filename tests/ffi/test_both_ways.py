@@ -141,6 +141,6 @@ class BothWays(kit.Test):
         self.carried(2, 40.0, True)
 
     def test_late_on_old_connections(self):
-        """Without new connections the same line acknowledges texts that nobody took: this test can tell."""
+        """Without new connections the same line acknowledges texts that nobody took: this test notices it."""
         line = self.played(2, 40.0, False, 1000)
         self.check(line.lost, f"no session is done and not delivered: {line.outcomes}")

@@ -1,4 +1,4 @@
-"""Calls of the Python package, at values known from outside: each refusal, and each call on its happy path."""
+"""Calls of the Python package, at values known from outside: each error, and each call on its happy path."""
 from tests import kit
 
 kit.library()
@@ -11,7 +11,7 @@ LONG = b"\x021" + b"a" * 63993 + b"\x03%02X\r\n" % ((ord("1") + 63993 * ord("a")
 
 
 def error_of(call):
-    """What a call is refused for."""
+    """Why a call fails."""
     try:
         call()
     except MessageError as error:
@@ -20,7 +20,7 @@ def error_of(call):
 
 
 def read_error(pieces):
-    """What a stream is refused for."""
+    """Why a stream can't be read."""
     return error_of(lambda: list(messages(pieces)))
 
 

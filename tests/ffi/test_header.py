@@ -113,7 +113,7 @@ class Header(kit.Test):
         self.runs(["g++", "-std=c++11", "-x", "c++", *file])
 
     def test_quotations(self):
-        """Each block of C or Python on a page stands in a sample, whole and in its order, at one depth."""
+        """Each block of C or Python on a page is in a sample, whole and in its order, at one depth."""
         files = [*glob.glob(f"{IN_C}/*"), *glob.glob(f"{IN_PYTHON}/*.py")]
         codes = [textwrap.dedent(open(file).read()) for file in files]
         for page in PAGES:

@@ -74,7 +74,7 @@ class Names(kit.Test):
             self.of_words(known, ran.stdout)
 
     def of_words(self, constants_of, printed):
-        """Each constant has words of its own in its family; a number that is none has 'unknown'."""
+        """Each constant has words of its own in its family; any other number has 'unknown'."""
         version = kit.read("VERSION").strip()
         said, *lines = printed.splitlines()
         self.same("lis_version()", said, version)

@@ -3,28 +3,28 @@
 All kinds but the commands are asked, at the library's limit on a frame's text. What is compared is a row's answer,
 which was made elsewhere, and never one answer of the library with another. These are compared as a whole:
 
-- The calls of a scanner, a sender and a receiver. A stretch that is read as a frame stands in a stream, where no byte
-  in it ends it there.
+- The calls of a scanner, a sender and a receiver. A frame body that is read is put into a stream, if no byte in it
+  ends it there.
 - A text is checked by a session that is started with it. It is split by a session in which each frame is acknowledged;
   empty texts before it, each one frame, give its first frame the number.
 - A link is played between a sender and a receiver of the library; what is on its way is kept by the test. The frames of
   'sent' are read from the bytes that the sender emits; one of 'accepted' is the unit that came, with the number that
-  the receiver tells.
+  the receiver reports.
 
 Of these answers a part is compared:
 
-- Of delimiters that are refused, of themselves or with their header, that they are; of an unknown kind not the byte. Of
+- Of delimiters that are rejected, by themselves or with their header, that they are; of an unknown kind not the byte. Of
   a component its bytes: not the marks of highlighting, nor whether a byte is a character or an escape.
 - Of messages that are read how many there are, of each the number of its records, and in the order of its tree their
   letters and fields; the place and the reason of a fault. Not the delimiters, findings, texts and held bytes.
-- Of a record that is written 'check' and 'whole', behind the parents that it needs: not 'part' and 'then', which are of
-  sinks. Of a message that is built that no record is refused, how many there are, and the text of each one that can be
-  told; or which is refused and why.
+- Of a record that is written 'check' and 'whole', after the parents that it needs: not 'part' and 'then', which are of
+  sinks. Of a message that is built that no record is rejected, how many there are, and the text of each one that a
+  writer can get; or which is rejected and why.
 
-A writer is told fields of one repeat, of components without hexadecimal escapes and highlighting. Another record is
-left out; within a message it stands by its letter alone, and its text is not compared. Left out are also fields that
-are written by themselves, what goes to sinks, a message that isn't closed, a header behind a closing record, where the
-writer begins the next message, and all behind another limit. A line for each kind has the numbers; a kind of which
+A writer gets fields whose components are without hexadecimal escapes and highlighting. Another record is left out;
+within a message it is there by its letter alone, and its text is not compared. Left out are also fields that are
+written by themselves, what goes to sinks, a message that isn't closed, a header after a closing record, where the
+writer begins the next message, and all after another limit. A line for each kind has the numbers; a kind of which
 nothing is asked is a failure. Each case of which a call was asked is a check.
 """
 import os
@@ -50,7 +50,7 @@ def is_right(answers, call, wanted):
             except Unknown:
                 return None
             except LinkError:
-                # The library refuses what no call here is to have refused.
+                # The library rejects what no call here is to have rejected.
                 return False
     return None
 

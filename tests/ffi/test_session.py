@@ -40,8 +40,8 @@ def receives(test, name, program, path, build, goes_on=True):
 
 
 def keeps_no_half(program, path):
-    """Whether a text of which the disk takes a part alone gets no reply, and leaves nothing behind: in this session,
-    and when it is sent again."""
+    """Whether a text of which the disk takes a part alone gets no reply, and leaves nothing in the file: in this
+    session, and when it is sent again."""
     room = len(samples.TEXTS[0]) + 3
     limit = functools.partial(resource.setrlimit, resource.RLIMIT_FSIZE, (room, room))
     sample = samples.InPython([program, "0", path], preexec_fn=limit)

@@ -69,7 +69,7 @@ def pcapng(packets, link="ethernet", order="<", ticks=6):
 
 
 def segments(session, first=(1000, 9000), version=4):
-    """The packets of (mark, time, bytes), with the handshake before and the end behind them."""
+    """The packets of (mark, time, bytes), with the handshake before and the end after them."""
     sequence = {">": first[0], "<": first[1]}
     ends = {">": (ANALYZER, COMPUTER), "<": (COMPUTER, ANALYZER)}
     told = [

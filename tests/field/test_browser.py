@@ -19,7 +19,7 @@ from tests.field.lab import FieldTest, lislab
 
 PICTURES = os.environ.get("PICTURES")
 
-#: Looks at each page in a frame: what its own script told, its counts, and what its filter and its folding do.
+#: Looks at each page in a frame: what its own script reported, its counts, and what its filter and its folding do.
 LOOKER = """
 <!doctype html><meta charset="utf-8"><body>FRAMES<pre id="told"></pre><script>
 function look(frame) {

@@ -1,4 +1,4 @@
-"""What `normalize` makes of files of records: a result that is changed or gone is told, over all samples and over
+"""What `normalize` makes of files of records: a result that is changed or gone is printed, over all samples and over
 generated files, whose results the test knows."""
 import glob
 import os
@@ -116,7 +116,8 @@ def results(found):
 
 class Changes(FieldTest):
     def test_words(self):
-        """Records that end in a word for CR, with a line end or without: mended, or told, and never read as values."""
+        """Records that end in a word for CR, with a line end or without: mended, or reported, and never read as
+        values."""
         for word in WORDS:
             for end in ENDS:
                 data = b"".join(record + word + end for record in RECORDS)
@@ -138,8 +139,8 @@ class Changes(FieldTest):
             self.same(f"a value that looks like one: {value!r}", (ran.status, ran.output), (0, data))
 
     def test_one_line(self):
-        """Records on one line, each with ^M for its CR: mended where no value can be meant that begins with M and a
-        record's letter, else told."""
+        """Records on one line, each with ^M for its CR: mended if no value can begin with M and a record's letter,
+        else reported."""
         plain = [record for record in RECORDS if b"MC" not in record]
         lines = {
             "one message": plain,
@@ -174,7 +175,7 @@ class Changes(FieldTest):
             self.check("mended by" not in explained.text, f"{name}: explained", explained.text)
 
     def test_told(self):
-        """What a change does to a result is told, and the status is 1."""
+        """What a change does to a result is printed, and the status is 1."""
         for name, data, option, words in (
             ("a result after L", GOOD + b"R|1|^^^NA|139\r", "--behind-l", "line 7: a result is gone: 'R|1|^^^NA|139'"),
             ("NUL in a value", GOOD.replace(b"5.4", b"5\x004"), "--nul",
@@ -233,7 +234,7 @@ class Changes(FieldTest):
         self.check(mended > 15, "samples are mended", str(mended))
 
     def test_generated(self):
-        """Where nothing is told of a file, its results are those that it was made of; most files are mended."""
+        """If nothing is printed of a file, its results are those that it was made of; most files are mended."""
         chance, wrong, good, told = random.Random(31), [], 0, 0
         names = list(normalize.CHANGES)
         for number in range(FILES):

@@ -207,14 +207,14 @@ def errors():
     )
 
 
-#: Samples that are told to be of a form, which another one is taken for otherwise.
+#: Samples whose form is named, since another one would be taken for it otherwise.
 IRP, CSV = "eltima-table.txt --form irp-table", "csv-dir.txt --form csv-table"
 FIELDS = "tshark-fields-names.txt --form tshark-fields"
 
 
 def skipped():
-    """Rows with bytes that a reader of a form could skip: what is wrong, the sample, what is put in the place of what
-    (or behind all), and words of the error."""
+    """Rows with bytes that a reader of a form could skip: what is wrong, the sample, what is put in the place of
+    what (or after all), and words of the error."""
     return (
         ("a byte without its value", "slsnif.txt", b"|(124)1(049)", b"|1(049)", "a byte without its value"),
         ("a row of no side", "slsnif.txt", b"Host   --> ^U(021)", b"Hosts: ^U(15)", "no line of slsnif"),
@@ -438,7 +438,7 @@ class Logs(FieldTest):
             self.same(name, lislab("capture", self.path("log", text.encode())).text, wanted)
 
     def test_left_out(self):
-        """A line that is left out is told; one that holds bytes of the line and can't be read is an error."""
+        """A line that is left out is reported; one that has bytes of the line and can't be read is an error."""
         hexed = "".join(f"{'RX' if mark == '>' else 'TX'}: {data.hex(' ')}\n" for mark, _, data in timed_session())
         ran = lislab("capture", self.path("log", b"port opened\n" + hexed.encode() + b"RX: closed\n"))
         self.same("a line without bytes", (ran.status, ran.text), (0, bytes_of(SESSION).decode()))
@@ -458,7 +458,7 @@ class Logs(FieldTest):
         self.same("JSON with a list of numbers", (ran.status, ran.text), (3, ""))
 
     def test_damaged_rows(self):
-        """A row of bytes that is damaged is an error, or it is told that it was left out: no byte goes unsaid."""
+        """A row of bytes that is damaged is an error, or is reported as left out: no byte goes unsaid."""
         chance, tried, unsaid = random.Random(62), 0, []
         for path in sorted(glob.glob(os.path.join(LOGS, "*"))):
             log = bytes_of(path)

@@ -87,7 +87,7 @@ class Records(FieldTest):
             self.same("the file", file.read(), b"old")
 
     def test_nothing_is_lost(self):
-        """A cell of a table, and a list of JSON, has what the field means: an escaped delimiter is none."""
+        """A cell of a table, and a list of JSON, has what the field means: an escaped delimiter is no delimiter."""
         chance, lost = random.Random(5), []
         for _ in range(1500):
             four = chance.choice((b"|\\^&", b"|~^\\", b"|^\\&", b"|@*#"))

@@ -23,7 +23,7 @@ def bytes_of(path):
 
 
 def agrees(test, name, data):
-    """A capture's ladder has the texts and differences of `replay`, and the messages and refusals of `check`."""
+    """A capture's ladder has the texts and differences of `replay`, and the messages and rejections of `check`."""
     ladder = Ladder(read_capture(data))
     replay = test.lislink("replay", data=data)
     texts = re.findall(r"^text (\d+) (\d+)$", replay.text, re.M)
@@ -163,7 +163,7 @@ class Sessions(FieldTest):
         self.has("no frame of a session is whole", shown.text, "in 1 of 2 sessions no frame was accepted (1 frame: ")
 
     def test_out_of_turn(self):
-        """A frame that is rejected as out of turn is told, also where others of its session were accepted."""
+        """A frame that is rejected as out of turn is reported, even if others of its session were accepted."""
         text = frame_bytes(3, True, b"C|1\r")
         shown = lislab("ladder", "-", data=capture_of(*session(1)[:4], text, "15", *session(1, 2)[4:]))
         self.same("a frame out of turn", shown.status, 1)
@@ -318,7 +318,7 @@ class Sessions(FieldTest):
             agrees(self, f"random {trial}", "".join(row + "\n" for row in rows).encode())
 
     def test_versions(self):
-        """Malformed lines are told as the program tells them."""
+        """Malformed lines are reported as the program reports them."""
         for data in (
             b"> 05\nhello\n",
             b"> 5\n",

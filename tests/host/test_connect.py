@@ -255,7 +255,7 @@ class Connect(HostTest):
         self.same("pauses", pauses, [1, 2, 4, 8, 16, 32, 60, 1, 2, 4, 8, 1, 2])
 
     def test_a_call_to_itself(self):
-        """A connection whose two ends are the same port is none. Another one has keep-alives."""
+        """A connection whose two ends are the same port is not one. Another one has keep-alives."""
         for own, wanted in ((("127.0.0.1", 4000), (1, 0)), (("127.0.0.1", 4001), (0, 1))):
             transport = unittest.mock.create_autospec(serve.asyncio.Transport, instance=True)
             ends = {"peername": ("127.0.0.1", 4000), "sockname": own, "socket": unittest.mock.Mock()}

@@ -280,7 +280,7 @@ class Lines(HostTest):
         self.true("what came of the long one is kept", "more than 1000 bytes" in found.others[0].reason)
 
     def test_long_frames(self):
-        """A line takes frames as long as it was told, and rejects longer ones."""
+        """A line takes frames as long as its setting allows, and rejects longer ones."""
         host = Host(self.path("long.db"), "--listen", "0,name=long,frame=63993", scale=1.0)
         port = next(int(row.split()[1].rsplit(":", 1)[1]) for row in host.rows if row.endswith(" long\n"))
         kept = []

@@ -318,7 +318,8 @@ class Answers(HostTest):
         return host, port
 
     def test_query(self):
-        """What waits for a sample is answered, and sent once it is acknowledged; a sample without orders is told so."""
+        """What waits for a sample is answered, and sent once it is acknowledged; for a sample without orders the
+        answer says so."""
         host, port = self.started()
         one = Plain(port, SLOW)
         one.send(query("S7"))

@@ -194,7 +194,7 @@ class OneHost:
     """A store in files has one host."""
 
     def test_one_host(self):
-        """Another host is refused as long as there is one."""
+        """Another host is rejected as long as there is one."""
         host = Host(self.store)
         second = lislab("serve", "--store", self.store, "--listen", "0", timeout=20)
         said = second.returncode == 3 and "another host has this" in second.stderr

@@ -215,7 +215,7 @@ class Postgres(HostTest):
         mends_again(self, self.server.address("mends"))
 
     def test_names(self):
-        """Two hosts of one name are refused."""
+        """Two hosts of one name are rejected."""
         store = self.server.address("names")
         host = Host(store, "--host-name", "same", scale=1.0)
         second = lislab("serve", "--store", store, "--listen", "0", "--host-name", "same", timeout=20)

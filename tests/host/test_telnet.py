@@ -34,8 +34,8 @@ def encoded(data, binary=False):
 
 
 class Terminal:
-    """A terminal server's end of a connection, as a socket of the line behind it: it encodes what goes to the host, and
-    decodes what comes. `answers` are the host's to its requests."""
+    """A terminal server's end of a connection, as a socket of the line after it: it encodes what goes to the host,
+    and decodes what comes. `answers` are the host's to its requests."""
 
     def __init__(self, connection):
         self.connection, self.answers, self.left, self.binary = connection, [], b"", False
@@ -102,7 +102,7 @@ class Terminals(HostTest):
     """A host on ports of a terminal server."""
 
     def served(self, terminal):
-        """Plays an analyzer behind a terminal server: in plain Telnet, in binary, and in plain Telnet again."""
+        """Plays an analyzer at a terminal server: in plain Telnet, in binary, and in plain Telnet again."""
         terminal.ask(ASKED)
         one = Plain(0, 1.0, line=terminal)
         one.send([TEXT])

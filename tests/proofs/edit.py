@@ -1,9 +1,9 @@
 """Edits of the code, as mutants and harmless rewrites: how they are read, listed and made in a copy of the crates.
 
 An edit is a file NAME.edit with the lines 'file: src/x.rt' and then pairs 'old: TEXT' and 'new: TEXT', each TEXT one
-line; each old text stands in its file exactly once. Lines that begin with '#' say more of it: '# call:' the public
-calls whose mistake a mutant is, '# unseen:' why no test can notice it, '# only:' the functions that a rewrite must
-leave proved.
+line; each old text is in its file exactly once. Lines that begin with '#' say more of it: '# call:' the public calls
+whose mistake a mutant is, '# unseen:' why no test can notice it, '# only:' the functions that a rewrite must leave
+proved.
 """
 import glob
 import os
