@@ -12,6 +12,7 @@
 # make mutants  [CRATES="lis_link .."]   all mutants: the prover must reject each, and a test must notice it
 # make harmless [CRATES="lis_link .."]   rewrites that change nothing: each must still be proved
 # make fuzz     [EACH=600]               harnesses of libFuzzer over the library for C, so many seconds each
+# make both     [LISTS=100000]           random lists of events on a line between two stations, as the model answers them
 # make soak     [PARTS="kills=1000 .."]  the host by fire, for hours (tests/host/more soak)
 # make plant CRATE=lis_link              wrong bodies that the kit makes up: what a crate's contracts let through
 # make bench                             speed, memory and instructions; writes docs/PERFORMANCE.md (ten minutes at most)
@@ -28,7 +29,7 @@ PROGRAM = $(BUILD)/lislink
 ARCHIVE = $(BUILD)/liblis_c.a
 VERSION = $(shell cat VERSION)
 
-.PHONY: build check demo test mutants harmless soak plant bench bench-check library linked install uninstall deb docs fuzz
+.PHONY: build check demo test mutants harmless both soak plant bench bench-check library linked install uninstall deb docs fuzz
 
 build:
 	@tools/needed python rt room
@@ -71,6 +72,13 @@ bench:
 
 bench-check:
 	@bench/check
+
+# The answering program, proved and built for it alone.
+LISTS = 100000
+both:
+	@tools/needed python rt room
+	@tools/prove vectors $(BUILD)/vectors
+	conformance/both $(BUILD)/vectors $(LISTS)
 
 soak: library
 	tests/host/more build=$(BUILD) soak $(PARTS)
