@@ -1,6 +1,6 @@
 """The calls of conformance rows on a line between two stations, answered through the library for C. What is on its way,
-and what comes of an event, is told by conformance/README.md; whether damage may happen, by the model, from the bytes
-that a receiver heard."""
+and what comes of an event, is in conformance/README.md; whether damage may happen the model says, from the bytes that
+a receiver heard."""
 import model
 from lislink import LinkError, Note, Outcome, Phase, Role, Station
 from model import ACK, ENQ, bytes_of
@@ -106,8 +106,8 @@ def is_noticed(near, item, data):
         return False
     if near.station.awaits_reply:
         return ACK not in data and ENQ not in data[1:]
-    told = [signal for _, signal in model.signals(near.heard + data, model.USUAL, len(near.heard))]
-    return not told or len(item[1]) > 1 and len(told) == 1 and isinstance(told[0], str)
+    heard = [signal for _, signal in model.signals(near.heard + data, model.USUAL, len(near.heard))]
+    return not heard or len(item[1]) > 1 and len(heard) == 1 and isinstance(heard[0], str)
 
 
 def lose(near, far):

@@ -1,4 +1,5 @@
--- While one side sends nothing, the line is that of one direction: a world of `lis_world`, and what is beside it.
+-- While one side sends nothing, the line is that of one direction: a world of `lis_world`, and what the other direction
+-- has.
 use Rattle.std.proofs.Common.{◌≡◌, ◌⊎◌, inl, inr, ℕ, zero, suc, ◌+◌, Bool, true, false, List, [], ◌∷◌, ◌++◌, map, Option, None, Some}
 use Rattle.std.proofs.Common.{refl, sym, ap, ◌∙◌, subst, append_assoc, append-nil, arith, length, ◌≤◌}
 use Rattle.std.specs.List.{fold, flat_map}

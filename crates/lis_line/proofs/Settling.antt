@@ -137,7 +137,7 @@ room_quiet room t = record {
 
 byte_quiet : (limit n b : ℕ) (item : Item) (t : TwoWay) → t.far.to_drop ≡ suc n
     → IsQuiet t (steps item (routed limit false b t.near.station) t)
-byte_quiet limit n b item t muted =
+byte_quiet limit n b item t dropped =
     let step : ReceiverStep = asking t.near.station.asks_turn (on_byte limit b t.near.station.receiver) in
     let after : StationState = (routed limit false b t.near.station).after in
     let there : TwoWay = record t { near = with_station after t.near } in
@@ -149,7 +149,7 @@ byte_quiet limit n b item t muted =
       outward_is = refl;
       inward_is = refl;
     } in
-    subst (λ m. IsQuiet t (reply_out m step.reply (noted item step step.note there))) (sym muted)
+    subst (λ m. IsQuiet t (reply_out m step.reply (noted item step step.note there))) (sym dropped)
     (by step.reply (quiet_then t there (noted item step step.note there) heard (noted_quiet item step step.note there)))
   where
     by : {v u : TwoWay} (reply : Option ℕ) → IsQuiet v u → IsQuiet v (reply_out (suc n) reply u)
@@ -159,15 +159,15 @@ byte_quiet limit n b item t muted =
 comes_quiet : (limit n : ℕ) (item : Item) (bytes : List ℕ) (t : TwoWay)
     → t.near.station.sender.phase ≡ Phases.Neutral → t.far.to_drop ≡ suc n
     → IsQuiet t (comes limit item bytes t)
-comes_quiet limit n item [] t neutral muted = quiet_refl t
-comes_quiet limit n item (b ∷ bytes) t neutral muted =
+comes_quiet limit n item [] t neutral dropped = quiet_refl t
+comes_quiet limit n item (b ∷ bytes) t neutral dropped =
     let v : TwoWay = steps item (routed limit (awaits_reply t.near.station.sender.phase) b t.near.station) t in
     let first : IsQuiet t v =
     subst (λ p. IsQuiet t (steps item (routed limit (awaits_reply p) b t.near.station) t)) (sym neutral)
-    (byte_quiet limit n b item t muted) in
+    (byte_quiet limit n b item t dropped) in
     quiet_then t v (comes limit item bytes v) first
     (comes_quiet limit n item bytes v (ap (λ (s : SenderState). s.phase) first.near_sender ∙ neutral)
-    (first.far_drop ∙ muted))
+    (first.far_drop ∙ dropped))
 
 -- ---- an item leaves the line here
 
@@ -200,7 +200,7 @@ front_leaves :
     → t.far.to_drop ≡ suc (length units)
     → IsQuiet (record t { inward = map sent units }) v
     → Leaves t (left_line (sent unit) v)
-front_leaves t v unit units h front muted quiet = record {
+front_leaves t v unit units h front dropped quiet = record {
   settles = record {
     near_neutral = ap (λ (s : SenderState). s.phase) quiet.near_sender ∙ h.near_neutral;
     far_neutral = ap (λ (s : SenderState). s.phase) quiet.far_sender ∙ h.far_neutral;
@@ -209,7 +209,7 @@ front_leaves t v unit units h front muted quiet = record {
     out_is = quiet.outward_is ∙ h.out_is;
     in_is = quiet.inward_is;
     near_drop = quiet.near_drop ∙ h.near_drop;
-    far_drop = ap lowered (quiet.far_drop ∙ muted);
+    far_drop = ap lowered (quiet.far_drop ∙ dropped);
   };
   fewer = omega (arith, ap length quiet.inward_is, ap length front);
   as_many = ap length quiet.outward_is;
@@ -232,25 +232,25 @@ front_here :
     → t.inward ≡ sent unit ∷ map sent units
     → t.far.to_drop ≡ suc (length units)
     → Leaves t (happens limit (leaving_event leaving) t)
-front_here limit Progress.comes t unit units h front muted =
+front_here limit Progress.comes t unit units h front dropped =
     let left : TwoWay = record t { inward = map sent units } in
     let come : TwoWay = comes limit (sent unit) (load_bytes unit.load) left in
     subst (λ xs. Leaves t (arrives limit xs t)) (sym front)
-    (front_leaves t come unit units h front muted
-    (comes_quiet limit (length units) (sent unit) (load_bytes unit.load) left h.near_neutral muted))
-front_here limit Progress.comes_without_room t unit units h front muted =
+    (front_leaves t come unit units h front dropped
+    (comes_quiet limit (length units) (sent unit) (load_bytes unit.load) left h.near_neutral dropped))
+front_here limit Progress.comes_without_room t unit units h front dropped =
     let left : TwoWay = record t { inward = map sent units } in
     let shut : TwoWay = room_near false left in
     let come : TwoWay = comes limit (sent unit) (load_bytes unit.load) shut in
     subst (λ xs. Leaves t (room_near true (arrives limit xs (room_near false t)))) (sym front)
-    (front_leaves t (room_near true come) unit units h front muted
+    (front_leaves t (room_near true come) unit units h front dropped
     (quiet_then left shut (room_near true come) (room_quiet false left)
     (quiet_then shut come (room_near true come)
-    (comes_quiet limit (length units) (sent unit) (load_bytes unit.load) shut h.near_neutral muted)
+    (comes_quiet limit (length units) (sent unit) (load_bytes unit.load) shut h.near_neutral dropped)
     (room_quiet true come))))
-front_here limit Progress.is_lost t unit units h front muted =
+front_here limit Progress.is_lost t unit units h front dropped =
     let left : TwoWay = record t { inward = map sent units } in
-    subst (λ xs. Leaves t (lost_in xs t)) (sym front) (front_leaves t left unit units h front muted (quiet_refl left))
+    subst (λ xs. Leaves t (lost_in xs t)) (sym front) (front_leaves t left unit units h front dropped (quiet_refl left))
 
 leaves : (limit : ℕ) (leaving : Leaving) (t : TwoWay) → Settles t
     → Leaves t (happens limit (leaving_event leaving) t)

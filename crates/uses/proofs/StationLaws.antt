@@ -21,9 +21,10 @@ use Rattle.uses.specs.declared.station.Ran.TheVariants as Rans
 use Rattle.uses.specs.Analyzer.{put_out, sent_if_any}
 use Rattle.uses.specs.Computer.{AcknowledgedIsKept, reply_log}
 use Rattle.uses.specs.Connection.{LogEvent, GoesOn, kept, kept_texts, most_events, not_kept, waited}
-use Rattle.uses.specs.Station.{AnswersStation, IsOfEnd, IsStationAnswer, made, refused, station_step_at, timer_log}
-use Rattle.uses.specs.Station.{timer_unless_quiet, step_log, IsHeard, no_text, is_kept, is_not_kept, over_by, IsTurn}
-use Rattle.uses.specs.Station.{is_closed, is_sent, is_heard, IsRun, ends, goes_on, given_up, WasRun, WasTurn, WasHeard}
+use Rattle.uses.specs.Station.{IsOfEnd, IsStationAnswer, made, refused, station_step_at, timer_log, timer_unless_quiet}
+use Rattle.uses.specs.Station.{step_log, IsHeard, no_text, is_kept, is_not_kept, over_by, IsTurn, is_closed, is_sent}
+use Rattle.uses.specs.Station.{is_heard, IsRun, ends, goes_on, given_up, WasRun}
+use Rattle.uses.specs.inside.Station.{AnswersStation, WasTurn, WasHeard}
 use Rattle.uses.proofs.KeepingLaws.{Grows, step_grows, stays, restart_grows, is_still_kept, none_by_reply}
 use Rattle.uses.proofs.LoopLaws.{goes_on_none, goes_on_then, none_yet}
 

@@ -52,11 +52,6 @@ pub data IsStationAnswer (event : Event) (s : StationState) (answer : AnswerOf 2
       → after ≡ record s { receiver = record s.receiver { past = byte ∷ s.receiver.past } }
       → IsStep (answers (Some NAK) OutOfMemory after.receiver) result → IsStationAnswer event s answer after
 
-pub record AnswersStation (event : Event) (s : StationState) (answer : AnswerOf 240) (new : KeptStation) : Type 0 where
-  pub after : StationState
-  pub answer_is : IsStationAnswer event s answer after
-  pub state : IsStation 240 new after
-
 -- ---- what is done at an answer
 
 -- the timer is started anew, if one runs
@@ -123,21 +118,4 @@ pub record WasRun (s : StationState) (past now : Option (List LogEvent)) (ran : 
   pub last : StationState
   pub run : IsRun most_events s event_log ran last
   pub acknowledged_is_kept : AcknowledgedIsKept past s.receiver → AcknowledgedIsKept now last.receiver
-  pub state : IsStation 240 new last
-
--- so did one event, and a step of the receiver
-pub record WasTurn (event : Event) (s : StationState) (past now : Option (List LogEvent)) (ran : Option Ran)
-    (new : KeptStation) : Type 0 where
-  pub event_log : List LogEvent
-  pub done : GoesOn past now event_log
-  pub last : StationState
-  pub turn : IsTurn event s event_log ran last
-  pub state : IsStation 240 new last
-
-pub record WasHeard (s : StationState) (step : Step) (past now : Option (List LogEvent)) (ran : Option Ran)
-    (new : KeptStation) : Type 0 where
-  pub event_log : List LogEvent
-  pub done : GoesOn past now event_log
-  pub last : StationState
-  pub heard_is : IsHeard s step event_log ran last
   pub state : IsStation 240 new last

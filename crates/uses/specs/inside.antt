@@ -1,2 +1,3 @@
 -- What proofs and private functions speak of. No public contract cites it.
 pub mod Computer
+pub mod Station

@@ -9,7 +9,8 @@ ghost use Rattle.lis_station.specs.Station.{StationState, station_fault, station
 ghost use Rattle.uses.specs.Analyzer.{put_out};
 ghost use Rattle.uses.specs.Computer.{reply_log};
 ghost use Rattle.uses.specs.Connection.{GoesOn, sent, timed};
-ghost use Rattle.uses.specs.Station.{WasRun, WasTurn, WasHeard, AnswersStation, over_by, timer_log, timer_unless_quiet};
+ghost use Rattle.uses.specs.Station.{WasRun, over_by, timer_log, timer_unless_quiet};
+ghost use Rattle.uses.specs.inside.Station.{WasTurn, WasHeard, AnswersStation};
 ghost use Rattle.uses.specs.declared.connection.Event.TheVariants as Events;
 
 use crate::analyzer::put;
@@ -18,7 +19,7 @@ use lis_link::{Note, Outcome, Phase, REPLY_SECONDS, Step};
 use lis_station::{AnswerOf, Station, StationRefusedOf};
 use lis_text::{LinkText, Texts};
 
-/// What a station's loop came to.
+/// How a station's loop ended.
 #[derive(Debug, PartialEq, Eq, Drop)]
 pub enum Ran {
     /// The other side's text is whole, kept and acknowledged.
@@ -67,7 +68,7 @@ pub fn run_station<H: Host>(host: &mut H, station: &mut Station) -> Ran
     Ran::Closed
 }
 
-/// What one event comes to; none if the loop goes on.
+/// What one event leads to; none if the loop goes on.
 fn take_event<H: Host>(host: &mut H, station: &mut Station, event: Event) -> Option<Ran>
     ensures { (s : StationState) → IsStation 240 station.old s →
         WasTurn event s (H.event_log host.old) (H.event_log host.new) result station.new }
@@ -124,7 +125,7 @@ fn answer_at(station: &mut Station, event: Event) -> Option<AnswerOf<240>>
     }
 }
 
-/// What the session came to, if it is over: the sender was in one, and is so no more.
+/// How the session ended, if it is over: the sender was in one, and is so no more.
 fn over_by(before: Phase, after: Phase, outcome: Option<Outcome>) -> Option<Ran>
     ensures { result ≡ over_by before after outcome }
 {
