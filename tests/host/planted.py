@@ -9,7 +9,7 @@ import tempfile
 import unittest
 from typing import NamedTuple
 
-from tests.host import SOURCE, planted_delivery
+from tests.host import SOURCE, planted_delivery, planted_watch
 
 HERE = os.path.dirname(os.path.abspath(__file__))
 
@@ -557,7 +557,7 @@ FAULTS = {
         "watch/metrics.py", "            total += count\n", "            total = count\n"
     ),
     "test_watch_page.Looks.test_notify": Edit(
-        "watch/notify.py", "if is_bad and self._bad.get(name) is None:", "if is_bad:"
+        "watch/notify.py", "if before is None or (before", "if before or (before"
     ),
     "test_watch_page.Looks.test_tally": Edit(
         "watch/tally.py", "self._number = found[-1].number", "self._number = found[0].number"
@@ -568,7 +568,7 @@ FAULTS = {
     "test_watch_page.Looks.test_delivered": Edit("host/deliver.py", '"key": one.key, "took": took}', '"key": one.key}'),
     "test_watch_page.Looks.test_words": Edit("watch/commands.py", "not (ask.allow and token)", "not (ask.allow or token)"),
 }
-FAULTS.update({name: Edit(*edit) for name, edit in planted_delivery.FAULTS.items()})
+FAULTS.update({name: Edit(*edit) for one in (planted_delivery, planted_watch) for name, edit in one.FAULTS.items()})
 #: Changes that mean nothing.
 HARMLESS = (
     Edit(

@@ -142,8 +142,8 @@ class Books:
         self.same("taken once", one.take("fire x", "1", "fire", 9, []), [])
         self.same("not while it is sent", one.cancel(1), False)
         one.sent([1])
-        self.same("the last try", one.tried([3], "why", 1, 0), [3])
-        self.same("a try", one.tried([2], "why", 2, 60), [])
+        self.same("the last try", one.tried("fire", [3], "why", 1, 0), [3])
+        self.same("a try", one.tried("fire", [2], "why", 2, 60), [])
         self.same("states", [placed.state for placed in one.listed()], [
             "sent", "waiting", "failed", "waiting", "waiting"])
         self.same("cancel", (one.cancel(4), one.cancel(1), one.cancel(99)), (True, False, False))
@@ -151,6 +151,33 @@ class Books:
         self.same("range", one.ask("fire x", "1", "fire", Wanted((), "S4", "S5"), 9), 1)
         self.same("not then", one.ask("fire x", "1", "fire", Wanted(until="19991231"), 9), 0)
         self.same("later", [placed.number for placed in one.take("", "1", "fire", 9, [])], [1])
+
+    def test_failed(self):
+        """Orders that have failed are listed by the line on which they did, the newest first, until somebody does
+        something about them."""
+        one, now = open_book(self.new(), "one"), [0.0]
+        self.addCleanup(one.close)
+        one._clock = lambda: now[0]
+        one.add([Order(f"S{at}", ("K",), line="fire" if at < 4 else "") for at in range(1, 6)])
+        self.same("none", (one.failed(9), one.failed_mark()), ({}, (0, 0.0)))
+        for number, line in ((1, "fire"), (3, "fire"), (4, "water"), (2, "fire")):
+            now[0] += 10
+            one.tried(line, [number], f"why {number}", 1, 0)
+
+        def failed(most):
+            return {line: (found.many, found.since, [placed.number for placed in found.newest])
+                    for line, found in one.failed(most).items()}
+
+        self.same("the last ones", failed(2), {"fire": (3, 10.0, [2, 3]), "water": (1, 30.0, [4])})
+        self.same("all", failed(9)["fire"], (3, 10.0, [2, 3, 1]))
+        self.same("why", one.failed(1)["water"].newest[0].reason, "why 4")
+        self.same("how many", one.failed_mark(), (4, 40.0))
+        one.take_back("water")
+        self.same("a query is taken back", failed(1)["water"], (1, 30.0, [4]))
+        self.same("again", (one.again(4), one.cancel(2)), (True, True))
+        self.same("what is left", (failed(9), one.failed_mark()), ({"fire": (2, 10.0, [3, 1])}, (2, 20.0)))
+        self.same("an order for any line waits for any", [placed.number for placed in one.take("", "1", "x", 9, [])],
+                  [4, 5])
 
     def test_two_hosts(self):
         """Each order is taken by one of two hosts."""

@@ -361,7 +361,7 @@ class Looks(HostTest):
         has = subprocess.run(["/usr/bin/python3", "-c", "import prometheus_client"], capture_output=True, check=False)
         if has.returncode:
             self.skipTest("prometheus_client: 2 checks: metrics by a reader of Prometheus' own")
-        text = metrics.metrics_of(said_of({one[:200]: LINE for one in HOSTILE}), {"c\n": 1})
+        text = metrics.metrics_of(said_of({one[:200]: LINE for one in HOSTILE}), {"c\n": 1}, {"failed": 1})
         words = "import sys;from prometheus_client.parser import text_string_to_metric_families as read;"
         words += "print(sum(len(one.samples) for one in read(sys.stdin.read())))"
         for name, given, wanted in (("all samples", text, 0), ("a wrong one", text + "x{\n", 1)):
@@ -487,7 +487,7 @@ class Alerts(HostTest):
         with open(os.path.join(ROOT, "samples", "alerts.yml"), encoding="utf-8") as file:
             text = file.read()
         data = said_of({"a": {**LINE, "last": None}})
-        known = set(re.findall(r"# TYPE (\S+)", metrics.metrics_of(data, {"c": 0}))) | {"lislab_reply_seconds_bucket"}
+        known = set(re.findall(r"# TYPE (\S+)", metrics.metrics_of(data, {"c": 0}, {}))) | {"lislab_reply_seconds_bucket"}
         named = set(re.findall(r"lislab_\w+", text))
         self.same("metrics that aren't there", sorted(named - known), [])
         self.same("rules", text.count("- alert:"), 5)

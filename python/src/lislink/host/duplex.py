@@ -22,6 +22,8 @@ PIECE = 1024
 #: So many NAKs to its ENQ end a session.
 BUSY = 6
 _REPLIES = (b"\x04", b"\x06", b"\x15")
+#: Why a session of the host's own failed.
+_WHY = {Outcome.TIMED_OUT: "no reply came in time", Outcome.SIX_TRIES: "a frame was rejected six times"}
 _OVER = (Note.OPENED, Note.NOT_READY, Note.ENDED, Note.TIMED_OUT)
 
 
@@ -241,7 +243,7 @@ class TwoWayLine(Line):
         if self._busy >= BUSY:
             self._over_in_vain("the analyzer is busy")
             return
-        self._over_in_vain(f"the session ended as {outcome.name}")
+        self._over_in_vain(_WHY.get(outcome, f"the session ended as {outcome.name}"))
         self._unanswered = outcome is Outcome.TIMED_OUT
         self._quiet()
         if self.is_tcp and outcome is not Outcome.SIX_TRIES:

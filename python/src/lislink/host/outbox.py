@@ -5,7 +5,7 @@ import re
 from concurrent.futures import ThreadPoolExecutor
 from typing import Any, Callable, Dict, List, NamedTuple, Optional, Sequence, Set
 
-from ..orders.book import OrderBook, Placed
+from ..orders.book import Failed, OrderBook, Placed
 from ..orders.order import ANSWERED, NORMAL, ORDERED, QUERIED, OrderError, nothing_of, texts_of, told_of
 from ..orders.query import Query
 from ..records import MessageError, messages
@@ -43,7 +43,7 @@ class Batch(NamedTuple):
     @property
     def is_answer(self) -> bool:
         """Whether an analyzer asked for it."""
-        return not self.placed or self.placed[0].asked
+        return not self.placed or self.placed[0].asked != ""
 
     @property
     def told(self) -> str:
@@ -70,6 +70,9 @@ class Outbox:
         self._work: "Set[asyncio.Task[None]]" = set()
         self._looking: "Optional[asyncio.Task[None]]" = None
         self._woken: List[Callable[[str, str], None]] = []
+        #: Who sees which orders have failed, and how many had when that was looked at.
+        self._seen: Callable[[Dict[str, Failed]], None] = lambda failed: None
+        self._failed = (0, 0.0)
         self._said = ""
         #: The last query of each place whose orders weren't taken yet.
         self._queries: Dict[str, Query] = {}
@@ -113,6 +116,10 @@ class Outbox:
         """`woken(asked, line)` is called when orders are to be sent: at the place that asked, or unasked on a line."""
         self._woken.append(woken)
 
+    def shows(self, seen: Callable[[Dict[str, Failed]], None]) -> None:
+        """`seen(failed)` is called when other orders have failed than before: those of each line, with the last one."""
+        self._seen = seen
+
     def forget(self, site: Site, woken: Callable[[str, str], None]) -> None:
         """The connection is over."""
         self._woken.remove(woken)
@@ -134,6 +141,7 @@ class Outbox:
                 for told in await self._run(self._book.take_in):
                     self._say(told)
                 due = await self._run(self._book.due)
+                await self._look_at_failed()
                 self._said = ""
             except StoreError as error:
                 due = []
@@ -142,6 +150,13 @@ class Outbox:
                 for woken in list(self._woken):
                     woken(asked, line)
             await asyncio.sleep(LOOK * max(self._scale, 0.05))
+
+    async def _look_at_failed(self) -> None:
+        assert self._book is not None
+        mark = await self._run(self._book.failed_mark)
+        if mark != self._failed:
+            self._seen(await self._run(self._book.failed, 1))
+            self._failed = mark
 
     def _say_once(self, text: str) -> None:
         if text != self._said:
@@ -289,7 +304,7 @@ class Outbox:
         numbers = [one.number for one in placed]
         wait = WAITS[min(min(one.tries for one in placed), len(WAITS) - 1)] * self._scale
         try:
-            for number in await self._run(self._book.tried, numbers, why, most, wait):
+            for number in await self._run(self._book.tried, site.line, numbers, why, most, wait):
                 self._say(f"{site.line}: order {number} of sample {samples[number]} has failed: {why}")
         except StoreError as error:
             self._say_once(f"orders can't be marked: {error}")

@@ -235,6 +235,7 @@ class Host:
         """Starts what sends orders, if a line sends some for the first time."""
         if self.outbox is None and asked.outbox is not None:
             outbox = asked.outbox(functools.partial(self.notices.say, "orders"))
+            outbox.shows(self.board.take_failed)
             await outbox.start()
             self.outbox = outbox
 

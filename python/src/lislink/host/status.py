@@ -1,22 +1,22 @@
 """`lislab status`: the lines of a host, what is kept, and what isn't delivered yet."""
 import json
 import time
-from typing import Any, Dict, List, NamedTuple, Optional
+from typing import Any, Dict, Iterator, List, NamedTuple, Optional
 
 from ..delivery.aside import held_of
-from ..orders.book import book_of
+from ..orders.book import Failed, reading_book
 from .deliver import read_cursor
 from .export import time_text
-from .sql import SqlStore
 from .store import Store
 
-#: A state that was written longer ago than this, in seconds, is old.
-OLD = 10.0
+#: A state that was written longer ago than this, in seconds, is old; so many failed orders of a line are named.
+OLD, NAMED = 10.0, 20
 _COLUMNS = (
     "line",
     "connected",
     "came",
     "whole",
+    "queries",
     "again",
     "mended",
     "unfinished",
@@ -82,7 +82,7 @@ def rows_of(store: Store, state: Dict[str, Any]) -> List[Dict[str, Any]]:
     rows = []
     for name in sorted({*kept, *live}):
         row: Dict[str, Any] = {
-            one: live.get(name, {}).get(one, 0) for one in ("connected", "rejected", "late", "not_kept")
+            one: live.get(name, {}).get(one, 0) for one in ("connected", "queries", "rejected", "late", "not_kept")
         }
         row["came"] = live.get(name, {}).get("connections", 0)
         row["late"] += live.get(name, {}).get("late_replies", 0)
@@ -105,10 +105,8 @@ def rows_of(store: Store, state: Dict[str, Any]) -> List[Dict[str, Any]]:
 def data_of(store: Store, state: Dict[str, Any], cursors: List[str]) -> Dict[str, Any]:
     """All of it as data."""
     waiting = [waiting_of(store, path) for path in cursors]
-    book = book_of(store)
-    orders = book.counts()
-    if not isinstance(store, SqlStore):
-        book.close()
+    with reading_book(store) as book:
+        orders, failed = book.counts(), book.failed(NAMED)
     return {
         "running": runs(store, state),
         "state_age": age_of(state),
@@ -123,7 +121,24 @@ def data_of(store: Store, state: Dict[str, Any], cursors: List[str]) -> Dict[str
         "not_said": state.get("not_said", {}),
         "undelivered": [{**one._asdict(), "oldest": time_text(one.oldest)} for one in waiting],
         "orders": orders,
+        "failed_orders": {line: _failed_of(one) for line, one in failed.items()},
     }
+
+
+def _failed_of(found: Failed) -> Dict[str, Any]:
+    """The orders of a line that have failed, as data. The names of patients stay in the store."""
+    newest = [
+        {
+            "number": one.number,
+            "sample": one.order.sample,
+            "tests": one.order.tests,
+            "reason": one.reason,
+            "tries": one.tries,
+            "at": time_text(one.changed),
+        }
+        for one in found.newest
+    ]
+    return {"count": found.many, "newest": newest}
 
 
 def _old(age: Optional[float]) -> str:
@@ -158,6 +173,21 @@ def text_of(data: Dict[str, Any]) -> str:
     for name, kinds in sorted(data["not_said"].items()):
         counts = ", ".join(f"{count} of kind {kind}" for kind, count in sorted(kinds.items()))
         rows.append(f"{name}: notices that were not said: {counts}")
+    return "\n".join([head, *rows, *_order_rows(data)]) + "\n"
+
+
+def _order_rows(data: Dict[str, Any]) -> Iterator[str]:
+    """How many orders are in each state, and the last ones of each line that have failed."""
     if data["orders"]:
-        rows.append("orders: " + ", ".join(f"{count} {state}" for state, count in data["orders"].items()))
-    return "\n".join([head, *rows]) + "\n"
+        yield "orders: " + ", ".join(f"{count} {state}" for state, count in data["orders"].items())
+    for name, found in data["failed_orders"].items():
+        for one in found["newest"]:
+            yield f"  {_failed_row(name, one)}"
+        others = found["count"] - len(found["newest"])
+        if others:
+            yield f"  and {others} more of {name}: lislab order list --state failed"
+
+
+def _failed_row(line: str, one: Dict[str, Any]) -> str:
+    at = one["at"][:19].replace("T", " ")
+    return f"order {one['number']} {one['sample']} {line} failed {at} {one['reason']}, tried {one['tries']}"

@@ -1,8 +1,9 @@
 """The orders of a store, and what became of each. An order that waits is taken by one host, sent, and then marked: if
 the host dies before it can mark it, the order is sent again."""
+import contextlib
 import json
 import time
-from typing import Any, Callable, Dict, Iterable, List, NamedTuple, Optional, Sequence, Tuple
+from typing import Any, Callable, Dict, Iterable, Iterator, List, NamedTuple, Optional, Sequence, Tuple
 
 from ..host.spool import SpoolStore
 from ..host.sql import SqlStore
@@ -23,9 +24,12 @@ _TABLES = (
         seat TEXT NOT NULL DEFAULT '', holder TEXT NOT NULL DEFAULT '', added DOUBLE PRECISION NOT NULL,
         changed DOUBLE PRECISION NOT NULL, next_try DOUBLE PRECISION NOT NULL DEFAULT 0)""",
     "CREATE INDEX IF NOT EXISTS orders_waiting ON orders (sample) WHERE state = 'waiting'",
+    "CREATE INDEX IF NOT EXISTS orders_failed ON orders (changed) WHERE state = 'failed'",
 )
 _ORDER = "sample, tests, line, priority, patient, name, birth, sex, collected"
-_COLUMNS = f"number, state, reason, tries, added, changed, {_ORDER}"
+_COLUMNS = f"number, state, reason, tries, added, changed, {_ORDER}, asked"
+#: The line on which an order has failed: it may be one for any line.
+_FAILED_ON = "CASE WHEN line = '' THEN asked ELSE line END"
 
 
 class Placed(NamedTuple):
@@ -38,8 +42,16 @@ class Placed(NamedTuple):
     added: float
     changed: float
     order: Order
-    #: Whether it is sent because an analyzer asked for it.
-    asked: bool = False
+    #: Where an analyzer asked for it, if one did; of one that has failed, on which line it did.
+    asked: str = ""
+
+
+class Failed(NamedTuple):
+    """The orders of a line that have failed: how many, since when, and the last ones, the newest first."""
+
+    many: int
+    since: float
+    newest: List[Placed]
 
 
 class Wanted(NamedTuple):
@@ -131,6 +143,29 @@ class OrderBook:
         found = {str(state): int(count) for state, count in rows}
         return {state: found[state] for state in STATES if state in found}
 
+    def failed_mark(self) -> Tuple[int, float]:
+        """How many orders have failed, and when the last one did: as long as this is the same, `failed` is, too."""
+        if not self.is_there():
+            return 0, 0.0
+        count, last = self._store.read(f"SELECT count(*), max(changed) FROM orders WHERE state = '{FAILED}'")[0]
+        return int(count), last or 0.0
+
+    def failed(self, most: int) -> Dict[str, Failed]:
+        """The orders that have failed, by the line on which they did, at most so many of each line."""
+        if not self.is_there():
+            return {}
+        part = f"OVER (PARTITION BY {_FAILED_ON}"
+        rows = self._store.read(
+            f"SELECT * FROM (SELECT {_FAILED_ON} AS failed_on, count(*) {part}) AS many, min(changed) {part}) AS since,"
+            f" row_number() {part} ORDER BY changed DESC, number DESC) AS place, {_COLUMNS}"
+            f" FROM orders WHERE state = '{FAILED}') AS found WHERE place <= ? ORDER BY failed_on, place",
+            (most,),
+        )
+        found: Dict[str, Failed] = {}
+        for line, many, since, _, *row in rows:
+            found.setdefault(line, Failed(int(many), since, [])).newest.append(_placed(row))
+        return found
+
     def cancel(self, number: int) -> bool:
         """Cancels an order that isn't sent and isn't being sent; whether it is one."""
         return self._becomes(number, CANCELLED, f"state IN ('{WAITING}', '{FAILED}') AND holder = ''")
@@ -176,7 +211,8 @@ class OrderBook:
         ours = f" OR number IN ({', '.join('?' * len(numbers))})" if numbers else ""
         with self._store.changing():
             self._store.run(
-                f"UPDATE orders SET asked = '', seat = '', holder = '' WHERE asked = ? AND (holder = ''{ours})",
+                "UPDATE orders SET asked = '', seat = '', holder = ''"
+                f" WHERE state = '{WAITING}' AND asked = ? AND (holder = ''{ours})",
                 (place, *numbers),
             )
 
@@ -195,7 +231,7 @@ class OrderBook:
         with self._store.changing():
             free, gone = self._free(now)
             rows = self._store.run(
-                f"SELECT {_COLUMNS}, asked FROM orders WHERE state = '{WAITING}' AND next_try <= ? AND {free}{skip}"
+                f"SELECT {_COLUMNS} FROM orders WHERE state = '{WAITING}' AND next_try <= ? AND {free}{skip}"
                 " AND asked = ? AND seat IN ('', ?) AND line IN ('', ?) ORDER BY number LIMIT ?"
                 f"{self._store.skip_locked}",
                 (now, *gone, *out, place, self._seat(seat), line, most),
@@ -231,19 +267,21 @@ class OrderBook:
                     (SENT, self._clock(), number),
                 )
 
-    def tried(self, numbers: Sequence[int], why: str, most: int, wait: float) -> List[int]:
-        """Orders were tried in vain: they wait for so many seconds, or have failed if it was the last try. Those that
-        have failed."""
+    def tried(self, line: str, numbers: Sequence[int], why: str, most: int, wait: float) -> List[int]:
+        """Orders were tried on a line in vain: they wait for so many seconds, or have failed if it was the last try.
+        Those that have failed."""
         failed, now = [], self._clock()
         with self._store.changing():
             for number in numbers:
-                row = self._store.run("SELECT tries FROM orders WHERE number = ?", (number,)).fetchone()
-                tries = int(row[0]) + 1 if row else 1
+                row = self._store.run("SELECT tries, asked FROM orders WHERE number = ?", (number,)).fetchone()
+                before, asked = row or (0, "")
+                tries = int(before) + 1
                 state = FAILED if 0 < most <= tries else WAITING
+                asked = line if state == FAILED else asked
                 self._store.run(
-                    "UPDATE orders SET state = ?, reason = ?, tries = ?, holder = '', changed = ?, next_try = ?"
-                    f" WHERE number = ? AND state = '{WAITING}'",
-                    (state, why, tries, now, now + wait, number),
+                    "UPDATE orders SET state = ?, reason = ?, tries = ?, holder = '', changed = ?, next_try = ?,"
+                    f" asked = ? WHERE number = ? AND state = '{WAITING}'",
+                    (state, why, tries, now, now + wait, asked, number),
                 )
                 failed += [number] if state == FAILED else []
         return failed
@@ -261,7 +299,7 @@ def _local(at: float) -> str:
 def _placed(row: Sequence[Any]) -> Placed:
     number, state, reason, tries, added, changed, sample, tests, *others = row
     order = Order(sample, tuple(json.loads(tests)), *others[:7])
-    return Placed(int(number), state, reason, int(tries), added, changed, order, any(others[7:]))
+    return Placed(int(number), state, reason, int(tries), added, changed, order, others[7])
 
 
 def open_book(where: str, host: str = "", reading: bool = False) -> OrderBook:
@@ -280,3 +318,14 @@ def book_of(store: Store, host: str = "") -> OrderBook:
 
     assert isinstance(store, SpoolStore)
     return FolderBook(store.folder, host)
+
+
+@contextlib.contextmanager
+def reading_book(store: Store) -> Iterator[OrderBook]:
+    """The orders of a store that somebody reads, and closes himself."""
+    book = book_of(store)
+    try:
+        yield book
+    finally:
+        if not isinstance(store, SqlStore):
+            book.close()

@@ -6,11 +6,17 @@ from typing import Any, List
 
 from ..host.options import OptionError
 from ..host.said import say
-from .book import STATES, OrderBook, Placed, open_book
+from .book import FAILED, STATES, OrderBook, Placed, open_book
 from .order import Order, orders_of
 
 #: Exit statuses, as those of the other commands.
 GOOD, WRONG = 0, 1
+_STATES = (
+    "An order is waiting until it is sent, also after a try that failed; sent when the analyzer has acknowledged each "
+    "frame of it; failed, with the reason, after the last try of `serve --tries`, or if it can't be written in the "
+    "line's encoding: `lislab order again NUMBER` sends it anew, `lislab order cancel NUMBER` gives it up; cancelled, "
+    "and not sent."
+)
 
 
 def add_commands(commands: Any) -> None:
@@ -18,7 +24,7 @@ def add_commands(commands: Any) -> None:
     top = commands.add_parser("order", help="the orders of a store: add, list, cancel, again")
     whats = top.add_subparsers(dest="what", required=True, metavar="WHAT")
     _add_add(whats.add_parser("add", help="add the orders of a file"))
-    _add_list(whats.add_parser("list", help="list orders"))
+    _add_list(whats.add_parser("list", help="list orders, each with what became of it", epilog=_STATES))
     _add_change(whats.add_parser("cancel", help="cancel orders that aren't sent"), run_cancel)
     _add_change(whats.add_parser("again", help="let orders wait again"), run_again)
 
@@ -56,7 +62,8 @@ def told(placed: Placed) -> str:
     if placed.state == "waiting" and not placed.tries:
         return words
     at = time.strftime("%Y-%m-%d %H:%M:%S", time.localtime(placed.changed))
-    why = f" {placed.reason}" if placed.reason else ""
+    where = f" on {placed.asked}:" if placed.state == FAILED and placed.asked != order.line else ""
+    why = f"{where} {placed.reason}" if placed.reason else ""
     return f"{words} {placed.state} {at}{why}" + (f", tried {placed.tries}" if placed.tries else "")
 
 

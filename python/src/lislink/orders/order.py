@@ -223,7 +223,8 @@ def texts_of(
     try:
         texts = _written(orders, encoding, report, end, clock)
     except UnicodeEncodeError as error:
-        raise OrderError(f"{error.object[error.start : error.end]!r} isn't in {encoding}") from None
+        # one letter, and not all of a name
+        raise OrderError(f"{error.object[error.start]!r} isn't in {encoding}") from None
     except LinkError as error:
         raise OrderError(f"it can't be a record: {error}") from None
     _compare(orders, texts, encoding)

@@ -5,6 +5,7 @@ from typing import Any, Callable, Dict, Iterable, Mapping, Optional
 
 from ..host.options import Connect, Place
 from ..host.tape import Tape
+from ..orders.book import Failed
 from .pulse import Probe, Pulse, Says
 from .unix import Door
 
@@ -15,6 +16,7 @@ class Board:
     def __init__(self, scale: float) -> None:
         self._scale = scale
         self._pulses: Dict[str, Pulse] = {}
+        self._failed: Dict[str, Failed] = {}
         self._door: Optional[Door] = None
 
     def probe(self, place: Place, tape: Optional[Tape], say: Callable[[str, str], None]) -> Probe:
@@ -24,7 +26,16 @@ class Board:
         return Probe(pulse, tape, say)
 
     def _pulse(self, place: Place) -> Pulse:
-        return self._pulses.setdefault(place.name, Pulse(place.frame, self._scale))
+        if place.name not in self._pulses:
+            self._pulses[place.name] = Pulse(place.frame, self._scale)
+            self._pulses[place.name].take_failed(self._failed.get(place.name))
+        return self._pulses[place.name]
+
+    def take_failed(self, failed: Dict[str, Failed]) -> None:
+        """Which orders have failed, by their lines."""
+        self._failed = failed
+        for name, one in self._pulses.items():
+            one.take_failed(failed.get(name))
 
     def data(self, places: Iterable[Place], unusable: Mapping[str, str], state: Dict[str, Any]) -> Dict[str, Any]:
         """How the lines do that are asked for or connected, with the host's state."""

@@ -2,8 +2,9 @@
 import time
 from typing import Any, Dict, List, Optional, Tuple
 
-from ..host.store import open_store
-from .pulse import clock, many, says
+from ..host.store import LineCount, open_store
+from ..orders.book import reading_book
+from .pulse import clock, many, says, says_failed
 from .ring import Piece, pieces_of
 from .unix import WatchError, ask
 from .verdicts import Verdict
@@ -28,24 +29,33 @@ class Host:
     def _of_store(self, why: str) -> Dict[str, Any]:
         store = open_store(self.store)
         try:
-            counts, held = store.counts(), store.is_held()
+            counts, held = {one.line: one for one in store.counts()}, store.is_held()
+            with reading_book(store) as book:
+                failed = book.failed(1)
         finally:
             store.close()
         lines = {}
-        for one in counts:
-            last = f", the last one at {clock(one.last)}" if one.last else ""
-            down = says(Verdict.HOST_DOWN, one.last or 0.0)
-            kept = f"{down.text}; {many(one.whole, 'whole message')}{last}"
-            lines[one.line] = {
-                "state": "bad",
-                "verdict": down.verdict.key,
-                "since": down.since,
-                "says": f"the host doesn't answer: {why}" if held else kept,
-                "advice": down.advice,
-                "connected": 0,
-                "last": one.last,
-            }
+        for name in sorted({*counts, *failed}):
+            lines[name] = self._of_line(counts.get(name), f"the host doesn't answer: {why}" if held else "")
+            if name in failed:
+                lines[name]["says"] += f"; {says_failed(failed[name]).text}"
         return {"running": False, "held": held, "why": why, "at": time.time(), "lines": lines}
+
+    @staticmethod
+    def _of_line(kept: Optional[LineCount], why: str) -> Dict[str, Any]:
+        """What the store has of a line, or why a host that runs doesn't answer."""
+        at = kept.last if kept else None
+        last = f", the last one at {clock(at)}" if at else ""
+        down = says(Verdict.HOST_DOWN, at or 0.0)
+        return {
+            "state": "bad",
+            "verdict": down.verdict.key,
+            "since": down.since,
+            "says": why or f"{down.text}; {many(kept.whole if kept else 0, 'whole message')}{last}",
+            "advice": down.advice,
+            "connected": 0,
+            "last": at,
+        }
 
     def ring(self, line: str, after: int = 0) -> Tuple[Dict[str, Any], List[Piece]]:
         """The pieces of a line's ring from this number on, and what its head says. WatchError if there are none."""

@@ -50,8 +50,9 @@ _COUNTERS = (
 )
 
 
-def metrics_of(data: Mapping[str, Any], undelivered: Mapping[str, int]) -> str:
-    """The metrics of what a host says of itself, and of how much each delivery has still to do."""
+def metrics_of(data: Mapping[str, Any], undelivered: Mapping[str, int], orders: Mapping[str, int]) -> str:
+    """The metrics of what a host says of itself, of how much each delivery has still to do, and of the orders
+    by their states."""
     out, lines = Metrics(), data["lines"]
     out.add("lislab_up", "gauge", "Whether the host answers.")
     out.sample("lislab_up", int(data["running"]))
@@ -66,6 +67,9 @@ def metrics_of(data: Mapping[str, Any], undelivered: Mapping[str, int]) -> str:
     out.add("lislab_undelivered_messages", "gauge", "Whole messages that a delivery has still to do.")
     for cursor, count in undelivered.items():
         out.sample("lislab_undelivered_messages", count, [("cursor", cursor)])
+    out.add("lislab_orders", "gauge", "Orders in the store, by their state.")
+    for state, count in orders.items():
+        out.sample("lislab_orders", count, [("state", state)])
     return out.text()
 
 

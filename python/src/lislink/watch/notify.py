@@ -4,8 +4,10 @@ import subprocess
 import threading
 from typing import Any, Callable, Dict, List, Mapping, Tuple
 
-#: How long a command has, in seconds.
-SECONDS = 60.0
+from .verdicts import Verdict
+
+#: How long a command has, in seconds; what may be bad until somebody does something about it.
+SECONDS, _STAYS = 60.0, Verdict.FAILED_ORDERS.key
 
 
 class Notifier:
@@ -29,11 +31,13 @@ class Notifier:
         if not data["running"]:
             lines[""]["says"] = "the host doesn't answer" if data["held"] else "the host isn't running"
         for name, one in lines.items():
-            is_bad = one["state"] == "bad"
-            if is_bad and self._bad.get(name) is None:
+            is_bad, before = one["state"] == "bad", self._bad.get(name)
+            if is_bad:
+                # Orders that have failed may stay for days: what else goes wrong meanwhile is worth a run of its own.
+                if before is None or (before == _STAYS and one["verdict"] != _STAYS):
+                    self._add(name, "bad", one["verdict"], one["says"])
                 self._bad[name] = one["verdict"]
-                self._add(name, "bad", one["verdict"], one["says"])
-            elif not is_bad and self._bad.pop(name, None) is not None:
+            elif self._bad.pop(name, None) is not None:
                 self._add(name, "good", one["verdict"], one["says"])
 
     def _add(self, name: str, state: str, verdict: str, says: str) -> None:

@@ -11,6 +11,7 @@ from ..field.page import rows_of
 from ..host.export import time_text
 from ..host.store import WHOLE, Stored
 from ..message import KINDS, NAMES, Fault, Found, read_all
+from ..orders.book import Failed
 from . import plot
 from .pulse import PAST, many
 from .tally import DAY, HOUR, Head, Tally, share
@@ -169,6 +170,7 @@ class LineData(NamedTuple):
 
     heads: Sequence[Head]
     trouble: Sequence[Head]
+    failed: Optional[Failed]
     rows: str
 
 
@@ -195,7 +197,7 @@ def line_page(name: str, one: Mapping[str, Any], tally: Tally, more: LineData) -
 {past_table([(name, *each) for each in one.get("past", [])])}
 <h2>Since the host started</h2><table>{cells}</table></section>
 <h2>From the first byte to kept</h2>{_took(tally.took(name))}{_plots(tally, name)}
-<h2>Unfinished and unreadable messages</h2>{heads_table(more.trouble)}
+{failed_table(more.failed)}<h2>Unfinished and unreadable messages</h2>{heads_table(more.trouble)}
 <h2>Last messages</h2>{heads_table(more.heads)}
 <h2>The last bytes of the line</h2><section data-live="ladder"><div class="wide">{more.rows}</div></section>"""
     return page(name if name.isprintable() else repr(name), body, True)
@@ -228,6 +230,20 @@ def heads_table(found: Sequence[Head]) -> str:
     )
     head = "<tr><th>message</th><th>time</th><th>line</th><th>state</th><th>reason</th><th>bytes</th></tr>"
     return f'<div class="wide"><table>{head}{rows}</table></div>' if rows else "<p>There is none.</p>"
+
+
+def failed_table(found: Optional[Failed]) -> str:
+    """The last orders of a line that have failed, if some have."""
+    if found is None:
+        return ""
+    rows = "".join(
+        f"<tr><td>{one.number}</td><td>{when(one.changed)}</td><td>{safe(one.order.sample, 200)}</td>"
+        f"<td>{safe(' '.join(one.order.tests), 200)}</td><td>{one.tries}</td><td>{safe(one.reason)}</td></tr>"
+        for one in found.newest
+    )
+    head = "<tr><th>order</th><th>time</th><th>sample</th><th>tests</th><th>tried</th><th>reason</th></tr>"
+    note = f'<p class="note">{many(found.many, "order")}; these are the last ones.</p>'
+    return f'<h2>Orders that failed</h2><div class="wide"><table>{head}{rows}</table></div>{note}'
 
 
 def trouble_page(found: Sequence[Head]) -> str:

@@ -11,6 +11,7 @@ from ..host.notices import Watch
 from ..host.store import WHOLE, End, StoreError
 from ..host.tape import Tape
 from ..link import FrameFault, Note, Step
+from ..orders.book import Failed
 from .ring import Ring
 from .verdicts import BAD, GOOD, SENDER_WRONG, Verdict
 
@@ -89,10 +90,16 @@ def many(count: int, name: str) -> str:
 
 def says(verdict: Verdict, since: float, count: int = 0, **values: Any) -> Says:
     """What a verdict says of a line."""
-    told = {f"{name}s": many(count, name) for name in ("frame", "byte", "message")}
+    told = {f"{name}s": many(count, name) for name in ("frame", "byte", "message", "order")}
     told["times"] = "once" if count == 1 else f"{count} times"
     told.update({"since": clock(since), **values})
     return Says(verdict, since, verdict.live.format(**told), verdict.advice.format(**told))
+
+
+def says_failed(found: Failed) -> Says:
+    """What is said of a line's orders that have failed: no word of a patient."""
+    last = found.newest[0]
+    return says(Verdict.FAILED_ORDERS, found.since, found.many, why=f"{last.number}: {last.reason}")
 
 
 class Pulse:
@@ -105,6 +112,8 @@ class Pulse:
         #: What was bad and is over: since when, until when, and what was said of it.
         self.past: "Deque[Tuple[float, float, str]]" = deque(maxlen=PAST)
         self.probes: "List[Probe]" = []
+        #: What is said of orders that have failed, as long as there are some.
+        self._failed: Optional[Says] = None
         #: How many connections there were; sessions in a row that had no byte between ENQ and EOT.
         self.connections = self.polls = 0
         #: When a frame was accepted last, by the clock that only goes on.
@@ -140,9 +149,23 @@ class Pulse:
         looks = {"frames": self._frames, "echo": self._echo}
         return looks[kind]() if kind in looks else self._of(kind)
 
+    def take_failed(self, found: Optional[Failed]) -> None:
+        """Which orders of the line have failed. If none has any more, that some had is remembered."""
+        if found is None:
+            self.remember(self._failed)
+        self._failed = says_failed(found) if found else None
+
     def says(self, unusable: str = "", is_called: bool = False) -> Says:
         """What is said of the line now; `unusable` is why its device can't be had, or it can't be connected to, if that
-        is so."""
+        is so. Orders that have failed are named as long as nobody did something about them, whatever else is wrong."""
+        found, failed = self._says(unusable, is_called), self._failed
+        if failed is None or found.state != BAD:
+            return failed or found
+        advice = "; ".join(one.advice for one in (found, failed) if one.advice)
+        return found._replace(text=f"{found.text}; {failed.text}", advice=advice)
+
+    def _says(self, unusable: str, is_called: bool) -> Says:
+        """The same of all but orders that have failed."""
         if unusable:
             verdict = Verdict.NO_CONNECTION if is_called else Verdict.NO_DEVICE
             return says(verdict, self.begun, why=unusable)

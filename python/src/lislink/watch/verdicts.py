@@ -472,6 +472,13 @@ class Verdict(enum.Enum):
         "`lislab export --state all` shows them; an analyzer may not send them again",
         "{messages} since {since} can't be delivered, the last one is {why}",
     )
+    FAILED_ORDERS = (
+        "failed-orders",
+        BAD,
+        "",
+        "`lislab order list --state failed` shows them: `lislab order again` sends one anew, `cancel` gives it up",
+        "{orders} failed since {since}, the last one is order {why}",
+    )
     HOST_DOWN = ("host-down", BAD, "", "start it: lislab serve", "the host isn't running")
     GOES_ON = ("goes-on", GOOD, "", "", "a session goes on, {frames} since {since}")
     WHOLE = ("whole", GOOD, "", "", "last message {ago} ago")

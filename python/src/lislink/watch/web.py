@@ -1,6 +1,7 @@
 """The server of `lislab watch --http`: read only, on loopback unless somebody else is named who may look and a token is
 set. The standard library's server is enough: a thread a request, and few who look."""
 import base64
+import contextlib
 import hmac
 import ipaddress
 import os
@@ -15,14 +16,15 @@ from ..field.ladder import Ladder
 from ..host.deliver import read_took
 from ..host.options import Network, is_allowed, is_loopback
 from ..host.store import StoreError
+from ..orders.book import STATES, reading_book
 from . import metrics, page, tally
 from .client import Host
 from .ring import capture_of
 from .unix import WatchError
 
 #: How long a request may take to come, in seconds; how many are served at once; how old what is shown may be; how many
-#: bytes of a line are drawn.
-SECONDS, AT_ONCE, FRESH, DRAWN = 10.0, 16, 1.0, 16 << 10
+#: bytes of a line are drawn, and how many of its messages and orders are listed.
+SECONDS, AT_ONCE, FRESH, DRAWN, LISTED = 10.0, 16, 1.0, 16 << 10, 20
 HEADS = (
     ("Content-Security-Policy", "default-src 'none'; style-src 'self'; script-src 'self'; connect-src 'self'; "
      "img-src data:; base-uri 'none'; form-action 'none'; frame-ancestors 'none'"),
@@ -92,11 +94,13 @@ class Pages:
         if one is None:
             return Answer(404, HTML, page.page("There is no such line", ""))
 
-        def work(store: Any) -> Tuple[List[tally.Head], List[tally.Head]]:
-            return tally.last_heads(store, name, 20), tally.not_whole(store, name, 20)
+        def work(store: Any) -> page.LineData:
+            with reading_book(store) as book:
+                failed = book.failed(LISTED).get(name)
+            kept = (tally.last_heads(store, name, LISTED), tally.not_whole(store, name, LISTED))
+            return page.LineData(*kept, failed, self._ladder(name))
 
-        heads, trouble = tally.each(self.host.store, work)
-        more = page.LineData(heads, trouble, self._ladder(name))
+        more = tally.each(self.host.store, work)
         return Answer(200, HTML, page.line_page(name, one, self.tally, more))
 
     def _ladder(self, name: str) -> str:
@@ -128,11 +132,15 @@ class Pages:
         return Answer(200, HTML, page.message_page(found))
 
     def _metrics(self, _: Dict[str, str]) -> Answer:
-        def work(store: Any) -> Dict[str, int]:
-            return {cursor: tally.undelivered(store, cursor) for cursor in self._cursors}
+        def work(store: Any) -> Tuple[Dict[str, int], Dict[str, int]]:
+            left = {cursor: tally.undelivered(store, cursor) for cursor in self._cursors}
+            with reading_book(store) as book:
+                return left, {**dict.fromkeys(STATES, 0), **book.counts()}
 
-        left = tally.each(self.host.store, work) if self._cursors else {}
-        return Answer(200, metrics.FORM, metrics.metrics_of(self.data(), left))
+        data, counts = self.data(), ({}, {})  # type: Dict[str, Any], Tuple[Dict[str, int], Dict[str, int]]
+        with contextlib.suppress(StoreError):  # what the host says is worth more than none
+            counts = tally.each(self.host.store, work)
+        return Answer(200, metrics.FORM, metrics.metrics_of(data, *counts))
 
     def _style(self, _: Dict[str, str]) -> Answer:
         return Answer(200, CSS, page.STYLE)

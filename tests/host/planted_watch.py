@@ -1,0 +1,32 @@
+"""Faults in what shows how a host does (`planted.py`): in this file of lislink, this text becomes that."""
+
+FAULTS = {
+    "test_failed.NamedOfSqlite.test_named": ("watch/pulse.py", "return failed or found", "return found"),
+    "test_failed.NamedOfSpool.test_named": ("watch/client.py", "book.failed(1)", "{}"),
+    "test_failed.NamedOfPostgres.test_named": (
+        "orders/order.py", "error.object[error.start]!r}", "error.object[error.start : error.end]!r}"
+    ),
+    "test_failed.Ways.test_ways": ("host/outbox.py", "        if mark != self._failed:", "        if not mark:"),
+    "test_failed.Ways.test_many": (
+        "host/status.py", 'found["count"] - len(found["newest"])', 'found["count"] - NAMED'
+    ),
+    "test_failed.Ways.test_notify": (
+        "watch/notify.py", "                self._bad[name] = one", "                self._bad[name] = before or one"
+    ),
+    "test_failed.Ways.test_pages": (
+        "watch/page.py", "<td>{one.tries}</td><td>{safe(one.reason)}", "<td>{one.tries}</td><td>{one.reason}"
+    ),
+    "test_failed.Ways.test_help": ("orders/commands.py", ", epilog=_STATES", ""),
+    "test_failed.Ways.test_queries": (
+        "host/status.py", 'for one in ("connected", "queries",', 'for one in ("connected", "whole",'
+    ),
+    "test_orders.SqliteBooks.test_failed": (
+        "orders/book.py", "asked = line if state == FAILED else asked", "asked = asked"
+    ),
+    "test_orders.SpoolBooks.test_failed": (
+        "orders/book.py", "ORDER BY changed DESC, number DESC) AS", "ORDER BY changed, number DESC) AS"
+    ),
+    "test_orders_postgres.PostgresBooks.test_failed": (
+        "orders/book.py", "min(changed) {part})", "max(changed) {part})"
+    ),
+}
