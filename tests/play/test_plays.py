@@ -135,7 +135,8 @@ class Plays(kit.Test):
             file.write(b"play 1\n> ENQ\n< ACK\n> EOT\nend\n")
         begun = time.monotonic()
         ran = play(file.name, "--to", "127.0.0.1:9", "--within", "0.2")
-        self.same("nobody is there", (ran.status, ran.lines), (3, ["steps 0 differences 0"]))
+        self.same("nobody is there", (ran.status, ran.lines), (3, ["steps 0 differences 0, and the play stopped"]))
+        self.has("and it is said", ran.error, "the line failed: can't connect to 127.0.0.1:9: Connection refused")
         self.check(time.monotonic() - begun < 3, "it gives up in time")
         ran = play(file.name, "--listen", "0", "--within", "0.2")
         self.same("nobody connects", (ran.status, "nobody connected" in ran.error), (3, True))
@@ -149,7 +150,8 @@ class Plays(kit.Test):
         for words in (["--kept", "false"], ["--kept", "/nonsense"], ["--store", "/nonsense.db"],
                       ["--store", "spool:/nonsense"]):
             ran = play(scripts("results")[0], "--to", f"127.0.0.1:{Plain(self).port}", *words)
-            self.same(f"{words}", (ran.status, ran.lines), (3, ["steps 0 differences 0"]))
+            self.same(f"{words}", (ran.status, ran.lines), (3, ["steps 0 differences 0, and the play stopped"]))
+            self.has(f"{words}: it is said", ran.error, "lislab: what is kept can't be looked at: --")
 
     def test_closed(self):
         """A host that closes the line in place of a reply; the play goes on at the next session."""

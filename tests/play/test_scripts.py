@@ -207,7 +207,12 @@ class Wanted(kit.Test):
         found = [one.hear(unit) for unit in heard]
         self.same("replies", [reply for reply, _ in found], [b"\6", b"\6", b"\x15", b"\x15", b"\x15", b"\6"])
         self.same("what differs", [len(some) for _, some in found], [0, 0, 1, 1, 1, 0])
-        self.same("an order that is missing", one.hear(b"\4"), (b"", [("frames@order=S2", "EOT")]))
+        self.same("an order that is missing", one.hear(b"\4"), (b"", [('order="S2"', 'order="S1"')]))
+        self.same("no order", Session(Frames(b"S 2"), Marks(), None).hear(b"\4")[1], [('order="S 2"', "order=-")])
+        many = Session(Frames(b"S"), Marks(), None)
+        many.hear(made(1, b"".join(b"O|1|S%d\r" % at for at in range(30)), True))
+        wanted = "order=" + ",".join(f'"S{at}"' for at in range(20)) + ",.."
+        self.same("many orders", many.hear(b"\4")[1], [('order="S"', wanted)])
         self.check(one.is_over, "EOT belongs to it")
         other = Session(Frames(b"S2"), Marks(), 7)
         self.same("it goes on after number 7", other.hear(made(0, b"O|1|S2\r", True)), (b"\6", []))
@@ -219,6 +224,11 @@ class Wanted(kit.Test):
                             (b"H!~@$!!\rO!1!S1@7\r", True)):
             found = differences(AnyUnit(b"S1"), made(1, record, True), marks)
             self.same(f"an order for S1 in {record!r}", not found, has)
+            came = "order=-" if record[:1] == b"R" else 'order="S10"'
+            self.same(f"what differs in {record!r}", found, [] if has else [('order="S1"', came)])
+        two, marks = made(1, b"O|1|S2^x\rO|2|S3\r", True), Marks()
+        self.same("two orders", differences(AnyUnit(b"S1"), two, marks), [('order="S1"', 'order="S2^x","S3"')])
+        self.same("no frame", differences(AnyUnit(b"S1"), b"\6", marks), [('order="S1"', "ACK")])
 
     def test_any_text(self):
         for text, form, holds in ((b"abc", b"a..", True), (b"abc", b"..", True), (b"abc", b"..c", True),

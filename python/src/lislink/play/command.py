@@ -216,8 +216,10 @@ def _play(
     begun = time.time()
     try:
         outcome = player.play()
-    except (LineFailed, kept.NotKept) as error:
-        outcome = player.failed(str(error))
+    except LineFailed as error:
+        outcome = player.failed(f"the line failed: {error}")
+    except kept.NotKept as error:
+        outcome = player.failed(f"what is kept can't be looked at: {error}")
     end.close()
     _print(play.name, outcome, is_one)
     return Played(play.name, play.script.about, own, end.own, end.other, begun, time.time() - begun, outcome)
@@ -229,11 +231,12 @@ def _print(name: str, outcome: Outcome, is_one: bool) -> None:
         print(f"difference {line or 'end'} {wanted} {got}")
     where = "" if is_one else f"{name}: "
     if outcome.failed:
-        _say(f"{where}the line failed: {outcome.failed}")
+        _say(f"{where}{outcome.failed}")
     elif outcome.skipped:
         _say(f"{where}not played: line {ranges(outcome.skipped)}")
     head = "" if is_one else f"{name} "
-    print(f"{head}steps {outcome.steps} differences {len(outcome.differences)}", flush=True)
+    stopped = ", and the play stopped" if outcome.failed else ""
+    print(f"{head}steps {outcome.steps} differences {len(outcome.differences)}{stopped}", flush=True)
 
 
 def _write(ask: argparse.Namespace, played: List[Played]) -> None:

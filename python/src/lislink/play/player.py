@@ -38,7 +38,7 @@ class Event(NamedTuple):
 
 
 class Outcome(NamedTuple):
-    """How a play went: its events, its steps, the lines that weren't played, and why the line failed."""
+    """How a play went: its events, its steps, the lines that weren't played, and why it stopped, if it did."""
 
     events: List[Event]
     steps: int
@@ -125,7 +125,7 @@ class Player:
         return Outcome(self.events, len(set(self._played)), sorted(set(skipped) - set(self._played)))
 
     def failed(self, why: str) -> Outcome:
-        """How it went until the line failed."""
+        """How it went until it stopped."""
         left = sorted({step.line for step in self._steps} - set(self._played))
         return Outcome(self.events, len(set(self._played)), left, why)
 

@@ -43,7 +43,7 @@ def _section(one: Played, anchors: str) -> Iterator[str]:
     yield f"<b>{len(found)}</b> differences</span><span>played as the {end} from {escaped(one.own or '-')}</span>"
     yield f"<span>at the other end {escaped(one.other or '-')}</span><span>{_clock(one.begun)}</span></div>"
     if outcome.failed:
-        yield f'<p class="look bad">The line failed: {escaped(outcome.failed)}</p>'
+        yield f'<p class="look bad">The play stopped: {escaped(outcome.failed)}</p>'
     for line, (wanted, got) in found:
         where = f'<a href="#{anchors}{line}">line {line}</a>' if line else "the end"
         yield f'<div class="look bad" data-difference="{line}">At {where}: wanted <code>{escaped(wanted)}</code>, '
@@ -69,7 +69,7 @@ def _sums(plays: Sequence[Played]) -> Iterator[str]:
     for one in plays:
         count = len(one.outcome.differences)
         level = "bad" if count or one.outcome.failed else ""
-        end = ", the line failed" if one.outcome.failed else ""
+        end = ", and the play stopped" if one.outcome.failed else ""
         yield f'<tr class="{level}"><td><a href="#{escaped(one.name)}">{escaped(one.name)}</a></td>'
         yield f"<td>{one.outcome.steps}</td><td>{count}{end}</td></tr>"
     yield "</tbody></table>"

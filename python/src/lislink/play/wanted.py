@@ -9,6 +9,8 @@ from .frames import ACK, EOT, NAK, checksum, made, quoted, read_frame, shown
 Difference = Tuple[str, str]
 #: What any text fits.
 ANY = b".."
+#: The most samples that are named of orders that came.
+SAMPLES = 20
 
 
 class Exact(NamedTuple):
@@ -80,14 +82,23 @@ def records_of(text: bytes) -> List[bytes]:
     return found[:-1] if found[-1] == b"" else found
 
 
-def orders_of(text: bytes, marks: Marks) -> Iterator[bytes]:
-    """The samples of the orders in a text: field 3, whole and its first component."""
+def samples_of(text: bytes, marks: Marks) -> Iterator[bytes]:
+    """The samples of the orders in a text: field 3 of each."""
     for record in records_of(text):
         marks.heed(record)
         fields = record.split(marks.field)
-        if record[:1] in (b"O", b"o") and len(fields) > 2:
-            yield fields[2]
-            yield from fields[2].split(marks.component)[:2]
+        if record[:1] in (b"O", b"o"):
+            yield fields[2] if len(fields) > 2 else b""
+
+
+def is_for(order: bytes, samples: Sequence[bytes], marks: Marks) -> bool:
+    """Whether one of these orders is for a sample: the whole field, or its first or second component."""
+    return any(order in (one, *one.split(marks.component)[:2]) for one in samples)
+
+
+def ordered(samples: Sequence[bytes]) -> str:
+    """The samples of orders in one word: the first ones."""
+    return "order=" + (",".join(map(quoted, samples[:SAMPLES])) or "-") + (",.." if len(samples) > SAMPLES else "")
 
 
 def is_like(text: bytes, form: bytes) -> bool:
@@ -180,8 +191,9 @@ def differences(wanted: Unit, got: bytes, marks: Marks) -> List[Difference]:
         return [] if wanted.data == got else [(shown(wanted.data), shown(got))]
     if isinstance(wanted, AnyUnit) and wanted.order:
         frame = read_frame(got)
-        if frame is None or wanted.order not in orders_of(frame.text, marks):
-            return [(as_word(wanted), shown(got))]
+        samples = list(samples_of(frame.text, marks)) if frame else []
+        if not is_for(wanted.order, samples, marks):
+            return [(ordered([wanted.order]), ordered(samples) if frame else shown(got))]
     return []
 
 
@@ -193,14 +205,16 @@ class Session:
         self.last = last
         self.wanted, self._marks = wanted, marks
         self.is_over, self._has_order = False, not wanted.order
+        #: The first samples of the orders that came.
+        self._samples: List[bytes] = []
 
     def hear(self, unit: bytes) -> Tuple[bytes, List[Difference]]:
         """What is answered to a unit, and what is wrong with it."""
         frame = read_frame(unit)
         if unit == bytes([EOT]):
             self.is_over = True
-            missing = [] if self._has_order else [(as_word(self.wanted), "EOT")]
-            return b"", missing
+            missing = (ordered([self.wanted.order]), ordered(self._samples))
+            return b"", [] if self._has_order else [missing]
         if frame is None:
             return bytes([NAK]), [("frame", shown(unit))]
         if frame.number == self.last:
@@ -209,5 +223,7 @@ class Session:
         if frame.number != due:
             return bytes([NAK]), [(f"number={due}", f"number={frame.number}")]
         self.last = frame.number
-        self._has_order |= self.wanted.order in orders_of(frame.text, self._marks)
+        samples = list(samples_of(frame.text, self._marks))
+        self._has_order |= is_for(self.wanted.order, samples, self._marks)
+        self._samples += samples[: SAMPLES + 1 - len(self._samples)]
         return bytes([ACK]), []

@@ -93,7 +93,8 @@ class End:
                 return socket.create_connection(self._place, max(left, 0.1))
             except OSError as error:
                 if left < 0.1 or not isinstance(error, ConnectionError):
-                    raise LineFailed(f"{self._place.host}:{self._place.port}: {error.strerror or error}") from None
+                    where = f"{self._place.host}:{self._place.port}"
+                    raise LineFailed(f"can't connect to {where}: {error.strerror or error}") from None
                 time.sleep(0.05)
 
     def _accepted(self) -> socket.socket:
