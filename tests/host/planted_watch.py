@@ -20,6 +20,9 @@ FAULTS = {
     "test_failed.Ways.test_queries": (
         "host/status.py", 'for one in ("connected", "queries",', 'for one in ("connected", "whole",'
     ),
+    "test_names.Names.test_watch": ("watch/board.py", "    look()  # a line", "    pass  # a line"),
+    "test_names.Names.test_page": ("watch/web.py", "page.no_line_page(lines)", "page.no_line_page([])"),
+    "test_names.Names.test_export": ("host/commands.py", "if is_named or ask.line in names:", "if is_named or names:"),
     "test_orders.SqliteBooks.test_failed": (
         "orders/book.py", "asked = line if state == FAILED else asked", "asked = asked"
     ),

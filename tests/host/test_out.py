@@ -136,7 +136,6 @@ class OutOf:
             (["--since", "2999-01-01"], 0),
             (["--since", "2001-01-01"], 3),
             (["--after", first], 2),
-            (["--line", "other"], 0),
             (["--line", "fire"], 3),
             (["--state", "unfinished"], 0),
             (["--state", "all"], 3),
@@ -145,6 +144,9 @@ class OutOf:
             self.same(f"export {' '.join(words[:2])}", len(self.export(*words).splitlines()), wanted)
         bad = lislab("export", "--store", self.store, "--since", "x")
         self.same("a time that is none", bad.returncode, 2)
+        bad = lislab("export", "--store", self.store, "--line", "other")
+        self.same("a line that isn't there", (bad.returncode, bad.stdout), (1, ""))
+        self.has("those that there are", bad.stderr, "there is no line other, but fire\n")
 
     def export(self, *words):
         """What an export writes."""

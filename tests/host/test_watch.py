@@ -399,7 +399,8 @@ class Watch(HostTest):
             with socket.socket(socket.AF_UNIX) as one, contextlib.suppress(OSError):
                 one.connect(path)
                 one.sendall(question)
-        self.raises("a line that isn't there", WatchError, lambda: ask(path, ask="ring", line="no"))
+        with self.assertRaisesRegex(WatchError, "there is no line no, but fire$"):
+            ask(path, ask="ring", line="no")
         idle = []
         for _ in range(40):
             idle.append(socket.socket(socket.AF_UNIX))

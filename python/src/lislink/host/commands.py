@@ -14,7 +14,7 @@ from typing import Any, Callable, ContextManager, Iterator, List, Optional, Sequ
 from .._library import calls
 from ..field.table import form_of
 from ..orders.book import open_book
-from ..watch.unix import socket_of
+from ..watch.unix import shown, socket_of
 from . import asker, export, lines, options, send, serve, status
 from .outbox import Outbox
 from .files import Output, writing
@@ -363,11 +363,17 @@ def run_export(ask: argparse.Namespace) -> int:
     try:
         with _output(ask.output) as out:
             out.write(write(None))
+            is_named = ask.line is None
             for one in export.wanted_of(store, wanted):
                 out.write(write(one))
+                is_named = True
+        names = [] if is_named else [one.line for one in store.counts()]
     finally:
         store.close()
-    return GOOD
+    if is_named or ask.line in names:
+        return GOOD
+    say(f"{ask.store}: {shown(options.no_line(ask.line, names))}")
+    return WRONG
 
 
 def _output(path: Optional[str]) -> ContextManager[Output]:

@@ -2,7 +2,7 @@
 import codecs
 import ipaddress
 import re
-from typing import Any, Callable, Dict, List, NamedTuple, Sequence, Tuple, TypeVar, Union
+from typing import Any, Callable, Dict, Iterable, List, NamedTuple, Sequence, Tuple, TypeVar, Union
 
 from ..link import FRAME_TEXT, LONG_FRAME_TEXT
 from .mend import NAMES, SAME
@@ -192,6 +192,12 @@ def check_settings(place: Place) -> None:
     """Settings that don't go together."""
     if place.link and place.orders:
         raise OptionError(f"a line with link={place.link} sends no orders: its sessions have no station")
+
+
+def no_line(name: str, names: Iterable[str]) -> str:
+    """That there is no line of a name, and which ones there are."""
+    found = ", ".join(sorted(names))
+    return f"there is no line {name}" + (f", but {found}" if found else "")
 
 
 def split_address(word: str) -> Tuple[str, int]:

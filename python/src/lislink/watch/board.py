@@ -3,7 +3,7 @@ import json
 import time
 from typing import Any, Callable, Dict, Iterable, Mapping, Optional
 
-from ..host.options import Connect, Place
+from ..host.options import Connect, Place, no_line
 from ..host.tape import Tape
 from ..orders.book import Failed
 from .pulse import Probe, Pulse, Says
@@ -74,9 +74,12 @@ class Board:
         def answer(asked: Dict[str, Any]) -> bytes:
             if asked.get("ask") == "lines":
                 return json.dumps(look()).encode() + b"\n"
-            one = self._pulses.get(str(asked.get("line")))
+            name = str(asked.get("line"))
+            if name not in self._pulses:
+                look()  # a line that nobody connected to, and nobody asked for, is known then
+            one = self._pulses.get(name)
             if asked.get("ask") != "ring" or one is None:
-                return json.dumps({"error": "there is no such line"}).encode() + b"\n"
+                return json.dumps({"error": no_line(name, self._pulses)}).encode() + b"\n"
             first, held = one.ring.after(int(asked.get("after", 0)))
             head = {"first": first, "next": one.ring.next, "frame": one.frame, "size": len(held), "at": time.time()}
             return json.dumps(head).encode() + b"\n" + held

@@ -6,7 +6,7 @@ from ..host.store import LineCount, open_store
 from ..orders.book import reading_book
 from .pulse import clock, many, says, says_failed
 from .ring import Piece, pieces_of
-from .unix import WatchError, ask
+from .unix import WatchError, ask, shown
 from .verdicts import Verdict
 
 
@@ -68,11 +68,6 @@ class Host:
 def is_bad(data: Dict[str, Any]) -> bool:
     """Whether a line is bad, or the host doesn't run."""
     return not data["running"] or any(one["state"] == "bad" for one in data["lines"].values())
-
-
-def shown(text: str) -> str:
-    """Text for a terminal: what isn't printed there is shown by its number."""
-    return "".join(one if one.isprintable() else f"\\x{ord(one):02x}" for one in text)
 
 
 def rows_of(data: Dict[str, Any]) -> List[str]:

@@ -17,7 +17,7 @@ from ..host.store import StoreError
 from . import client
 from .client import Host
 from .notify import Notifier
-from .unix import WatchError, socket_of
+from .unix import WatchError, shown, socket_of
 from .web import Asked, Pages, Server, token_of
 
 #: Exit statuses, as those of the other commands.
@@ -35,7 +35,7 @@ def add_command(commands: Any) -> None:
     one.add_argument("--status", metavar="FILE", help="where the host writes its state (STORE.status)")
     one.add_argument("--once", action="store_true", help="print once; status 1 if a line is bad")
     one.add_argument("--every", type=float, default=2.0, metavar="SECONDS", help="how often it looks (%(default)s)")
-    one.add_argument("--line", metavar="NAME", help="the ladder of a line as it goes")
+    one.add_argument("--line", metavar="NAME", help="the ladder of a line as it goes, the oldest row first")
     one.add_argument("--save", metavar="FILE", help="with --line: write its last bytes as a capture, and end")
     one.add_argument("--notify", metavar="COMMAND", help="run once when a line turns bad, once when it is good again")
     one.add_argument("--http", metavar="HOST:PORT", help="serve pages for a browser, and /metrics")
@@ -126,8 +126,8 @@ def _serve(host: Host, ask: argparse.Namespace, every: float) -> int:
     server, notifier = Server(asked, pages), _notifier(ask)
     address, port = server.server_address[:2]
     threading.Thread(target=server.serve_forever, name="pages", daemon=True).start()
-    shown = f"[{address!s}]" if ":" in str(address) else str(address)
-    announce(f"listening http://{shown}:{port}/")
+    where = f"[{address!s}]" if ":" in str(address) else str(address)
+    announce(f"listening http://{where}:{port}/")
     said = ""
     while True:
         try:
@@ -187,7 +187,7 @@ def rows_as_they_come(host: Host, line: str, every: float) -> Iterator[str]:
         except WatchError as error:
             if ladder is None:
                 raise
-            yield f"-- {client.shown(str(error))}"
+            yield f"-- {shown(str(error))}"
             time.sleep(every)
             after = 0
             continue

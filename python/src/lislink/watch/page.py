@@ -132,6 +132,12 @@ def lines_page(data: Mapping[str, Any], tally: Tally, delivered: Mapping[str, Se
     return page("Lines", live + why + _plots(tally, None) + "".join(took), True)
 
 
+def no_line_page(names: Iterable[str]) -> str:
+    """There is no line of the name that was asked for: those that there are."""
+    rows = "".join(f"<p>{link('/line', name, name=name)}</p>" for name in names)
+    return page("There is no such line", rows)
+
+
 def past_table(past: Sequence[Any]) -> str:
     """What was bad and is over, the last first: of which line, since when, until when, and why."""
     if not past:
@@ -198,8 +204,9 @@ def line_page(name: str, one: Mapping[str, Any], tally: Tally, more: LineData) -
 <h2>Since the host started</h2><table>{cells}</table></section>
 <h2>From the first byte to kept</h2>{_took(tally.took(name))}{_plots(tally, name)}
 {failed_table(more.failed)}<h2>Unfinished and unreadable messages</h2>{heads_table(more.trouble)}
-<h2>Last messages</h2>{heads_table(more.heads)}
-<h2>The last bytes of the line</h2><section data-live="ladder"><div class="wide">{more.rows}</div></section>"""
+<h2>Last messages, the newest first</h2>{heads_table(more.heads)}
+<h2>The last bytes of the line, the oldest first</h2>
+<section data-live="ladder"><div class="wide">{more.rows}</div></section>"""
     return page(name if name.isprintable() else repr(name), body, True)
 
 

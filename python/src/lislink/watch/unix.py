@@ -18,6 +18,11 @@ class WatchError(Exception):
     """A host that runs can't be looked at."""
 
 
+def shown(text: str) -> str:
+    """Text for a terminal: what isn't printed there is shown by its number."""
+    return "".join(one if one.isprintable() else f"\\x{ord(one):02x}" for one in text)
+
+
 def socket_of(status: Optional[str]) -> Optional[str]:
     """Where the socket of a host is: next to its state; None if that has no file."""
     if status is None:
@@ -94,5 +99,5 @@ def ask(path: str, **asked: Any) -> Tuple[Dict[str, Any], bytes]:
     except ValueError:
         raise WatchError(f"{path}: the host gave no answer") from None
     if "error" in told:
-        raise WatchError(str(told["error"]))
+        raise WatchError(shown(str(told["error"])))
     return told, rest

@@ -90,9 +90,10 @@ class Pages:
 
     def _line(self, given: Dict[str, str]) -> Answer:
         name = given.get("name", "")
-        one = self.data()["lines"].get(name)
+        lines = self.data()["lines"]
+        one = lines.get(name)
         if one is None:
-            return Answer(404, HTML, page.page("There is no such line", ""))
+            return Answer(404, HTML, page.no_line_page(lines))
 
         def work(store: Any) -> page.LineData:
             with reading_book(store) as book:
