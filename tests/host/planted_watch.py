@@ -23,6 +23,8 @@ FAULTS = {
     "test_names.Names.test_watch": ("watch/board.py", "    look()  # a line", "    pass  # a line"),
     "test_names.Names.test_page": ("watch/web.py", "page.no_line_page(lines)", "page.no_line_page([])"),
     "test_names.Names.test_export": ("host/commands.py", "if is_named or ask.line in names:", "if is_named or names:"),
+    "test_advice.Advice.test_advice": ("watch/verdicts.py", "count >= _SURE", "count >= 1"),
+    "test_advice.Advice.test_sums": ("watch/pulse.py", "self.ways & cause.ways if self.sums else", ""),
     "test_orders.SqliteBooks.test_failed": (
         "orders/book.py", "asked = line if state == FAILED else asked", "asked = asked"
     ),

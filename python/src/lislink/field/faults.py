@@ -6,7 +6,7 @@ from typing import List, NamedTuple, Optional
 
 from ..link import FRAME_TEXT, LONG_FRAME_TEXT, FrameFault, LinkError, Status, frame_bytes
 from ..records import MessageError, Reason
-from ..watch.verdicts import Verdict
+from ..watch.verdicts import Verdict, Ways
 from .endings import ending_at
 from .log import CONTROL
 
@@ -24,11 +24,17 @@ def words(data: bytes, most: int = 0) -> str:
 
 
 class Cause(NamedTuple):
-    """The likely cause of a fault in words, and for a checksum the other way to sum that gives it."""
+    """The likely cause of a fault, and its words for a person."""
 
     verdict: Verdict
     words: str
-    way: str = ""
+    #: The other ways to sum that give its checksum.
+    ways: Ways = frozenset()
+
+    @property
+    def kind(self) -> Verdict:
+        """Its verdict; of any checksum that is wrong, that it is."""
+        return Verdict.SUM if self.ways else self.verdict
 
 
 class Sum(NamedTuple):
@@ -111,9 +117,9 @@ def _sum(body: bytes) -> Cause:
         Verdict.SUM_COMPLEMENT: -sum(body[:-3]),
         Verdict.SUM_WITH_CR: sum(body[:-3]) + 13,
     }
-    for verdict, value in ways.items():
-        if f"{value % 256:02X}" == told.found.upper():
-            return Cause(verdict, text, verdict.live)
+    found = [verdict for verdict, value in ways.items() if f"{value % 256:02X}" == told.found.upper()]
+    if found:
+        return Cause(found[0], text, frozenset(found))
     if not all(chr(one) in "0123456789abcdefABCDEF" for one in body[-3:-1]):
         return Cause(Verdict.SUM_NO_DIGITS, f"{text}: no hexadecimal digits")
     if any(one > 127 for one in body[1:-4]):

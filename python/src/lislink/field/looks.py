@@ -7,7 +7,7 @@ from typing import Any, Callable, Dict, Iterator, List, NamedTuple, Optional, Un
 from ..link import Note
 from ..message import Fault, Found
 from ..records import Reason
-from ..watch.verdicts import BAD, SENDER_WRONG, WARN, Meaning, Verdict
+from ..watch.verdicts import BAD, WARN, Meaning, Verdict, advice_on, is_way, plain_hint, way_of
 from .faults import cause_of_record, code_of
 from .ladder import Ladder, Look, Row
 from .log import SECOND
@@ -39,7 +39,7 @@ def looks_of(ladder: Ladder) -> List[Look]:
 
 def look_of(verdict: Verdict, lines: List[int], count: int = 0, **values: Any) -> Look:
     """What a verdict says of so many rows, with their first lines, or with the values that are given."""
-    said: Dict[str, Any] = {"count": count, "times": _times(count), "mends": ""}
+    said: Dict[str, Any] = {"count": count, "times": _times(count), "mends": "", "plain": ""}
     said.update({f"{name}s": _many(count, name) for name in ("frame", "byte", "answer")})
     said.update(values)
     advice = verdict.advice.format(**said)
@@ -100,7 +100,7 @@ def _no_protocol(ladder: Ladder) -> Iterator[Look]:
     elif 5 not in data and 2 not in data:
         yield look_of(Verdict.NO_PROTOCOL, [])
     elif 2 in data and not any(True for _ in ladder.units()):
-        yield look_of(Verdict.NO_UNIT, [])
+        yield look_of(Verdict.NO_UNIT, [], plain=plain_hint(data))
     elif 5 in data and 2 not in data:
         rows = [row for row in ladder.rows if row.kind == "ENQ"]
         is_acknowledged = all(row.raw == b"\x06" for row in ladder.rows if row.side == "<")
@@ -169,7 +169,7 @@ def _none_accepted(ladder: Ladder) -> Iterator[Look]:
 
 
 def _key(row: Row) -> str:
-    return row.cause.verdict.key if row.cause else ""
+    return row.cause.kind.key if row.cause else ""
 
 
 def _is_frame(row: Row) -> bool:
@@ -207,25 +207,12 @@ def _never_ended(ladder: Ladder) -> Iterator[Look]:
 
 #: Causes that are no noise: what is wrong stays, though the frame is right when it comes again.
 _KEPT = (Verdict.FLOW_CONTROL, Verdict.OUT_OF_TURN, Verdict.NO_ROOM, Verdict.MEMORY)
-#: Causes that are damage, next to frames that are right.
-_BY_DAMAGE = (
-    Verdict.SUM,
-    Verdict.SUM_NO_DIGITS,
-    Verdict.SUM_DIGITS,
-    Verdict.FORBIDDEN,
-    Verdict.SHAPE,
-    Verdict.SHORT,
-    Verdict.NUMBER,
-    Verdict.NO_CR,
-    Verdict.NO_SUM,
-)
-_DAMAGED = "other frames of the sender are right: bytes were damaged on the way; look at cable, shield and speed"
 
 
 def _bad_frames(ladder: Ladder) -> Iterator[Look]:
     frames = [row for row in ladder.units() if _is_frame(row)]
     rows = [row for row in frames if row.cause is not None and row.cause.verdict is not Verdict.LOST]
-    good = len(_frames(ladder))
+    has_good = bool(_frames(ladder))
     for kind, count in Counter(_kind(row) for row in rows).most_common():
         mine = [row for row in rows if _kind(row) is kind]
         share = f"all {count} frames" if count == len(frames) > 1 else f"{count} of {_many(len(frames), 'frame')}"
@@ -233,10 +220,9 @@ def _bad_frames(ladder: Ladder) -> Iterator[Look]:
         if kind not in _KEPT and _is_noise(frames, mine):
             yield look_of(Verdict.NOISE, _lines(mine), share=share, why=why)
         elif kind is Verdict.SUM:
-            yield _sums(mine, share, good)
+            yield _sums(mine, share, has_good)
         elif not (kind is Verdict.NO_CR and _is_telnet(ladder)):
-            look = look_of(kind, _lines(mine), share=share, why=why)
-            yield look._replace(advice=look.advice or (_DAMAGED if good and kind in _BY_DAMAGE else SENDER_WRONG))
+            yield look_of(kind, _lines(mine), share=share, why=why)._replace(advice=advice_on(kind, has_good))
 
 
 def _is_noise(frames: List[Row], rows: List[Row]) -> bool:
@@ -248,18 +234,22 @@ def _is_noise(frames: List[Row], rows: List[Row]) -> bool:
 def _kind(row: Row) -> Verdict:
     """Why a frame is rejected; that its checksum is wrong, even if it is right by another way to sum."""
     assert row.cause is not None
-    return Verdict.SUM if row.cause.way and row.checksum is not None else row.cause.verdict
+    return row.cause.kind if row.checksum is not None else row.cause.verdict
 
 
-def _sums(rows: List[Row], share: str, good: int) -> Look:
-    """Wrong checksums: another way to sum where no frame at all is right."""
-    ways = {row.cause.way for row in rows if row.cause}
-    first = rows[0].cause
-    assert first is not None
-    if good == 0 and len(ways) == 1 and first.way:
-        return look_of(first.verdict, _lines(rows), share=share, why=f"{first.words}; {first.way}")
-    look = look_of(Verdict.SUM, _lines(rows), share=share, why=first.words)
-    return look._replace(advice=_DAMAGED if good else "the sender sums otherwise, or bytes were damaged on the way")
+def _sums(rows: List[Row], share: str, has_good: bool) -> Look:
+    """Wrong checksums: by which other way all are right, or, if there are several ways, how often each."""
+    causes = [row.cause for row in rows if row.cause is not None]
+    way, why = way_of(cause.ways for cause in causes), causes[0].words
+    advice = advice_on(Verdict.SUM, has_good, way, len(rows))
+    if way is not None and is_way(way, len(rows), has_good):
+        return look_of(way, _lines(rows), share=share, why=f"{why}; {way.live}")._replace(advice=advice)
+    times = Counter(cause.verdict for cause in causes)
+    if len(times) > 1 and not has_good:
+        ways = {one: one.live if one is not Verdict.SUM else "by no way that is known" for one in times}
+        words = [f"{_times(count)} {ways[one]}" for one, count in times.most_common(3)]
+        why += "; " + ", ".join(words) + (" and others" if len(times) > 3 else "")
+    return look_of(Verdict.SUM, _lines(rows), share=share, why=why)._replace(advice=advice)
 
 
 def _gives_up(ladder: Ladder) -> List[Row]:
@@ -276,10 +266,8 @@ def _gives_up(ladder: Ladder) -> List[Row]:
 def _how_dropped(ladder: Ladder, rows: List[Row]) -> Dict[str, Any]:
     ends = Counter("CR" if row.raw.rstrip(b"\x04").endswith(b"\r") else "other" for row in rows)
     how = " (they end in CR alone)" if ends["CR"] == len(rows) else ""
-    if all(re.match(rb"\x02[^\r\n]*[\x03]$|\x02.*\x03$", row.raw, re.S) for row in rows):
-        how += " (they end in ETX: neither checksum nor CR LF)"
-        return {"how": how, "plain": "; a host's line with `link=plain` takes these, and notices no damage"}
-    return {"how": how, "plain": ""}
+    plain = plain_hint(b"".join(row.raw for row in rows))
+    return {"how": how + (" (they end in ETX: neither checksum nor CR LF)" if plain else ""), "plain": plain}
 
 
 def _outside(ladder: Ladder) -> Iterator[Look]:

@@ -5,7 +5,7 @@ import time
 from collections import Counter, deque
 from typing import Any, Callable, Deque, Dict, List, NamedTuple, Optional, Tuple
 
-from ..field.faults import cause_of_frame
+from ..field.faults import Cause, cause_of_frame
 from ..field.looks import has_bare_frames, is_hl7, parity_of, telnet_in
 from ..host.notices import Watch
 from ..host.store import WHOLE, End, StoreError
@@ -13,7 +13,7 @@ from ..host.tape import Tape
 from ..link import FrameFault, Note, Step
 from ..orders.book import Failed
 from .ring import Ring
-from .verdicts import BAD, GOOD, SENDER_WRONG, Verdict
+from .verdicts import BAD, GOOD, Verdict, Ways, advice_on, is_way, plain_hint, way_of
 
 #: For so many seconds nothing may follow an acknowledged ENQ, and stray bytes may be without an ENQ; after so many
 #: seconds without a message a line is quiet. They are as many times as long as the timers of a test.
@@ -31,8 +31,6 @@ LOOKED_AT, TOGETHER, BESIDES = 4096, 256, 64
 BUCKETS = (0.005, 0.01, 0.025, 0.05, 0.1, 0.25, 0.5, 1.0, 2.5, 5.0, 10.0)
 #: How a disk is full, in the words of SQLite, PostgreSQL and the system.
 _FULL = re.compile("disk is full|no space left|file too large|quota exceeded", re.I)
-#: What to do if frames are too long for a line.
-_LONG = "give the line frame=63993, if the analyzer sends longer frames than the standard has"
 _SIGNALS = bytes([4, 5, 6, 0x15])
 _FRAMES = {
     Note.OUT_OF_TURN: Verdict.OUT_OF_TURN,
@@ -44,15 +42,37 @@ _FRAMES = {
 
 
 class Trouble:
-    """Something that goes wrong again and again: its verdict, since when, how often, and why."""
+    """Something that goes wrong again and again: its verdict, since when, how often, and why it was the last time."""
 
     def __init__(self, verdict: Verdict) -> None:
         self.verdict, self.since, self.count = verdict, time.time(), 0
-        #: Why, how often each; why it was the last time.
-        self.why: "Counter[str]" = Counter()
         self.last = ""
-        #: What to do, if that isn't what its verdict says.
-        self.advice = ""
+        #: What takes bytes that make no frame, if something does.
+        self.plain = ""
+        #: Why frames are rejected, how often each, in words and by kinds.
+        self.why: "Counter[str]" = Counter()
+        self.kinds: "Counter[Verdict]" = Counter()
+        #: By which other ways checksums are right, and by which all of them are.
+        self.sums: "Counter[Verdict]" = Counter()
+        self.ways: Ways = frozenset()
+
+    def reject(self, cause: Cause) -> None:
+        """A frame is rejected for this cause."""
+        self.kinds[cause.kind] += 1
+        if cause.kind is Verdict.SUM:
+            self.ways = self.ways & cause.ways if self.sums else cause.ways
+            self.sums[cause.verdict] += 1
+        else:
+            self.why[cause.words if len(self.why) < REASONS else "another reason"] += 1
+
+    def reasons(self, has_good: bool) -> "Tuple[Counter[str], str]":
+        """Why frames are rejected, and what to do, if other frames of the sender are right or not."""
+        count, way = sum(self.sums.values()), way_of([self.ways])
+        is_one, why = is_way(way, count, has_good), Counter(self.why)
+        for one, times in self.sums.items():
+            one = way if is_one and way is not None else one
+            why[f"the checksum is wrong: {one.live}" if one is not Verdict.SUM else one.live] += times
+        return why, advice_on(self.kinds.most_common(1)[0][0], has_good, way, count)
 
 
 class Says(NamedTuple):
@@ -92,8 +112,8 @@ def says(verdict: Verdict, since: float, count: int = 0, **values: Any) -> Says:
     """What a verdict says of a line."""
     told = {f"{name}s": many(count, name) for name in ("frame", "byte", "message", "order")}
     told["times"] = "once" if count == 1 else f"{count} times"
-    told.update({"since": clock(since), **values})
-    return Says(verdict, since, verdict.live.format(**told), verdict.advice.format(**told))
+    told.update({"since": clock(since), "plain": "", **values})
+    return Says(verdict, since, verdict.live.format(**told), verdict.live_advice.format(**told))
 
 
 def says_failed(found: Failed) -> Says:
@@ -127,7 +147,6 @@ class Pulse:
         """Something went wrong once more."""
         one = self.troubles.setdefault(kind, Trouble(verdict))
         one.verdict, one.count, one.last = verdict, one.count + 1, why
-        one.why[why if len(one.why) < REASONS else "another reason"] += 1
         return one
 
     def right(self, *kinds: str) -> None:
@@ -176,16 +195,18 @@ class Pulse:
     def _of(self, kind: str) -> Optional[Says]:
         """What is said of a kind of trouble, if there is some."""
         one = self.troubles.get(kind)
-        return None if one is None else says(one.verdict, one.since, one.count, why=one.last, **_parity(one.last))
+        if one is None:
+            return None
+        return says(one.verdict, one.since, one.count, why=one.last, plain=one.plain, **_parity(one.last))
 
     def _frames(self) -> Optional[Says]:
         one = self.troubles.get("frames")
         if one is None or (one.count < IN_A_ROW and "hopeless" not in self.troubles):
             return None
-        most = one.why.most_common(2)
+        reasons, advice = one.reasons(self.good_at > 0)
+        most = reasons.most_common(2)
         why = most[0][0] if len(most) == 1 else "; ".join(f"{count} times {why}" for why, count in most)
-        found = says(one.verdict, one.since, one.count, why=why)
-        return found._replace(advice=one.advice or found.advice)
+        return says(one.verdict, one.since, one.count, why=why)._replace(advice=advice)
 
     def _strange(self) -> Optional[Says]:
         """Bytes that came without a session, on a connection that has no other since."""
@@ -329,15 +350,13 @@ class Probe:
         """A frame is rejected: the reason is that of a ladder."""
         if step.note in _FRAMES:
             verdict = _FRAMES[step.note]
-            why = verdict.live.format(due=self._due)
+            cause = Cause(verdict, verdict.live.format(due=self._due))
         else:
             body = raw[raw.rfind(2) + 1 : -1]
             cause = cause_of_frame(body, FrameFault(step.detail), step.place, self._pulse.frame)
-            verdict = cause.verdict
-            why = f"the checksum is wrong: {cause.way}" if cause.way else verdict.live
-        self._pulse.rejected[verdict.key] += 1
-        one = self._pulse.wrong("frames", Verdict.NONE_ACCEPTED, why)
-        one.advice = _LONG if verdict is Verdict.LONG else verdict.advice or SENDER_WRONG
+            cause = cause._replace(words=cause.verdict.live)  # the other words have bytes of the frame
+        self._pulse.rejected[cause.verdict.key] += 1
+        self._pulse.wrong("frames", Verdict.NONE_ACCEPTED).reject(cause)
 
     def _session(self, note: Note) -> None:
         """A session begins, or is over."""
@@ -369,7 +388,7 @@ class Probe:
             if pulse.polls < EMPTY:
                 return
         one = pulse.wrong("silent", verdict, parity)
-        one.since = min(one.since, self.opened)
+        one.since, one.plain = min(one.since, self.opened), plain_hint(self._got)
 
     def _without_frame(self, is_again: bool = False) -> "tuple[Verdict, str]":
         """What is wrong with a session in which no frame came; whether ENQ came again in it."""
@@ -387,7 +406,7 @@ class Probe:
         verdict, parity = self._without_frame()
         before = self._pulse.troubles.get("silent")
         since = before.since if before else self.opened
-        return says(verdict, since, before.count if before else 1, **_parity(parity))
+        return says(verdict, since, before.count if before else 1, plain=plain_hint(self._got), **_parity(parity))
 
     def strange(self) -> Optional[Says]:
         """What is said of bytes without a session."""

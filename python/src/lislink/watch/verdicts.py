@@ -1,12 +1,18 @@
 """What bytes of a line mean, and what is wrong with a line: each has its sentence here, once. `lislab ladder` and
 `lislab watch` say the same, and nothing reads these sentences back."""
 import enum
-from typing import Any
+import re
+from typing import Any, FrozenSet, Iterable, Optional
 
 GOOD, PLAIN, WARN, BAD = "good", "plain", "warn", "bad"
 #: What to do about a frame that is rejected, if its verdict says nothing else; about a checksum by another way to sum.
-SENDER_WRONG = "the sender is wrong: a receiver must not take such a frame"
+_SENDER_WRONG = "the sender is wrong: a receiver must not take such a frame"
 _MEND_SUM = "mend the sender: a receiver must not take such a checksum"
+_DAMAGED = "other frames of the sender are right: bytes were damaged on the way; look at cable, shield and speed"
+_UNSURE = "the sender sums otherwise, or bytes were damaged on the way"
+_PLAIN = "; a host's line with `link=plain` takes these, and notices no damage"
+#: So many checksums that are right by one other way are no chance, also next to frames that are right.
+_SURE = 3
 
 
 @enum.unique
@@ -104,7 +110,7 @@ class Verdict(enum.Enum):
         "no-unit",
         BAD,
         "STX came, but no frame was ended by LF",
-        "a frame ends in ETX or ETB, two digits, CR and LF",
+        "a frame ends in ETX or ETB, two digits, CR and LF{plain}",
         "ENQ acknowledged, no frame since {since}: no LF ended one",
     )
     NO_FRAME = (
@@ -177,7 +183,8 @@ class Verdict(enum.Enum):
         "long",
         BAD,
         "{share} rejected: {why}",
-        "`lislab ladder --long` takes frames of up to 63,993 bytes, as `lislink replay --long` does",
+        "the standard has 240 bytes; up to 63,993 are taken by `frame=63993` of a host's line, `lislab ladder --long` "
+        "and `lislink replay --long`",
         "they are longer than the line takes",
     )
     SHORT = ("short", BAD, "{share} rejected: {why}", "", "there are under five bytes between STX and LF")
@@ -287,6 +294,7 @@ class Verdict(enum.Enum):
         "{frames} came while the line wasn't open: no ENQ before them, or it was given up",
         "begin the capture before ENQ; a sender must send ENQ first",
         "bytes of frames since {since}, and no ENQ before them",
+        "a sender must send ENQ first",
     )
     DROPPED = (
         "dropped",
@@ -380,6 +388,7 @@ class Verdict(enum.Enum):
         "{answers} came over 15 seconds late: the sender has given up by then",
         "a late ACK may be taken for another frame's: the sender needs a new connection",
         "{times} no reply was sent since {since}: it would have been late",
+        "keeping a text took too long: look at the disk or the database, and at the load of the machine",
     )
     SILENCE = (
         "silence",
@@ -486,5 +495,49 @@ class Verdict(enum.Enum):
     NEVER = ("never", PLAIN, "", "", "no message since the host started, {ago} ago{who}")
     AWAY = ("away", PLAIN, "", "", "nobody is connected, last message {ago} ago")
 
-    def __init__(self, key: str, level: str, sentence: str, advice: str, live: str) -> None:
+    def __init__(self, key: str, level: str, sentence: str, advice: str, live: str, live_advice: str = "") -> None:
         self.key, self.level, self.sentence, self.advice, self.live = key, level, sentence, advice, live
+        #: What to do about a line that runs: another thing only where that can do something that a capture can't.
+        self.live_advice = live_advice or advice
+
+
+#: Why a frame is rejected if damage did it, next to frames that are right.
+_BY_DAMAGE = (
+    Verdict.SUM_NO_DIGITS,
+    Verdict.SUM_DIGITS,
+    Verdict.FORBIDDEN,
+    Verdict.SHAPE,
+    Verdict.SHORT,
+)
+Ways = FrozenSet[Verdict]
+
+
+def way_of(frames: Iterable[Ways]) -> Optional[Verdict]:
+    """The other way to sum by which the checksums of all frames are right, if there is one: each has the ways by which
+    its own is."""
+    found: Optional[Ways] = None
+    for ways in frames:
+        found = ways if found is None else found & ways
+    return next((one for one in Verdict if one in found), None) if found else None
+
+
+def is_way(way: Optional[Verdict], count: int, has_good: bool) -> bool:
+    """Whether the sender sums by another way: so many checksums are right by it, and other frames of it are right or
+    not."""
+    return way is not None and (not has_good or count >= _SURE)
+
+
+def advice_on(kind: Verdict, has_good: bool, way: Optional[Verdict] = None, count: int = 0) -> str:
+    """What to do about frames that are rejected: of a ladder and of a line that runs, whose other frames are right or
+    not. Of wrong checksums it is asked by which other way all of them are right, and how many they are."""
+    if kind is Verdict.SUM:
+        if way is not None and is_way(way, count, has_good):
+            return way.advice
+        return _DAMAGED if has_good else _UNSURE
+    return kind.advice or (_DAMAGED if has_good and kind in _BY_DAMAGE else _SENDER_WRONG)
+
+
+def plain_hint(data: bytes) -> str:
+    """What else takes bytes that make no frame: they may be blocks from STX to ETX."""
+    blocks = re.findall(rb"\x02[^\x02]*", data)
+    return _PLAIN if blocks and all(one.rstrip(b"\x04\x05").endswith(b"\x03") for one in blocks) else ""
