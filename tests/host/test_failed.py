@@ -132,9 +132,11 @@ class Ways(Hides, HostTest):
     """Each way in which an order fails, and how much is said of many."""
 
     def test_ways(self):
-        """The line is pulled, the analyzer is busy, rejects a frame six times, or doesn't reply: each line says why."""
+        """The line is pulled, the analyzer is busy, asks for the line each time, rejects a frame six times, or doesn't
+        reply: each line says why."""
         store = self.path("ways.db")
         ways = {"pulled": "the line was closed", "busy": "the analyzer is busy",
+                "asks": "the analyzer asks for the line, too, and sends nothing",
                 "rejects": "a frame was rejected six times", "silent": "no reply came in time"}
         book = open_book(store)
         book.add([Order(f"S{name}", ("K",), line=name) for name in ways])
@@ -160,7 +162,7 @@ class Ways(Hides, HostTest):
     @staticmethod
     def plays(name, one):
         """An analyzer of this kind, until the line is closed."""
-        replies = {"busy": {ENQ: NAK}, "rejects": {ENQ: ACK, b"\n": NAK}, "silent": {}}
+        replies = {"busy": {ENQ: NAK}, "rejects": {ENQ: ACK, b"\n": NAK}, "asks": {ENQ: ENQ}, "silent": {}}
         try:
             while True:
                 byte = one.byte(600)

@@ -19,7 +19,7 @@ from .store import Add, Change
 QUIET, QUERY = 16.0, 1 << 16
 #: So many bytes of a text are searched for a query before the other lines have their turn.
 PIECE = 1024
-#: So many NAKs to its ENQ end a session.
+#: So many NAKs to its ENQ end a session, and so many times that the other end asked too and then sent nothing.
 BUSY = 6
 _REPLIES = (b"\x04", b"\x06", b"\x15")
 #: Why a session of the host's own failed.
@@ -66,6 +66,8 @@ class TwoWayLine(Line):
         self._ready: Deque[Batch] = deque()
         self._sending: Optional[Batch] = None
         self._has_work, self._free_at, self._busy = True, self._loop.time(), 0
+        #: How often both asked in a row, and what the station did before the last byte.
+        self._contended, self._phase = 0, Phase.NEUTRAL
         self._answers: "set[asyncio.Task[None]]" = set()
         if not self.is_tcp:  # a reply to the host that was here before may still be on its way
             self._quiet()
@@ -114,15 +116,19 @@ class TwoWayLine(Line):
                 await self._take_turns()
 
     async def _meant(self, answer: Answer, place: int, arrived: float) -> None:
+        before, self._phase = self._phase, self._station.phase
         if answer.step is not None:
             self._watch.step(place, answer.step)
             await self._step(answer.step, arrived)
             if answer.step.note in _OVER:
                 self._asking.over()
+            self._contended = 0
         elif answer.send:
             self._send(answer.send)
         elif self._station.phase is Phase.BUSY:
             self._asked_in_vain()
+        elif self._phase is Phase.CONTENTION and before is not Phase.CONTENTION:
+            self._both_asked()
         self._set_timer()
         if self._sending is not None and self._station.phase is Phase.NEUTRAL:
             self._session_over(self._sending)
@@ -139,6 +145,13 @@ class TwoWayLine(Line):
         """The analyzer doesn't give the line: it is asked again a few times."""
         self._busy += 1
         if self._busy >= BUSY:
+            self._station.give_up()
+
+    def _both_asked(self) -> None:
+        """The analyzer asks for the line as well. It comes first; one that then sends nothing isn't waited for without
+        end."""
+        self._contended += 1
+        if self._contended >= BUSY:
             self._station.give_up()
 
     async def _keep(self, text: bytes) -> bool:
@@ -225,6 +238,7 @@ class TwoWayLine(Line):
             self._outbox.failed(self._site, batch, str(error))
             return
         self._sending, self._busy = batch, 0
+        self._contended, self._phase = 0, self._station.phase
         self._counts["own_sessions"] += 1
         self._send(out)
         self._set_timer()
@@ -240,8 +254,9 @@ class TwoWayLine(Line):
             self._counts["orders"] += len(batch.placed)
             self._outbox.sent(batch)
             return
-        if self._busy >= BUSY:
-            self._over_in_vain("the analyzer is busy")
+        if BUSY in (self._busy, self._contended):
+            both = "the analyzer asks for the line, too, and sends nothing"
+            self._over_in_vain("the analyzer is busy" if self._busy >= BUSY else both)
             return
         self._over_in_vain(_WHY.get(outcome, f"the session ended as {outcome.name}"))
         self._unanswered = outcome is Outcome.TIMED_OUT
