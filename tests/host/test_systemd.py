@@ -1,5 +1,6 @@
 """What a host says to systemd, and the units that the package of Debian installs, as far as systemd looks at them."""
 import glob
+import json
 import os
 import re
 import shutil
@@ -10,8 +11,8 @@ import sys
 import unittest.mock
 
 from lislink.host import notices, said
-from tests import ROOT
-from tests.host.hosts import ENV, Host, HostTest
+from tests import ROOT, kit
+from tests.host.hosts import ENV, Host, HostTest, lislab, wait_for
 
 UNITS = os.path.join(ROOT, "packaging", "systemd")
 
@@ -105,6 +106,23 @@ class Systemd(HostTest):
             self.true(f"{name}: exposure", exposure and float(exposure[1]) < 2, str(exposure))
         wrong = text.replace("ProtectSystem=", "ProtectSytem=")
         self.has("a fault is noticed", self.said("verify", "wrong@x.service", wrong), "ProtectSytem")
+
+    def test_image(self):
+        """The file of the image: its head names the format that has a health check, its user is there before the
+        package, and its health check succeeds while its host runs, and fails after it."""
+        text = kit.read("packaging/Containerfile")
+        self.true("the format", re.match(r"(#.*\n)*#   podman build --format docker ", text), text[:300])
+        self.true("the user comes first", 0 < text.find("useradd ") < text.find("apt-get "), text)
+        kept = re.search(r"^VOLUME (\S+)$", text, re.M)[1]
+        found = re.findall(r"^(HEALTHCHECK|ENTRYPOINT|CMD) .*?(\[.*\])$", text, re.M)
+        words = {name: json.loads(each.replace(kept + "/", self.path(""))) for name, each in found}
+        health, command = words["HEALTHCHECK"], words["CMD"]
+        self.same("commands", (health[:3], words["ENTRYPOINT"], command[:2]),
+                  (["lislab", "status", "--store"], ["lislab"], ["serve", "--store"]))
+        host = Host(command[2], *(word.replace("0.0.0.0:4000", "127.0.0.1:0") for word in command[3:]), listen=False)
+        self.true("while it runs", wait_for(lambda: lislab(*health[1:]).returncode == 0))
+        self.same("its end", host.stop(), 0)
+        self.same("after it", lislab(*health[1:]).returncode, 1)
 
     @staticmethod
     def first(paths):
