@@ -93,8 +93,11 @@ class Systemd(HostTest):
             with open(path, encoding="utf-8") as file:
                 text = file.read()
             self.same(f"{path}: they are alike", common(text), common(self.first(found)))
+            self.same(f"{path}: programs that a small system may lack", others(text), [])
             for words in re.findall(r"^Exec\w+=/usr/bin/lislab (.*)$", text, re.M):
                 self.takes(words.replace("%i", "x").split())
+        wrong = "ExecReload=/bin/kill -HUP $MAINPID\nExecStart=/bin/sh -c x\n"
+        self.same("one is noticed", others(wrong), ["/bin/kill"])
         if shutil.which("systemd-analyze") is None:
             self.skipTest("systemd-analyze (Debian: systemd) is not installed")
         for path in found:
@@ -143,6 +146,11 @@ class Systemd(HostTest):
         done = subprocess.run(["systemd-analyze", what, *words, self.path(name)], stdout=subprocess.PIPE,
                               stderr=subprocess.STDOUT, text=True, check=False)
         return done.stdout
+
+
+def others(text):
+    """The programs of a unit that are neither lislab nor the shell, which each system has."""
+    return [name for name in re.findall(r"^Exec\w+=(\S+)", text, re.M) if name not in ("/usr/bin/lislab", "/bin/sh")]
 
 
 def common(text):
