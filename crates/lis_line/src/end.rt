@@ -91,7 +91,7 @@ impl<const N: usize> EndOf<N> {
         self.station.sender().phase()
     }
 
-    /// A byte comes to the station.
+    /// The station hears a byte.
     pub(crate) fn byte(&mut self, byte: u8) -> AnswerOf<N>
         ensures step { (r : ReceiverState) → IsIn N self.old.station.receiver r → (IsOutOfMemory result → ⊥) →
             IsAnswer N self.old.station (on_station_byte N byte (station_at self.old.station r)) result

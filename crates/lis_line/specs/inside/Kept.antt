@@ -28,7 +28,7 @@ abbrev pub is_unit : Item → Bool
 is_unit (sent unit) = true
 is_unit (answered b) = false
 
--- what may come of it to a receiver: a reply is no frame, as ENQ is none
+-- what may come of it to a receiver: a reply is no frame, as little as ENQ
 abbrev pub load_in : Item → Load
 load_in (sent unit) = unit.load
 load_in (answered b) = enquiry
