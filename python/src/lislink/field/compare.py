@@ -112,6 +112,20 @@ def results_after(data: bytes) -> List[Placed]:
     return list(_results(iter(records)))
 
 
+def is_one_record(text: bytes, mark: bytes) -> bool:
+    """Whether these bytes are a record, and no other one begins within them, at LF or another end of a record."""
+    begins = re.compile(rb"[HPORCQMSL]" + re.escape(mark), re.I)
+    return sum(begins.match(one) is not None for _, one in _pieces(text)) == 1
+
+
+def gone_of_results(before: bytes, after: bytes) -> Optional[int]:
+    """How many results are gone; None if another one is changed, new or elsewhere."""
+    seen, left = results_before(before), results_after(after)
+    rest = iter(seen)
+    is_same = all(any(one.result == each.result for each in rest) for one in left)
+    return len(seen) - len(left) if is_same else None
+
+
 def changes_of_results(before: bytes, after: bytes) -> Iterator[Tuple[int, str]]:
     """Each result that is gone, changed or new: its line, or 0, and what became of it."""
     seen, left = results_before(before), results_after(after)

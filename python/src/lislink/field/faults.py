@@ -191,8 +191,13 @@ def cause_of_record(error: MessageError, record: bytes, is_rest: bool = False) -
     if reason is Reason.TOO_LONG:
         if b"\n" in record:
             return RecordCause("long", "over 65,536 bytes without a CR: records end in LF", ["--lf"])
-        return RecordCause("long", "over 65,536 bytes without a CR", ["--long"])
+        return _too_long(record, "over 65,536 bytes without a CR")
     return RecordCause("memory", "out of memory", [])
+
+
+def _too_long(record: bytes, text: str) -> RecordCause:
+    """Of a record to which others belong, none may be left out."""
+    return RecordCause("long", text, ["--long"] if record[:1].upper() in (b"R", b"C", b"M", b"S") else [])
 
 
 def _unfinished(record: bytes, is_rest: bool) -> RecordCause:
@@ -246,7 +251,7 @@ def _bad_record(status: Status, error: MessageError, record: bytes) -> RecordCau
             text += " (in code page 1251 it is a letter, in Latin-1 another)"
         return RecordCause("byte", text, options)
     if status is Status.TOO_LONG:
-        return RecordCause("long", "a record of over 65,536 bytes", ["--long"])
+        return _too_long(record, "a record of over 65,536 bytes")
     if in_words := _in_words(record):
         return in_words
     if record[:2] in (b"\xff\xfe", b"\xfe\xff"):

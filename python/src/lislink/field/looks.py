@@ -360,11 +360,17 @@ def _of_fault(ladder: Ladder, fault: Fault) -> Look:
         return look_of(Verdict.INCOMPLETE, lines, number=number, code=code)
     record = record_at(ladder.stream, fault.place)
     cause = cause_of_record(fault.error, record, fault.place + len(record) >= len(ladder.stream))
-    options = " or ".join(cause.options)
-    names = " or ".join(f"`mend={one[2:]}`" for one in cause.options)
-    mends = f"`lislab normalize {options}` mends the records, {names} those of a host's line" if options else ""
-    look = look_of(Verdict.RECORD, lines, number=number, code=code, why=cause.words, mends=mends)
+    look = look_of(Verdict.RECORD, lines, number=number, code=code, why=cause.words, mends=_mends(cause.options))
     return look._replace(name=f"{look.name}-{cause.name}")
+
+
+def _mends(options: List[str]) -> str:
+    """What mends the records of a file, and those of a host's line."""
+    if options == ["--long"]:
+        return "`lislab normalize --long` leaves the record out, as a host does"
+    names = " or ".join(f"`mend={one[2:]}`" for one in options)
+    all_of_them = " or ".join(options)
+    return f"`lislab normalize {all_of_them}` mends the records, {names} those of a host's line" if options else ""
 
 
 def _was_lost(ladder: Ladder) -> bool:

@@ -5,7 +5,7 @@ from typing import Dict, Iterator, List, NamedTuple, Set, Tuple
 
 from ..message import Fault, read_all
 from ..records import RECORD_BYTES
-from .compare import changes_of_results
+from .compare import changes_of_results, is_one_record
 from .endings import Ending, ending_of
 from .faults import cause_of_record, code_of, words
 from .looks import record_at
@@ -38,10 +38,11 @@ MOST_TOLD = 20
 
 
 class Told(NamedTuple):
-    """A change: the number of the input's line, and what was done."""
+    """A change: the number of the input's line, what was done, and whether a record is gone since it is too long."""
 
     line: int
     what: str
+    is_long: bool = False
 
 
 class Work:
@@ -60,9 +61,9 @@ class Work:
         self.needed.setdefault(name, line)
         return False
 
-    def tell(self, line: int, what: str) -> None:
+    def tell(self, line: int, what: str, is_long: bool = False) -> None:
         """Notes a change."""
-        self.told.append(Told(line, what))
+        self.told.append(Told(line, what, is_long))
 
 
 Record = Tuple[int, bytes, bytes]
@@ -273,14 +274,16 @@ def _parents(work: Work, records: List[Record]) -> Iterator[Record]:
 
 def _long(work: Work, records: List[Record]) -> Iterator[Record]:
     """Records that are too long to be read are left out, if nothing but comments belongs to them. The comments go
-    with them, since they would else belong to the record before."""
-    is_of_one = False
+    with them, since they would else belong to the record before. What has other records within it isn't one."""
+    is_of_one, delimiter = False, b"|"
     for number, record, end in records:
         letter, is_long = record[:1].upper(), len(record) > RECORD_BYTES
+        delimiter = record[1:2] if letter == b"H" else delimiter
         is_of_one = is_of_one and letter in (b"C", b"M", b"S")
-        if (is_of_one or is_long and letter in (b"R", b"C", b"M", b"S")) and work.wants("long", number):
+        may_go = is_long and letter in (b"R", b"C", b"M", b"S") and is_one_record(record, delimiter)
+        if (is_of_one or may_go) and work.wants("long", number):
             why = "it is too long to be read" if is_long else "it is on a record that was left out"
-            work.tell(number, f"a record was left out ({words(letter)}, {len(record)} bytes): {why}")
+            work.tell(number, f"a record was left out ({words(letter)}, {len(record)} bytes): {why}", is_long)
             is_of_one = is_of_one or letter == b"R"
             continue
         yield number, record, end

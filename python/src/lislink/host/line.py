@@ -359,7 +359,7 @@ class Line:
     async def _ends_now(self, text: bytes) -> List[Change]:
         """The changes that end a message that is whole with what the line mends, though it can't be read: it is
         delivered before its last text is acknowledged."""
-        body = self._intake.unread() if self._mender.names and seems_over(text) else None
+        body = self._intake.unread() if seems_over(text) else None
         if body is None or not await self._mender.is_whole(body):
             return []
         return await self._mended(self._intake.drop("no CR ended its last record"), True)

@@ -1,6 +1,6 @@
-"""Messages that can't be read, mended: by the changes of `lislab normalize` that a line's setting names, and no others.
-What came stays as it came; each mended message is one of its own, with what was changed in it. A change that would give
-another result, or lose one, is not made."""
+"""Messages that can't be read, mended: by the changes of `lislab normalize` that a line's setting names, and by one
+that needs none: a record that is too long is left out. What came stays as it came; each mended message is one of its
+own, with what was changed in it. A change that would give another result, or lose any other one, is not made."""
 import asyncio
 import hashlib
 import re
@@ -10,19 +10,24 @@ from concurrent.futures import Executor
 from typing import Any, Callable, Coroutine, FrozenSet, Iterator, List, Mapping, NamedTuple, Optional, Sequence, Set
 from typing import Tuple, TypeVar
 
-from ..field.normalize import CHANGES, Told, changed_lines, normalize
+from ..field.compare import gone_of_results
+from ..field.normalize import CHANGES, Told, normalize
 from ..message import Fault, read_all
+from ..records import RECORD_BYTES
 from .store import MENDED, WHOLE, Add, Begin, Change, End, new_key
 
+#: What is done on each line, whatever it names.
+ALWAYS = frozenset(("long",))
 #: The names of mends, and one that means the same as another.
-NAMES, SAME = tuple(CHANGES), {"escape": "bytes"}
+NAMES, SAME = tuple(name for name in CHANGES if name not in ALWAYS), {"escape": "bytes"}
 #: Those of lines whose frames may hold LF.
 LINE_FEEDS = frozenset(("lf", "crlf"))
-#: The most bytes of a message that is mended, and of one of which it is tried which setting would mend it.
+#: The most bytes of a message that is mended, which are held until it ends; and of one of which it is tried which
+#: setting would mend it.
 MOST, MOST_TRIED = 2 << 20, 1 << 18
 #: So many messages of a line are tried at once, and then one each so many seconds.
 AT_ONCE, SECONDS = 5, 10.0
-#: So many changes of a message are named one by one.
+#: So many changes of a message are named one by one, first of all each record that is left out since it is too long.
 MOST_NAMED = 50
 #: A record L near the end of a text: after its beginning, after CR, LF or a word for one of them.
 _END = rb"\A|[\r\n\0>\])};\x8d]|\\r|\\n|\^M|[=%]0D|\\x0D|\\u000D|\\015"
@@ -48,34 +53,51 @@ def seems_over(text: bytes) -> bool:
     return _LAST.search(text, max(0, len(text) - 64)) is not None
 
 
+def has_long(body: bytes) -> bool:
+    """Whether a record is too long to be read."""
+    return len(body) > RECORD_BYTES and any(len(one) > RECORD_BYTES for one in body.split(b"\r"))
+
+
 def mended(body: bytes, names: FrozenSet[str]) -> Optional[Mended]:
-    """The messages that these changes make; None if they aren't whole then, or if a result is another or gone."""
-    if not names:
-        return None
-    out, told, _ = normalize(body, set(names))
+    """The messages that these changes make; None if they aren't whole then, or if a result is another or gone, but for
+    one whose record is too long."""
+    out, told, _ = normalize(body, {*names, *ALWAYS})
     messages = _messages(out)
     if not messages:
         return Mended([], list(_words(body, told))) if _is_after_l(body, names) else None
-    # A record that is left out since it is too long is meant to be gone: all else must be as it was.
-    kept = normalize(body, set(names) - {"long"})[0] if "long" in names else out
-    if any(changed_lines(body, kept)):
+    if gone_of_results(body, out) != _long_results(body, names):
         return None
     return Mended(messages, list(_words(body, told)))
+
+
+def _long_results(body: bytes, names: FrozenSet[str]) -> int:
+    """How many results are too long to be read. What is within such a record, as other records that end in LF, is more
+    than that."""
+    if not has_long(body):
+        return 0
+    records = normalize(body, set(names))[0].split(b"\r")
+    return sum(len(one) > RECORD_BYTES and one[:1].upper() == b"R" for one in records)
 
 
 def lacking(body: bytes, names: FrozenSet[str], is_over: bool) -> List[str]:
     """The changes without which the message isn't whole, besides these, if there are such; each is tried."""
     asked, tried = names, [one for one in NAMES if is_over or one not in _MAKES_AN_END]
-    while not _messages(normalize(body, set(asked))[0]):
+    while not is_whole(body, asked):
         needed = normalize(body, set(asked))[2]
         fresh = [one for one in tried if one in needed and one not in asked]
         if not fresh:
             return []
         asked |= {fresh[0]}
     for name in tried:
-        if name in asked - names and mended(body, asked - {name}):
+        if name in asked - names and is_whole(body, asked - {name}):
             asked -= {name}
-    return [name for name in NAMES if name in asked - names] if mended(body, asked) else []
+    return [name for name in NAMES if name in asked - names]
+
+
+def is_whole(body: bytes, names: FrozenSet[str]) -> bool:
+    """Whether these changes make whole messages."""
+    found = mended(body, names)
+    return found is not None and bool(found.messages)
 
 
 def _messages(data: bytes) -> List[bytes]:
@@ -96,13 +118,14 @@ def _words(body: bytes, told: Sequence[Told]) -> Iterator[str]:
     """What was changed, each with its records and where the first of them begins; the same of records in a row is
     one."""
     starts = [0, *(one.end() for one in re.finditer(rb"\r\n|\r|\n", body))]
-    rows: List[Tuple[int, int, str]] = []
-    for line, what in told:
+    rows: List[Tuple[int, int, str, bool]] = []
+    for line, what, is_long in told:
         if rows and rows[-1][2] == what and rows[-1][1] + 1 == line:
-            rows[-1] = rows[-1][0], line, what
+            rows[-1] = rows[-1][0], line, what, is_long
         else:
-            rows.append((line, line, what))
-    for first, last, what in rows[:MOST_NAMED]:
+            rows.append((line, line, what, is_long))
+    named = sorted(range(len(rows)), key=lambda at: not rows[at][3])[:MOST_NAMED]
+    for first, last, what, _ in (rows[at] for at in sorted(named)):
         place = starts[first - 1] if first <= len(starts) else len(body)
         which = f"record {first}" if first == last else f"records {first} to {last}"
         yield f"{which}, from byte {place}: {what}"
@@ -129,11 +152,6 @@ class Mender:
         self._left, self._at = float(AT_ONCE), time.monotonic()
         self._tasks: "Set[asyncio.Task[None]]" = set()
 
-    @property
-    def most(self) -> int:
-        """The most bytes of a message that are to be held until it ends."""
-        return MOST if self.names else MOST_TRIED
-
     async def of_all(self, changes: Sequence[Change], bodies: Bodies, is_over: bool) -> List[Change]:
         """These changes, with those of the messages that are made of the ones that end and aren't whole."""
         made: List[Change] = []
@@ -148,7 +166,7 @@ class Mender:
         """The changes that end a message, with those of the messages that are made of it."""
         names = self.names if one.is_over else self.names - _MAKES_AN_END
         try:
-            found = await self._run(mended, one.body, names) if names else None
+            found = await self._run(mended, one.body, names) if names or has_long(one.body) else None
             if found is not None:
                 return made_of(one, found)
             if not one.is_over or not self._may_try(len(one.body)):
@@ -163,12 +181,13 @@ class Mender:
         return [one.end._replace(reason=f"{one.end.reason}; {setting} would deliver it")]
 
     async def is_whole(self, body: bytes) -> bool:
-        """Whether a message that still goes on is whole already, with the changes that its line names."""
+        """Whether a message that still goes on is whole already, with the changes that its line makes."""
+        if not self.names and not has_long(body):
+            return False
         try:
-            found = await self._run(mended, body, self.names - _AT_THE_END)
+            return await self._run(is_whole, body, self.names - _AT_THE_END)
         except Exception:  # that is said when the message ends
             return False
-        return bool(found is not None and found.messages)
 
     async def _run(self, work: Callable[..., T], *words: Any) -> T:
         return await asyncio.get_running_loop().run_in_executor(self._executor, work, *words)

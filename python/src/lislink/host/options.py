@@ -5,7 +5,7 @@ import re
 from typing import Any, Callable, Dict, Iterable, List, NamedTuple, Sequence, Tuple, TypeVar, Union
 
 from ..link import FRAME_TEXT, LONG_FRAME_TEXT
-from .mend import NAMES, SAME
+from .mend import ALWAYS, NAMES, SAME
 
 Network = Union[ipaddress.IPv4Network, ipaddress.IPv6Network]
 _MODES = re.compile(r"[5-8][NEO][12]$")
@@ -142,10 +142,10 @@ def _allow(words: str) -> Tuple[Network, ...]:
 
 
 def _mend(words: str) -> Tuple[str, ...]:
-    """Names of mends, each once, in the order in which they are made."""
+    """Names of mends, each once, in the order in which they are made. What is always done may be named too."""
     given = [SAME.get(one, one) for one in words.replace(",", " ").replace("+", " ").split()]
     for one in given:
-        if one not in NAMES:
+        if one not in NAMES and one not in ALWAYS:
             raise OptionError(f"a line mends {', '.join(NAMES)}, not {one}")
     return tuple(one for one in NAMES if one in given)
 

@@ -14,7 +14,7 @@ from concurrent.futures import ThreadPoolExecutor
 from typing import Any, Callable, Dict, Iterable, List, NamedTuple, Optional, Sequence, Set, Tuple, Union
 
 from ..watch.board import Board
-from . import systemd
+from . import mend, systemd
 from .commits import Committer
 from .duplex import TwoWayLine
 from .files import write_whole
@@ -143,7 +143,7 @@ class Host:
         counts = self.counts.setdefault(place.name, Counter())
         counts["connections"] += 1
         mender = self._mender(place)
-        intake = Intake(place.name, peer, place.encoding, self.limits.message, time.time, mender.most)
+        intake = Intake(place.name, peer, place.encoding, self.limits.message, time.time, mend.MOST)
         notice = functools.partial(self._notice, place.name, peer)
         probe = self.board.probe(place, self._tape(place.name), notice)
         given = (wire, intake, self.committer, self.limits, counts, probe, place.frame, notice, self.turns, mender)
