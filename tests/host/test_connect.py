@@ -223,7 +223,7 @@ class Connect(HostTest):
             found = lines.read_lines(self.written(a=rows), [])
             self.has(rows, "".join(found.faults), why)
             self.same(f"{rows}: faults", len(found.faults), 1)
-        (place,) = lines.places_of(self.written(a="connect = [2001:db8::7]:4001\norders = ask"), [])
+        (place,) = lines.lines_of(self.written(a="connect = [2001:db8::7]:4001\norders = ask"), []).places
         shown = f"a: connect=[2001:db8::7]:4001 frame=240 encoding={options.LATIN} orders=ask none=L-I"
         self.same("a line as it is shown", lines.text_of(place), shown)
 

@@ -183,7 +183,7 @@ class LinesFile(HostTest):
             host = unittest.mock.Mock(stopping=False, refused=0)
             host.asked.networks = options.networks_of(["192.0.2.0/24"])
             text = f"[a]\nlisten = 10.0.5.2:4001\nallow = {given}\n"
-            (place,) = lines.places_of(self.written("allow.lines", text), [])
+            (place,) = lines.lines_of(self.written("allow.lines", text), []).places
             serve.TcpWire(host, serve.Port(place)).connection_made(transport)
             self.same(f"{given}: 10.0.5.7 is let in", host.add.call_count == 1, wanted)
 

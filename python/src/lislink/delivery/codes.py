@@ -43,17 +43,26 @@ def read_codes(path: str) -> Read:
     with open(path, "rb") as file:
         data = file.read()
     try:
-        rows = csv.reader(io.StringIO(data.decode("utf-8-sig"), newline=""))
-        names = [one.strip() for one in next(rows, [])]
-        wrong = [one for one in names if one not in COLUMNS or names.count(one) > 1]
-        missing = [one for one in _NEEDED if one not in names]
-        if wrong or missing:
-            no_such = f"there is no column {wrong[0]}, or it is there twice" if wrong else ""
-            what = no_such or f"the column {missing[0]} is missing"
-            return Read([], [f"{path}:1: {what}: the first row names {', '.join(COLUMNS)}"])
-        return _read_rows(path, names, rows)
-    except (csv.Error, UnicodeDecodeError) as error:
-        return Read([], [f"{path}: {error}: a table is CSV in UTF-8"])
+        text = data.decode("utf-8-sig")
+    except UnicodeDecodeError as error:
+        row = data.count(b"\n", 0, error.start) + 1
+        return Read([], [f"{path}:{row}: a table of codes is written in UTF-8"])
+    rows = csv.reader(io.StringIO(text, newline=""))
+    try:
+        return _read_table(path, rows)
+    except csv.Error as error:
+        return Read([], [f"{path}:{max(rows.line_num, 1)}: {error}: a table of codes is CSV"])
+
+
+def _read_table(path: str, rows: "csv._reader") -> Read:  # type: ignore[name-defined]
+    names = [one.strip() for one in next(rows, [])]
+    wrong = [one for one in names if one not in COLUMNS or names.count(one) > 1]
+    missing = [one for one in _NEEDED if one not in names]
+    if wrong or missing:
+        no_such = f"there is no column {wrong[0]}, or it is there twice" if wrong else ""
+        what = no_such or f"the column {missing[0]} is missing"
+        return Read([], [f"{path}:1: {what}: the first row names {', '.join(COLUMNS)}"])
+    return _read_rows(path, names, rows)
 
 
 def _read_rows(path: str, names: Sequence[str], rows: "csv._reader") -> Read:  # type: ignore[name-defined]
@@ -102,6 +111,7 @@ class Codes:
     """The codes of a laboratory."""
 
     def __init__(self, codes: Sequence[Code]) -> None:
+        self.rows = tuple(codes)
         self._codes = {(one.line, one.analyzer, one.sent): one for one in codes}
         self._laboratory: Dict[Tuple[str, str], str] = {(one.line, one.analyzer): one.laboratory for one in codes}
 
@@ -113,6 +123,13 @@ class Codes:
     def laboratory(self, line: str, code: str) -> Optional[str]:
         """The laboratory's code for an analyzer's; None if it has none."""
         return self._laboratory.get((line, code)) or self._laboratory.get(("", code))
+
+    def lacked(self, line: str, code: str, unit: str) -> str:
+        """What the table lacks of a result: its code, with the unit if it has the code in another one; empty if it has
+        both."""
+        if self.found(line, code, unit) is not None:
+            return ""
+        return (code or "-") if self.laboratory(line, code) is None else f"{code} {unit or '-'}"
 
     def applied(self, one: Stored) -> Stored:
         """A message with the laboratory's codes, its units, and values that are multiplied. What isn't in the table
@@ -147,7 +164,7 @@ class Codes:
 
     def _result(self, entry: Entry, one: Stored) -> Tuple[bytes, str]:
         """A result as the laboratory has it, and what is to be said of it."""
-        row, code, unit = entry.row, code_of(entry, 3), text_of(entry, 5).strip()
+        row, (code, unit) = entry.row, code_and_unit(entry)
         found = self.found(one.line, code, unit)
         if found is None:
             known = self.laboratory(one.line, code) is not None
@@ -234,6 +251,11 @@ def _comment(row: Row, number: int, why: str, one: Stored) -> bytes:
     return _marks(row)[0].join(cells)
 
 
+def code_and_unit(result: Entry) -> Tuple[str, str]:
+    """By what a result is looked up: its code and its unit."""
+    return code_of(result, 3), text_of(result, 5).strip()
+
+
 def mark_of(result: Entry) -> str:
     """What the table of codes says of a result; empty if it says nothing."""
     texts = [text_of(note, 4) for note in result.notes if note.letter == "C"]
@@ -253,8 +275,7 @@ def unknown_of(codes: Codes, messages: Iterator[Stored]) -> Dict[str, int]:
     found: Dict[str, int] = {}
     for one in messages:
         for _, _, entry in message_of(one).results():
-            code, unit = code_of(entry, 3), text_of(entry, 5).strip()
-            if codes.found(one.line, code, unit) is None:
-                name = (code or "-") if codes.laboratory(one.line, code) is None else f"{code} {unit or '-'}"
+            name = codes.lacked(one.line, *code_and_unit(entry))
+            if name:
                 found[name] = found.get(name, 0) + 1
     return found

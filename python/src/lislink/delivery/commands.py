@@ -6,12 +6,13 @@ from typing import Any, Callable, List
 from .._library import calls
 from ..field.table import form_of
 from ..host import deliver, export
-from ..host.commands import _COUNT, _FACTOR, _store
+from ..host.commands import _COUNT, _FACTOR, _store, add_tables
 from ..host.files import is_locked
 from ..host.options import OptionError, split_peer
 from ..host.said import say
 from ..host.store import StoreError, Stored, open_store
 from . import aside, codes, https, mllp
+from .tables import coder_of
 
 #: Exit statuses, as those of the other commands.
 GOOD, WRONG = 0, 1
@@ -41,7 +42,7 @@ def _add_deliver(one: argparse.ArgumentParser) -> None:
         choices=export.FORMATS,
         help="(oru over MLLP, fhir over HTTPS, else records)",
     )
-    one.add_argument("--codes", metavar="FILE", help="the laboratory's codes and units, as lislab codes checks them")
+    add_tables(one)
     one.add_argument("--ca", metavar="FILE", help="the authorities of a certificate, in PEM; else the system's")
     one.add_argument("--headers", metavar="FILE", help="header fields for HTTPS, rows of Name: value")
     one.add_argument(
@@ -78,7 +79,7 @@ def _target_of(ask: argparse.Namespace) -> Callable[[Stored], None]:
     form: str = ask.format or _SCHEMES.get(scheme, "records")
     if scheme in ("mllp", "mllps"):
         return _receiver_of(scheme, rest, form, ask)
-    write = export.writer_of(form, ask.codes)
+    write = export.writer_of(form, coder_of(ask.codes, ask.lines, say))
     if scheme == "https":
         headers = https.headers_of(ask.headers) if ask.headers else {}
         return https.to_https(https.Https(where, ask.seconds, https.context_of(ask.ca), headers), write, form)
@@ -94,7 +95,8 @@ def _receiver_of(scheme: str, rest: str, form: str, ask: argparse.Namespace) -> 
         raise OptionError(f"MLLP carries messages of HL7, --format oru, and not {form}")
     host, port = split_peer(rest.rstrip("/"))
     context = https.context_of(ask.ca) if scheme == "mllps" else None
-    return mllp.to_mllp(mllp.Mllp(host, port, ask.seconds, context), export.writer_of(form, ask.codes))
+    write = export.writer_of(form, coder_of(ask.codes, ask.lines, say))
+    return mllp.to_mllp(mllp.Mllp(host, port, ask.seconds, context), write)
 
 
 def run_deliver(ask: argparse.Namespace) -> int:
@@ -158,6 +160,7 @@ def _is_taken(cursor: str) -> bool:
 
 def _add_codes(one: argparse.ArgumentParser) -> None:
     one.add_argument("--store", metavar="STORE", help="print each code of its results that the table lacks")
+    one.add_argument("--line", metavar="NAME", help="look at the results of this line alone")
     one.add_argument("file", metavar="FILE", help=f"CSV with a row of names: {', '.join(codes.COLUMNS)}")
     one.set_defaults(run=run_codes)
 
@@ -171,7 +174,8 @@ def run_codes(ask: argparse.Namespace) -> int:
     if ask.store:
         store = open_store(ask.store)
         try:
-            unknown = codes.unknown_of(codes.Codes(read.codes), store.messages())
+            found = (one for one in store.messages() if ask.line in (None, one.line))
+            unknown = codes.unknown_of(codes.Codes(read.codes), found)
         finally:
             store.close()
     for name in sorted(unknown):

@@ -12,6 +12,7 @@ import sys
 from typing import Any, Callable, ContextManager, Iterator, List, Optional, Sequence, Union
 
 from .._library import calls
+from ..delivery.tables import coder_of
 from ..field.table import form_of
 from ..orders.book import open_book
 from ..watch.unix import shown, socket_of
@@ -157,18 +158,18 @@ def _asked_of(ask: argparse.Namespace) -> serve.Asked:
     if len(files) > 1:
         raise OptionError(f"one file of lines is read, not {' and '.join(files)}")
     networks = options.networks_of(ask.allow)
-    places = _places_of(ask, files, networks)
-    listens = [one for one in places if isinstance(one, options.Listen)]
-    connects = [one for one in places if isinstance(one, options.Connect)]
-    serials = [one for one in places if isinstance(one, options.Serial)]
+    found = _lines_of(ask, files, networks)
+    listens = [one for one in found.places if isinstance(one, options.Listen)]
+    connects = [one for one in found.places if isinstance(one, options.Connect)]
+    serials = [one for one in found.places if isinstance(one, options.Serial)]
     limits = Limits(most, ask.message_bytes, ask.idle, ask.reply_within, ask.grace, ask.scale, ask.address_lines)
-    state, outbox = state_file(ask.store, ask.status), _outbox_of(ask, places)
+    state, outbox = state_file(ask.store, ask.status), _outbox_of(ask, found.places)
     asked = serve.Asked(listens, serials, networks, limits, ask.capture, state, ask.host_name, outbox, connects)
-    asked = asked._replace(watch=socket_of(state))
+    asked = asked._replace(watch=socket_of(state), tables=found.tables)
     return asked._replace(again=functools.partial(_asked_of, ask)) if files else asked
 
 
-def _places_of(ask: argparse.Namespace, files: Sequence[str], networks: Sequence[Network]) -> List[Place]:
+def _lines_of(ask: argparse.Namespace, files: Sequence[str], networks: Sequence[Network]) -> lines.Lines:
     """The lines of the words, and those of the file."""
     listens = [options.listen_of(word) for word in ask.listen]
     options.check_allowed(listens, networks)
@@ -177,13 +178,13 @@ def _places_of(ask: argparse.Namespace, files: Sequence[str], networks: Sequence
         *map(options.connect_of, ask.connect),
         *map(options.serial_of, ask.serial),
     ]
-    read = [place for path in files for place in lines.places_of(path, networks)]
-    if not named and not read:
+    read = lines.lines_of(files[0], networks) if files else lines.Lines([], [], {}, [])
+    if not named and not read.places:
         raise OptionError("name a line by --listen, --connect or --serial, or a file of lines by --lines")
-    twice = {place.name for place in named} & {place.name for place in read}
+    twice = {place.name for place in named} & {place.name for place in read.places}
     if twice:
         raise OptionError(f"{files[0]}: {min(twice)} is the name of a line that an option names too")
-    return [*named, *read]
+    return read._replace(places=[*named, *read.places])
 
 
 def _add_lines(one: argparse.ArgumentParser) -> None:
@@ -345,9 +346,16 @@ def _add_export(one: argparse.ArgumentParser) -> None:
     one.add_argument("--line", metavar="NAME", help="of this line alone")
     one.add_argument("--state", choices=(WHOLE, UNFINISHED, UNREADABLE, "all"), default=WHOLE, help="(%(default)s)")
     one.add_argument("--without-repeats", action="store_true", help="leave out messages that came again")
-    one.add_argument("--codes", metavar="FILE", help="the laboratory's codes and units, as lislab codes checks them")
+    add_tables(one)
     one.add_argument("-o", "--output", metavar="FILE")
     one.set_defaults(run=run_export)
+
+
+def add_tables(one: argparse.ArgumentParser) -> None:
+    """The options that name tables of codes."""
+    what = "the laboratory's codes and units, as lislab codes checks them; of lines that have no table of their own"
+    one.add_argument("--codes", metavar="FILE", help=what)
+    one.add_argument("--lines", metavar="FILE", help="a file of lines, as serve has it: the table of codes of each")
 
 
 def run_export(ask: argparse.Namespace) -> int:
@@ -358,7 +366,7 @@ def run_export(ask: argparse.Namespace) -> int:
         raise OptionError(f"--since {ask.since}: a time is 2026-11-27 or 2026-11-27T10:30") from None
     states = [WHOLE, UNFINISHED, UNREADABLE] if ask.state == "all" else [ask.state]
     wanted = export.Wanted(states, ask.after, since, ask.line, not ask.without_repeats)
-    write = export.writer_of(ask.format, ask.codes)
+    write = export.writer_of(ask.format, coder_of(ask.codes, ask.lines))
     store = open_store(ask.store)
     try:
         with _output(ask.output) as out:

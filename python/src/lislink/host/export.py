@@ -53,15 +53,14 @@ def _is_wanted(one: Stored, wanted: Wanted) -> bool:
     return (wanted.line is None or one.line == wanted.line) and (wanted.repeats or one.again_of is None)
 
 
-def writer_of(form: str, codes: Optional[str] = None) -> Writer:
-    """What writes messages in this form, with the codes of a table."""
-    if codes is None:
+def writer_of(form: str, coded: Optional[Callable[[Stored], Stored]] = None) -> Writer:
+    """What writes messages in this form, each as `coded` makes it by a table of codes."""
+    if coded is None:
         return _plain_writer(form, [])
-    from ..delivery.codes import codes_of, mark_of
+    from ..delivery.codes import mark_of
 
-    table_of_codes = codes_of(codes)
-    write = _plain_writer(form, [table.Column("mark", lambda where: mark_of(where[3]))])
-    return lambda one: write(one if one is None or one.state != WHOLE else table_of_codes.applied(one))
+    made, write = coded, _plain_writer(form, [table.Column("mark", lambda where: mark_of(where[3]))])
+    return lambda one: write(one if one is None else made(one))
 
 
 def _plain_writer(form: str, more: List[table.Column]) -> Writer:

@@ -7,6 +7,7 @@ from typing import Callable, Dict, Iterable, Iterator, List, Optional, Tuple
 from ..link import Status
 from ..records import MessageError, Reader, Reason
 from .store import UNFINISHED, UNREADABLE, WHOLE, Add, Begin, Change, End, new_key
+from .unknown import Unknown
 
 _WORDS = {
     Reason.BAD_RECORD: "malformed",
@@ -30,8 +31,10 @@ class TooLong(Exception):
 class _Message:
     """A message that isn't whole yet: its digest so far, its records so far, and why it can't be read."""
 
-    def __init__(self, begin: Begin, body: Optional[bytearray]) -> None:
+    def __init__(self, begin: Begin, body: Optional[bytearray], is_coded: bool) -> None:
         self.key, self.begin, self.reader, self.digest = begin.key, begin, Reader(), hashlib.sha256()
+        #: Whether the codes of its results are looked up.
+        self.is_coded = is_coded
         #: All its bytes, as long as they aren't too many to be mended.
         self.body = body
         self.places = self.size = self.records = 0
@@ -45,9 +48,18 @@ class Intake:
     of one that isn't whole until they are taken out of `bodies`: how it began, and its bytes, by its key."""
 
     def __init__(
-        self, line: str, peer: str, encoding: str, most: int, clock: Callable[[], float], hold: int = 0
+        self,
+        line: str,
+        peer: str,
+        encoding: str,
+        most: int,
+        clock: Callable[[], float],
+        hold: int = 0,
+        unknown: Optional[Unknown] = None,
     ) -> None:
         self.line, self.peer, self.encoding, self.most, self.clock = line, peer, encoding, most, clock
+        #: The codes that the line's table lacks.
+        self.unknown = unknown or Unknown(line)
         self._hold, self.bodies = hold, {}  # type: int, Dict[str, Tuple[Begin, bytes]]
         self._message: Optional[_Message] = None
         #: The ends of messages that aren't known to be kept.
@@ -111,7 +123,7 @@ class Intake:
 
     def _begin(self, changes: List[Change]) -> None:
         begin = Begin(new_key(), self.line, self.peer, self.encoding, self.clock())
-        self._message = _Message(begin, bytearray() if self._hold else None)
+        self._message = _Message(begin, bytearray() if self._hold else None, self.unknown.table is not None)
         changes.append(begin)
 
     def _take_some(self, text: bytes, changes: List[Change]) -> int:
@@ -121,7 +133,7 @@ class Intake:
         if one.fault:
             return self._pass_over(one, text, 0, changes)
         try:
-            for letter in one.reader.letters(text):
+            for letter in self._looked_up(one, text) if one.is_coded else one.reader.letters(text):
                 one.records += 1
                 one.ended = one.reader.read
                 if letter == "L":
@@ -133,6 +145,12 @@ class Intake:
             return self._reject(one, text, error, changes)
         self._add(one, text, changes)
         return len(text)
+
+    def _looked_up(self, one: _Message, text: bytes) -> Iterator[str]:
+        """The letters of the records that a text ends, each of which is looked up."""
+        for row in one.reader.feed(text):
+            self.unknown.look(one.key, row, self.encoding)
+            yield row.letter
 
     def _reject(self, one: _Message, text: bytes, error: MessageError, changes: List[Change]) -> int:
         """A record can't be read where it is."""

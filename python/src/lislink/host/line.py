@@ -10,7 +10,7 @@ from .commits import Committer
 from .feeds import AsItComes, LineFeeds
 from .intake import Intake, TooLong
 from .mend import LINE_FEEDS, Bodies, Mender, seems_over
-from .notices import CONNECTION, MESSAGE, REJECTED, REPLY
+from .notices import CODES, CONNECTION, MESSAGE, REJECTED, REPLY
 from .options import Limits
 from .store import MENDED, WHOLE, Add, Change, End, StoreError
 
@@ -384,6 +384,7 @@ class Line:
         for change in changes:
             if not isinstance(change, End):
                 continue
+            self._note_codes(change)
             self._counts["messages" if change.state == WHOLE else "quarantined"] += 1
             if change.state == WHOLE or change.size:
                 self._probe.ended(change)
@@ -396,6 +397,12 @@ class Line:
                 state = "" if change.reason.startswith(MENDED) else f"{change.state}: "
                 self._say(f"message {change.key} is {state}{change.reason}", MESSAGE)
 
+    def _note_codes(self, end: End) -> None:
+        """Counts the codes of a message that the line's table lacks, and says which they are."""
+        count, names = self._intake.unknown.ended(end.key, end.state == WHOLE)
+        if count:
+            self._counts["unknown_codes"] += count
+            self._say(f"message {end.key} has codes that the line's table lacks: {names}", CODES)
 
     def _took_mended(self, key: str, changes: Sequence[Change]) -> None:
         """A message was mended by these changes, and is kept or will be."""

@@ -1,17 +1,19 @@
 """The file of a host's lines: a section a line, as configparser reads it. Each fault has its row and what is right."""
 import configparser
+import os
 import re
 from typing import Any, Callable, Dict, Iterator, List, NamedTuple, Sequence, Tuple
 
+from ..delivery.codes import Codes, Read, read_codes
 from . import options
 from .options import Connect, Listen, Network, OptionError, Place, Serial
 
 _HEAD = re.compile(r"\[.+\]")
 #: Where a line is: the key that says so, what reads it, and the settings that it may have.
 _WHERE: Dict[str, Tuple[Callable[[str], Any], Tuple[str, ...]]] = {
-    "listen": (options.split_address, ("allow", *options.TCP_WORDS)),
-    "connect": (options.split_peer, options.TCP_WORDS),
-    "serial": (options.split_device, options.SERIAL_WORDS),
+    "listen": (options.split_address, ("allow", *options.TCP_WORDS, "codes")),
+    "connect": (options.split_peer, (*options.TCP_WORDS, "codes")),
+    "serial": (options.split_device, (*options.SERIAL_WORDS, "codes")),
 }
 
 
@@ -20,10 +22,13 @@ class LinesError(OptionError):
 
 
 class Lines(NamedTuple):
-    """The lines of a file, and its faults: each begins with the file and the row."""
+    """The lines of a file, and its faults with those of its tables of codes: each begins with the file and the row. The
+    tables by the lines' names, and the files that they are in."""
 
     places: List[Place]
     faults: List[str]
+    tables: Dict[str, Codes]
+    tables_at: List[str]
 
 
 class _Section(configparser.RawConfigParser):
@@ -51,18 +56,23 @@ class _File:
     def __init__(self, path: str, networks: Sequence[Network]) -> None:
         self._path, self._networks = path, networks
         self.places: List[Place] = []
+        #: The rows in which faults are, or that name a table with a fault, and what is said.
         self._faults: List[Tuple[int, str]] = []
+        #: The tables of codes that lines name, by their files.
+        self._tables: Dict[str, Read] = {}
         #: The row of each name, and of each port or device.
         self._names: Dict[str, int] = {}
         self._at: Dict[Any, int] = {}
 
-    def faults(self) -> List[str]:
-        """The faults in the order of their rows."""
-        return [f"{self._path}:{row}: {' '.join(text.split())}" for row, text in sorted(self._faults)]
+    def found(self) -> Lines:
+        """What was found, the faults in the order of their rows."""
+        tables = {one.name: Codes(self._tables[one.codes].codes) for one in self.places if one.codes}
+        faults = [text for _, text in sorted(self._faults, key=lambda one: one[0])]
+        return Lines(self.places, faults, tables, list(self._tables))
 
     def fault(self, row: int, text: str) -> None:
         """A fault in this row."""
-        self._faults.append((row, text))
+        self._faults.append((row, f"{self._path}:{row}: {' '.join(text.split())}"))
 
     def read(self, data: bytes) -> None:
         """Reads each section by itself, so that a fault in one hides none in another."""
@@ -106,7 +116,8 @@ class _File:
             return
         kind = found[0]
         where, values = self._values(kind, section, given)
-        if len(self._faults) > before:
+        is_coded = "codes" not in values or not self._tables[values["codes"]].faults
+        if len(self._faults) > before or not is_coded:
             return
         place = _place_of(kind, where, name, values)
         self._check(place, section.rows[kind])
@@ -123,6 +134,8 @@ class _File:
                     raise OptionError(f"{key} takes one word, and a row that begins with a blank belongs to it")
                 if key == kind:
                     where = split(word)
+                elif key == "codes":
+                    values[key] = self._table(word, section.rows[key])
                 elif key in known:
                     values[key] = options.READS[key](word)
                 else:
@@ -130,6 +143,18 @@ class _File:
             except OptionError as error:
                 self.fault(section.rows[key], str(error))
         return where, values
+
+    def _table(self, word: str, row: int) -> str:
+        """The file of a table, which is read once: its path is relative to that of the lines."""
+        path = os.path.join(os.path.dirname(self._path), word)
+        if path not in self._tables:
+            try:
+                self._tables[path] = read_codes(path)
+            except OSError as error:
+                why = f"{self._path}:{row}: {path}: {error.strerror}: the file of a table of codes is wanted"
+                self._tables[path] = Read([], [why])
+            self._faults += [(row, fault) for fault in self._tables[path].faults]
+        return path
 
     def _check(self, place: Place, row: int) -> None:
         try:
@@ -162,15 +187,15 @@ def read_lines(path: str, networks: Sequence[Network]) -> Lines:
     one = _File(path, networks)
     with open(path, "rb") as file:
         one.read(file.read())
-    return Lines(one.places, one.faults())
+    return one.found()
 
 
-def places_of(path: str, networks: Sequence[Network]) -> List[Place]:
-    """The lines of a file. LinesError if it has faults."""
+def lines_of(path: str, networks: Sequence[Network]) -> Lines:
+    """The same. LinesError if it has faults."""
     found = read_lines(path, networks)
     if found.faults:
         raise LinesError("\n".join(found.faults))
-    return found.places
+    return found
 
 
 def text_of(place: Place) -> str:

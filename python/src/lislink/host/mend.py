@@ -11,15 +11,13 @@ from typing import Any, Callable, Coroutine, FrozenSet, Iterator, List, Mapping,
 from typing import Tuple, TypeVar
 
 from ..field.compare import gone_of_results
-from ..field.normalize import CHANGES, Told, normalize
+from ..field.normalize import Told, normalize
 from ..message import Fault, read_all
 from ..records import RECORD_BYTES
+from .options import ALWAYS, NAMES
 from .store import MENDED, WHOLE, Add, Begin, Change, End, new_key
+from .unknown import Unknown
 
-#: What is done on each line, whatever it names.
-ALWAYS = frozenset(("long",))
-#: The names of mends, and one that means the same as another.
-NAMES, SAME = tuple(name for name in CHANGES if name not in ALWAYS), {"escape": "bytes"}
 #: Those of lines whose frames may hold LF.
 LINE_FEEDS = frozenset(("lf", "crlf"))
 #: The most bytes of a message that is mended, which are held until it ends; and of one of which it is tried which
@@ -145,8 +143,14 @@ class Ended(NamedTuple):
 class Mender:
     """What is made of a line's messages that aren't whole. The work is done in another thread."""
 
-    def __init__(self, names: Sequence[str], executor: Optional[Executor], would: "Counter[str]") -> None:
-        self.names, self._executor = frozenset(names), executor
+    def __init__(
+        self,
+        names: Sequence[str],
+        executor: Optional[Executor],
+        would: "Counter[str]",
+        unknown: Optional[Unknown] = None,
+    ) -> None:
+        self.names, self._executor, self._unknown = frozenset(names), executor, unknown
         #: How many messages each setting would have delivered.
         self._would = would
         self._left, self._at = float(AT_ONCE), time.monotonic()
@@ -168,7 +172,7 @@ class Mender:
         try:
             found = await self._run(mended, one.body, names) if names or has_long(one.body) else None
             if found is not None:
-                return made_of(one, found)
+                return await self._looked_up(made_of(one, found), one.begin.encoding)
             if not one.is_over or not self._may_try(len(one.body)):
                 return [one.end]
             more = await self._run(lacking, one.body, names, one.is_over)
@@ -179,6 +183,13 @@ class Mender:
         setting = "mend=" + ",".join(name for name in NAMES if name in self.names or name in more)
         self._would[setting] += 1
         return [one.end._replace(reason=f"{one.end.reason}; {setting} would deliver it")]
+
+    async def _looked_up(self, made: List[Change], encoding: str) -> List[Change]:
+        """The same changes: the codes of the messages that they keep are looked up."""
+        for change in made if self._unknown is not None else ():
+            if self._unknown is not None and isinstance(change, Add):
+                await self._run(self._unknown.look_at_all, change.key, change.body, encoding)
+        return made
 
     async def is_whole(self, body: bytes) -> bool:
         """Whether a message that still goes on is whole already, with the changes that its line makes."""

@@ -4,8 +4,8 @@ import ipaddress
 import re
 from typing import Any, Callable, Dict, Iterable, List, NamedTuple, Sequence, Tuple, TypeVar, Union
 
+from ..field.normalize import CHANGES
 from ..link import FRAME_TEXT, LONG_FRAME_TEXT
-from .mend import ALWAYS, NAMES, SAME
 
 Network = Union[ipaddress.IPv4Network, ipaddress.IPv6Network]
 _MODES = re.compile(r"[5-8][NEO][12]$")
@@ -14,6 +14,9 @@ _MODES = re.compile(r"[5-8][NEO][12]$")
 ORDERS, NOTHINGS = ("ask", "send"), ("L-I", "Q-X", "silence")
 #: The links of a line: the standard's, and records between STX and ETX with no number and no checksum.
 LINKS = ("lis01", "plain")
+#: What is mended on each line, whatever it names; the names of the other mends, and one that means the same as another.
+ALWAYS = frozenset(("long",))
+NAMES, SAME = tuple(name for name in CHANGES if name not in ALWAYS), {"escape": "bytes"}
 #: The flow controls of a serial line, and the encoding of a line that names none.
 FLOWS, LATIN = ("none", "rtscts", "xonxoff"), codecs.lookup("latin-1").name
 
@@ -36,6 +39,7 @@ class Listen(NamedTuple):
     mend: Tuple[str, ...] = ()
     link: str = ""
     telnet: str = ""
+    codes: str = ""
 
 
 class Connect(NamedTuple):
@@ -51,6 +55,7 @@ class Connect(NamedTuple):
     mend: Tuple[str, ...] = ()
     link: str = ""
     telnet: str = ""
+    codes: str = ""
 
 
 class Serial(NamedTuple):
@@ -67,6 +72,7 @@ class Serial(NamedTuple):
     none: str = NOTHINGS[0]
     mend: Tuple[str, ...] = ()
     link: str = ""
+    codes: str = ""
 
 
 Place = Union[Listen, Connect, Serial]
@@ -174,6 +180,7 @@ READS: Dict[str, Callable[[str], Any]] = {
     "mend": _mend,
     "link": _link,
     "telnet": _telnet,
+    "codes": str,
 }
 _WORDS = ("frame", "encoding", "orders", "none", "mend", "link")
 TCP_WORDS, SERIAL_WORDS = (*_WORDS, "telnet"), ("mode", "flow", *_WORDS)
@@ -251,6 +258,10 @@ def networks_of(words: Sequence[str], setting: str = "--allow") -> List[Network]
         return [ipaddress.ip_network(word, strict=False) for word in words]
     except ValueError as error:
         raise OptionError(f"{setting}: {error}; a network is wanted, as 10.0.5.0/24") from None
+
+
+#: All networks.
+ANY = networks_of(("0.0.0.0/0", "::/0"))
 
 
 def check_allowed(listens: Sequence[Listen], networks: Sequence[Network]) -> None:

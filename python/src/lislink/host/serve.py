@@ -11,8 +11,9 @@ import sys
 import time
 from collections import Counter
 from concurrent.futures import ThreadPoolExecutor
-from typing import Any, Callable, Dict, Iterable, List, NamedTuple, Optional, Sequence, Set, Tuple, Union
+from typing import Any, Callable, Dict, Iterable, List, Mapping, NamedTuple, Optional, Sequence, Set, Tuple, Union
 
+from ..delivery.codes import Codes
 from ..watch.board import Board
 from . import mend, systemd
 from .commits import Committer
@@ -30,6 +31,7 @@ from .store import Store, StoreError
 from .tape import Tape
 from .telnet import Telnet
 from .tty import SerialWire, Unusable, open_serial
+from .unknown import Unknown
 
 #: How often the state is written for `lislab status`, and a serial device that is gone is looked for, in seconds.
 STATUS, REOPEN = 2.0, 1.0
@@ -56,6 +58,8 @@ class Asked(NamedTuple):
     again: Optional[Callable[[], "Asked"]] = None
     #: The socket through which `lislab watch` looks.
     watch: Optional[str] = None
+    #: The tables of codes, by the names of lines.
+    tables: Mapping[str, Codes] = {}
 
     @property
     def places(self) -> List[Place]:
@@ -137,13 +141,17 @@ class Host:
         self._menders: List[Tuple[str, Mender]] = []
         self._mending = ThreadPoolExecutor(1, "mending")
         self.would: Dict[str, "Counter[str]"] = {}
+        #: What the table of each line lacks.
+        self.unknown: Dict[str, Unknown] = {}
+        self._take_tables(asked)
 
     def add(self, wire: Wire, place: Place, peer: str) -> Line:
         """A line that is connected, heard from now on."""
         counts = self.counts.setdefault(place.name, Counter())
         counts["connections"] += 1
         mender = self._mender(place)
-        intake = Intake(place.name, peer, place.encoding, self.limits.message, time.time, mend.MOST)
+        unknown = self.unknown.setdefault(place.name, Unknown(place.name))
+        intake = Intake(place.name, peer, place.encoding, self.limits.message, time.time, mend.MOST, unknown)
         notice = functools.partial(self._notice, place.name, peer)
         probe = self.board.probe(place, self._tape(place.name), notice)
         given = (wire, intake, self.committer, self.limits, counts, probe, place.frame, notice, self.turns, mender)
@@ -167,7 +175,9 @@ class Host:
         """What mends the messages of a line, by its settings as they are now."""
         one = next((one for name, one in self._menders if name == place.name and one.names == set(place.mend)), None)
         if one is None:
-            one = Mender(place.mend, self._mending, self.would.setdefault(place.name, Counter()))
+            would = self.would.setdefault(place.name, Counter())
+            unknown = self.unknown.setdefault(place.name, Unknown(place.name))
+            one = Mender(place.mend, self._mending, would, unknown)
             self._menders.append((place.name, one))
         return one
 
@@ -291,6 +301,7 @@ class Host:
         """Takes the lines of a file that was read again."""
         before, now = ({*one.listens, *one.serials, *one.connects} for one in (self.asked, asked))
         self.asked = asked
+        other = self._take_tables(asked)
         warn([one for one in asked.places if one not in before])
         self._changed.set()  # whoever waits goes on, even if it is cleared at once
         self._changed.clear()
@@ -312,7 +323,15 @@ class Host:
             except (OSError, ValueError) as error:
                 say(f"{listen.name}: {error}")
         same = len(now & before)
-        say(f"the lines are read again: {len(before) - same} closed, {len(now) - same} opened, {same} as they were")
+        tables = f"; {len(other)} with another table of codes" if other else ""
+        what = f"{len(before) - same} closed, {len(now) - same} opened, {same} as they were{tables}"
+        say(f"the lines are read again: {what}")
+
+    def _take_tables(self, asked: Asked) -> List[str]:
+        """Takes the tables of codes: the lines that have another one now."""
+        for name in asked.tables:
+            self.unknown.setdefault(name, Unknown(name))
+        return [name for name, one in self.unknown.items() if one.take(asked.tables.get(name))]
 
     def _change_ports(self) -> List[Listen]:
         """Closes the ports that no line has now, and gives all others their lines. The lines that have no port yet."""
@@ -477,6 +496,7 @@ class Host:
             "failed_commits": self.committer.failed,
             "lines": lines,
             "would": {name: dict(one) for name, one in self.would.items() if one},
+            "unknown_codes": {name: one.names() for name, one in self.unknown.items() if one.names()},
             "notices": {name: dict(one) for name, one in self.notices.counts.items()},
             "not_said": {name: dict(one) for name, one in self.notices.not_said.items()},
         }

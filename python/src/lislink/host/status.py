@@ -117,6 +117,7 @@ def data_of(store: Store, state: Dict[str, Any], cursors: List[str]) -> Dict[str
         "refused_connections": state.get("refused_connections", 0),
         "lines": rows_of(store, state),
         "would": state.get("would", {}),
+        "unknown_codes": state.get("unknown_codes", {}),
         "notices": state.get("notices", {}),
         "not_said": state.get("not_said", {}),
         "undelivered": [{**one._asdict(), "oldest": time_text(one.oldest)} for one in waiting],
@@ -170,6 +171,8 @@ def text_of(data: Dict[str, Any]) -> str:
             rows += [f"  {held['key']} failed {held['tries']} times: {held['why']}"] if held["tries"] else []
     for name, settings in sorted(data["would"].items()):
         rows += [f"{name}: {setting} would deliver {count} messages" for setting, count in sorted(settings.items())]
+    for name, codes in sorted(data["unknown_codes"].items()):
+        rows.append(f"{name}: codes that its table lacks: " + ", ".join(f"{code} {codes[code]}" for code in codes))
     for name, kinds in sorted(data["not_said"].items()):
         counts = ", ".join(f"{count} of kind {kind}" for kind, count in sorted(kinds.items()))
         rows.append(f"{name}: notices that were not said: {counts}")

@@ -6,7 +6,7 @@ from typing import Any, Callable, Dict, Iterable, Mapping, Optional
 from ..host.options import Connect, Place, no_line
 from ..host.tape import Tape
 from ..orders.book import Failed
-from .pulse import Probe, Pulse, Says
+from .pulse import Probe, Pulse, Says, many
 from .unix import Door
 
 
@@ -42,10 +42,13 @@ class Board:
         asked = {place.name: self._pulse(place) for place in places}
         called = {place.name for place in places if isinstance(place, Connect)}
         self._pulses = {name: one for name, one in self._pulses.items() if name in asked or one.probes}
-        lines = {
-            name: self._line(one.says(unusable.get(name, ""), name in called), one, state["lines"].get(name, {}))
-            for name, one in sorted(self._pulses.items())
-        }
+        lines = {}
+        for name, one in sorted(self._pulses.items()):
+            found = one.says(unusable.get(name, ""), name in called)
+            unknown = sum(state["unknown_codes"].get(name, {}).values())
+            if unknown:
+                found = found._replace(text=f"{found.text}; {many(unknown, 'result')} with a code that its table lacks")
+            lines[name] = self._line(found, one, state["lines"].get(name, {}))
         return {**state, "scale": self._scale, "lines": lines}
 
     @staticmethod

@@ -189,6 +189,7 @@ _COUNTED = {
     "not_kept": "texts that could not be kept",
     "late": "replies that would have been late",
     "timeouts": "sessions that fell silent",
+    "unknown_codes": "results with a code that the table of the line lacks",
 }
 
 
