@@ -71,6 +71,83 @@ CASES = {
 }
 
 
+class Long(NamedTuple):
+    """A message with a record that is too long: what came, what is left of it, if it is delivered, and its mark, or why
+    it isn't."""
+
+    came: list
+    left: list
+    mark: str
+    why: str
+
+
+#: Records that are too long: a result, and a comment and a maker's record on it.
+R2, C2, M2 = (one + b"x" * 70000 + b"\r" for one in (b"R|2|^^^GRAPH|", b"C|1|I|", b"M|1|"))
+_RECORDS = (*GOOD[:4], b"C|1|I|a\r", b"M|1|b\r", b"S|1|c\r", b"R|2|^^^NA|139\r", GOOD[4])
+
+
+def long_case(letter, place, records=_RECORDS):
+    """The case in which the record at this place is too long."""
+    came = list(records)
+    came[place] = came[place][:-1] + b"x" * 70000 + b"\r"
+    gone = {"R": range(place, place + 4), **dict.fromkeys("CMS", (place,))}.get(letter, ())
+    left = [one for at, one in enumerate(came) if at not in gone] if gone else []
+    starts = [sum(map(len, came[:at])) for at in range(len(came))]
+    whys = {place: "it is too long to be read"}
+    marks = [
+        f"record {at + 1}, from byte {starts[at]}: a record was left out "
+        f"({chr(came[at][0])}, {len(came[at]) - 1} bytes): {whys.get(at, 'it is on a record that was left out')}"
+        for at in gone
+    ]
+    return Long(came, left, "; ".join(marks), f"record {place + 1}, from byte {starts[place]}: too long")
+
+
+LONG = {
+    **{letter: long_case(letter, place) for place, letter in enumerate("HPORCMS")},
+    "L": long_case("L", 8),
+    "Q": long_case("Q", 1, (GOOD[0], b"Q|1|^S7||ALL\r", GOOD[4])),
+}
+
+
+def bangs(*records):
+    """The same records with another field delimiter."""
+    return [one.replace(b"|", b"!") for one in records]
+
+
+def random_records(rng):
+    """The records of a message, some of which are too long."""
+    records = [GOOD[0]]
+    for patient in range(rng.randrange(1, 3)):
+        records.append(b"P|%d||%d\r" % (patient + 1, rng.randrange(9)))
+        for order in range(rng.randrange(3)):
+            records.append(b"O|%d|S%d\r" % (order + 1, rng.randrange(9)))
+            for result in range(rng.randrange(4)):
+                records.append(b"R|%d|^^^A|%d\r" % (result + 1, rng.randrange(9)))
+                records += [b"%s|1|%d\r" % (rng.choice((b"C", b"M", b"S")), at) for at in range(rng.randrange(3))]
+    records.append(GOOD[4])
+    likely = [at for at, one in enumerate(records) if one[:1] in b"RCMS"]
+    others = [rng.randrange(len(records))] if rng.random() < 0.2 else []
+    for at in {*others, *rng.choices(likely or [0], k=rng.randrange(3))}:
+        records[at] = records[at][:-1] + b"x" * 65536 + b"\r"
+    return records
+
+
+def results_of(records):
+    """Each result with the patient and the order above it, and the comments and makers' records on it that aren't too
+    long."""
+    above, found = {}, []
+    for one in records:
+        letter = one[:1]
+        above[letter] = one
+        if letter == b"R":
+            found.append((above[b"P"], above[b"O"], one, []))
+        elif letter in (b"P", b"O"):
+            found.append(("", "", b"", []))
+        elif letter in b"CMS" and found and len(one) <= 65537:
+            found[-1][3].append(one)
+    return [one for one in found if one[2]]
+
+
 def units(name):
     """What the analyzer of a sample sends, unit by unit."""
     with open(os.path.join(SAMPLES, f"{name}.capture"), "rb") as file:
@@ -101,7 +178,7 @@ class Mends(HostTest):
 
     def test_each(self):
         """Each mend: without it the message isn't delivered, with it it is; what came is kept as it came."""
-        self.same("each name has a sample", sorted([*CASES, "long"]), sorted(options.NAMES))
+        self.same("each name has a sample", sorted(CASES), sorted(options.NAMES))
         self.are_samples()
         words = []
         for name, case in CASES.items():
@@ -163,26 +240,89 @@ class Mends(HostTest):
                 self.same(f"{name}: frame {number}", (unit[1], unit[-4:]), (48 + number % 8, total + b"\r\n"))
 
     def test_long(self):
-        """A record of over 65,536 bytes: the others are delivered, it is named with its place, its bytes are kept."""
-        long, after = b"R|2|^^^GRAPH|" + b"x" * 70000 + b"\r", b"R|3|^^^NA|139\r"
-        records = [*GOOD[:4], long, b"C|1|I|its comment\r", after, GOOD[4]]
-        words = ["--listen", "0,name=bare,frame=63993", "--listen", "0,name=long,frame=63993,mend=long"]
+        """A record of over 65,536 bytes is left out without a setting if nothing but comments belongs to it: the others
+        are delivered, it is named with its place, and what came is kept. Else nothing is delivered."""
+        words = [word for name in LONG for word in ("--listen", f"0,name={name},frame=63993")]
+        words += ["--listen", "0,name=named,frame=63993,mend=long"]
         host = Host(self.path("long.db"), *words, scale=1.0, listen=False)
-        order = [*GOOD[:2], GOOD[2].replace(b"S7", b"S7" + b"x" * 70000), *GOOD[3:]]
-        for name, sent in (("bare", records), ("long", records), ("long", order)):
-            self.same(f"{name}: acknowledged", set(play(ports_of(host)[name], long_units(sent))), {ACK})
+        ports = ports_of(host)
+        for name, case in {**LONG, "named": LONG["R"]}.items():
+            replies = play(ports[name], long_units(case.came))
+            self.same(f"{name}: acknowledged", set(replies), {ACK})
         self.same("the host's status", host.stop(), 0)
         found = Found(host.store)
-        self.same("delivered", [one.body for one in found.whole], [b"".join([*GOOD[:4], after, GOOD[4]])])
-        mark = f"record 5, from byte 64: a record was left out (R, {len(long) - 1} bytes): it is too long to be read; "
-        mark += f"record 6, from byte {64 + len(long)}: a record was left out (C, 17 bytes): "
-        mark += "it is on a record that was left out"
-        self.same("it is marked", found.whole[0].reason.partition(": ")[2], mark)
-        bodies = [b"".join(records), b"".join(records), b"".join(order)]
-        self.same("what came is kept", [one.body for one in found.others], bodies)
-        reasons = [one.reason for one in found.others]
-        self.has("the setting is named", reasons[0], "mend=long would deliver it")
-        self.true("no order is left out", reasons[2].startswith("record 3, from byte 27: "), reasons[2])
+        for name, case in {**LONG, "named": LONG["R"]}.items():
+            self.is_left_out(name, case, found)
+        shown = lislab("status", "--store", host.store).stdout
+        self.true("no setting is named", "mend=" not in shown + host.errors[-1], shown)
+        self.has("it is said", host.errors[-1], "is mended: delivered as ")
+
+    def is_left_out(self, name, case, found):
+        """Whether a message is delivered without its long record, if one may be left out."""
+        whole = [one for one in found.whole if one.line == name]
+        wanted = [b"".join(case.left)] if case.left else []
+        self.same(f"{name}: delivered", [one.body for one in whole], wanted)
+        kept = [one for one in found.others if one.line == name]
+        self.same(f"{name}: what came", [one.body for one in kept], [b"".join(case.came)])
+        for one in whole:
+            self.same(f"{name}: it is marked", one.reason.partition(": ")[2], case.mark)
+            self.has(f"{name}: what was made of it", kept[0].reason, f"mended: delivered as {one.key}; {case.why}")
+        if not case.left:
+            self.same(f"{name}: why it isn't delivered", kept[0].reason, case.why)
+
+    def test_long_parts(self):
+        """What else may be left out with a record that is too long, and what may not."""
+        many = [b"C|1|I|\xffa\r", b"C|2|I|b\r"] * 60
+        for name, came, left, mark in (
+            ("two", [*GOOD[:4], R2, C2, M2, R2, *GOOD[4:]], GOOD, "record 8, from byte"),
+            ("another field delimiter", [b"H!\\^&\r", *bangs(*GOOD[1:4], R2, GOOD[4])], [b"H!\\^&\r", *bangs(*GOOD[1:])],
+             "record 5, from byte 53"),
+            ("small letters", [*GOOD[:4], R2.lower(), C2.lower(), *GOOD[4:]], GOOD, "record 5, from byte 64"),
+            ("escapes", [*GOOD[:4], R2[:-1] + b"&X41&" * 20000 + b"\r", *GOOD[4:]], GOOD, "record 5, from byte 64"),
+            ("the only result", [*GOOD[:3], R2, C2, *GOOD[4:]], [*GOOD[:3], *GOOD[4:]], "record 4, from byte 42"),
+            ("lines of a text", [*GOOD[:4], M2.replace(b"x", b"\n", 9), *GOOD[4:]], GOOD, "record 5, from byte 64"),
+            ("other changes", [*GOOD[:4], *many, M2, *GOOD[4:]],
+             [*GOOD[:4], *(one.replace(b"\xff", b"&XFF&") for one in many), *GOOD[4:]], "record 125, from byte"),
+        ):
+            found = mend.mended(b"".join(came), frozenset(("bytes",)))
+            self.same(f"{name}: what is left", found and found.messages, [b"".join(left)])
+            self.true(f"{name}: it is named", found and any(mark in one for one in found.told), repr(found)[-900:])
+        for name, came, setting in (
+            ("results that end in LF", [*GOOD[:3], b"R|1|^^^A|5\nR|2|^^^B|" + b"6" * 70000 + b"\r", GOOD[4]], ["lf"]),
+            ("a patient within a comment", [*GOOD[:4], C2[:-1] + b"\nP|2||4712\r", b"O|1|S8\r", *GOOD[3:]], ["lf"]),
+            ("a patient after a word for CR", [*GOOD[:4], C2[:-1] + b"<CR>P|2||4712\r", b"O|1|S8\r", *GOOD[3:]], []),
+            ("no record", [*GOOD[:4], b"Caesar" + b"x" * 70000 + b"\r", GOOD[4]], []),
+            ("another one that can't be read", [*GOOD[:4], R2, b"Z|1\r", GOOD[4]], []),
+            ("no L", [*GOOD[:4], R2], ["last-l"]),
+        ):
+            self.same(f"{name}: not left out", mend.mended(b"".join(came), frozenset()), None)
+            self.same(f"{name}: the setting", mend.lacking(b"".join(came), frozenset(), True), setting)
+
+    def test_long_random(self):
+        """Of random messages with long records each result that is delivered has the patient and the order that it had,
+        and none is missing but those that are too long."""
+        rng, delivered = random.Random(23), 0
+        for turn in range(300):
+            records = random_records(rng)
+            found = mend.mended(b"".join(records), frozenset())
+            if any(len(one) > 65537 and one[:1] in b"HPOQL" for one in records):
+                self.same(f"{turn}: a long record that others belong to", found, None)
+                continue
+            wanted = [each for each in results_of(records) if len(each[2]) <= 65537]
+            out = results_of(found.messages[0].splitlines(True)) if found else None
+            self.need(out == wanted, lambda: f"{turn}: {[one[:30] for one in records]}")
+            delivered += any(len(one) > 65537 for one in records)
+        self.true("some have long records", delivered > 50, str(delivered))
+
+    def test_long_query(self):
+        """A query with a comment that is too long is answered."""
+        host = Host(self.path("asks.db"), "--listen", "0,name=q,orders=ask,frame=63993", scale=1.0, listen=False)
+        with Client(ports_of(host)["q"]) as client:
+            *units, end = long_units([GOOD[0], b"Q|1|^S7||ALL\r", C2, GOOD[4]])
+            self.same("a query", {client.asks(unit, seconds=60) for unit in units}, {ACK})
+            client.send(end)
+            self.same("the host answers", client.heard(1, 60), ENQ)
+        self.same("the host's status", host.stop(), 0)
 
     def test_not_mended(self):
         """What would change a result isn't mended; a session that breaks off, or a frame that stays rejected, isn't the
@@ -263,6 +403,7 @@ class Mends(HostTest):
         place = options.listen_of("0,mend=last-l,escape,name=a")
         self.same("names in their order", (place.mend, place.name), (("bytes", "last-l"), "a"))
         self.same("with a sign between them", options.serial_of("/dev/x:9600,mend=crlf+lf").mend, ("crlf", "lf"))
+        self.same("what is always done", options.listen_of("0,mend=long,nul").mend, ("nul",))
         with open(self.path("mends.lines"), "w", encoding="ascii") as file:
             file.write("[a]\nlisten = 1\nmend = last-l, bytes\n  nul\n[b]\nlisten = 2\nmend = lfs\n")
         found = lines.read_lines(file.name, [])
