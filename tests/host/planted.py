@@ -179,10 +179,9 @@ FAULTS = {
     "test_mends.Mends.test_line_feeds": Edit(
         "host/feeds.py", "(int(digits, 16) + count) % 256", "sum(body[1:].replace(_LF, _VT) + end) % 256"
     ),
-    "test_mends.Mends.test_long": Edit(
-        "host/mend.py", 'normalize(body, set(names) - {"long"})', "normalize(body, set(names))"
+    "test_mends.Mends.test_not_mended": Edit(
+        "host/mend.py", "if gone_of_results(body, out) != _long_results(body, names):", "if not out:"
     ),
-    "test_mends.Mends.test_not_mended": Edit("host/mend.py", "if any(changed_lines(body, kept)):", "if not kept:"),
     "test_mends.Mends.test_query": Edit("host/duplex.py", "Asking().take(body[: QUERY + 1])", "Asking().take(body[:9])"),
     "test_mends.Mends.test_repeats": Edit("host/line.py", "_join(part, await self._ends_now(text))", "_join(part, [])"),
     "test_mends.Mends.test_streams": Edit(

@@ -83,6 +83,43 @@ FAULTS = {
     ),
     "test_fhir.Https.test_posts": ("delivery/https.py", '"X-Request-ID": key', '"X-Request-ID": kind'),
     "test_fhir.Https.test_words": ("delivery/https.py", "or parts.username or", "or"),
+    "test_line_codes.LineCodes.test_a_delivery": (
+        "delivery/commands.py",
+        "    write = export.writer_of(form, coder_of(ask.codes, ask.lines, say))\n    if scheme",
+        "    write = export.writer_of(form, coder_of(ask.codes, ask.lines))\n    if scheme",
+    ),
+    "test_line_codes.LineCodes.test_applied": (
+        "delivery/tables.py",
+        "self._read.lines.get(one.line, self._read.others)",
+        "self._read.others or self._read.lines.get(one.line)",
+    ),
+    "test_line_codes.LineCodes.test_as_delivered": (
+        "host/unknown.py", "Entry(row, 0, encoding)", 'Entry(row, 0, "latin-1")'
+    ),
+    "test_line_codes.LineCodes.test_faults": (
+        "host/lines.py",
+        "            self._faults += [(row, fault) for fault in self._tables[path].faults]\n",
+        "        self._faults += [(row, fault) for fault in self._tables[path].faults]\n",
+    ),
+    "test_line_codes.LineCodes.test_many": (
+        "host/unknown.py", "pair if pair in found or len(found) < MOST else _OTHERS", "pair"
+    ),
+    "test_line_codes.LineCodes.test_read_again": (
+        "delivery/tables.py", "            if paths == self._paths:\n                break\n", "            break\n"
+    ),
+    "test_line_codes.LineCodes.test_said": (
+        "host/serve.py",
+        "if one.take(asked.tables.get(name))]",
+        "if one.table is None and one.take(asked.tables.get(name))]",
+    ),
+    "test_mends.Mends.test_long": ("field/normalize.py", 'letter in (b"R", b"C",', 'letter in (b"O", b"R", b"C",'),
+    "test_mends.Mends.test_long_parts": ("field/compare.py", "in _pieces(text)) == 1", "in _pieces(text)) >= 1"),
+    "test_mends.Mends.test_long_query": (
+        "host/mend.py", "if not self.names and not has_long(body):", "if not self.names:"
+    ),
+    "test_mends.Mends.test_long_random": (
+        "field/normalize.py", 'is_of_one or letter == b"R"', 'is_of_one or letter in (b"R", b"C", b"M", b"S")'
+    ),
     "test_mllp.Oru.test_fields": ("delivery/oru.py", "10: one.key,", "10: one.line,"),
     "test_mllp.Oru.test_no_library": (
         "delivery/oru.py", "        raise LibraryMissing(why) from None", "        raise"
