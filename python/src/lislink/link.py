@@ -6,7 +6,7 @@ thread raises WrongThread. A call that the library rejects raises LinkError with
 import ctypes
 import enum
 import threading
-from typing import Any, Iterator, NamedTuple, Optional, Tuple
+from typing import Any, Generic, Iterator, NamedTuple, Optional, Tuple, TypeVar
 
 from . import _library
 from ._checks import as_bytes, as_flag, as_number
@@ -266,6 +266,96 @@ class Owner:
         self._end()  # nobody else has the object now, whatever thread collects it
 
 
+class SendingEnd(Owner):
+    """What a sender and a station share: a session of their own."""
+
+    #: What a frame is written into that is too long for a struct; None if there are no such frames.
+    _room: "Optional[ctypes.Array[ctypes.c_char]]" = None
+
+    def _set_room(self, frame_limit: int) -> None:
+        if frame_limit == LONG_FRAME_TEXT:
+            self._room = ctypes.create_string_buffer(LONG_FRAME_TEXT + 7)
+
+    def _put_text(self, text: bytes) -> None:
+        """Adds a copy of a text to the next session."""
+        text = as_bytes(text)
+        status = self._call("add_text", address(text), len(text))
+        if status:
+            raise LinkError(status)
+
+    def _started(self) -> bytes:
+        """Starts a session with the texts that were added; returns ENQ, to be sent."""
+        out, fault = _library.Bytes(), _library.Place()
+        status = self._call("start", ctypes.byref(out), ctypes.byref(fault))
+        if status:
+            raise LinkError(status, fault.index, fault.place)
+        return bytes(out.bytes[: out.len])
+
+    def _long_frame(self) -> bytes:
+        """The frame that the last reply asked for, if it is too long for a struct."""
+        size = ctypes.c_size_t()
+        if self._room is None or self._call("frame", self._room, len(self._room), ctypes.byref(size)):
+            return b""
+        return self._room.raw[: size.value]
+
+    @property
+    def phase(self) -> Phase:
+        """What the session waits for; NEUTRAL if none goes on."""
+        return Phase(self._call("phase"))
+
+    @property
+    def outcome(self) -> Outcome:
+        """How the last session ended."""
+        return Outcome(self._call("outcome"))
+
+    @property
+    def acknowledged(self) -> int:
+        """How many frames of the session are acknowledged."""
+        return int(self._call("acknowledged"))
+
+
+Meaning = TypeVar("Meaning")
+
+
+class ReceivingEnd(Owner, Generic[Meaning]):
+    """What a receiver and a station share: the other side's sessions."""
+
+    def hear(self, data: bytes) -> Iterator[Meaning]:
+        """What further bytes mean, of those that mean something, in order. Bytes that a loop leaves unheard are heard by
+        the next call."""
+        return (one for _, one in self.hear_placed(data))
+
+    def hear_placed(self, data: bytes) -> Iterator[Tuple[int, Meaning]]:
+        """As `hear`, each step with the place in `data` of the byte that it is about; below 0 for bytes of an
+        earlier piece."""
+        left = self._add(data)
+        return self._heard(left)
+
+    def _heard(self, left: int) -> Iterator[Tuple[int, Meaning]]:
+        raise NotImplementedError
+
+    def reserve(self, count: int) -> None:
+        """Makes room for so many more bytes of text."""
+        status = self._call("reserve", as_number(count, 0, (1 << 64) - 1, "the count"))
+        if status:
+            raise LinkError(status)
+
+    @property
+    def is_open(self) -> bool:
+        """Whether the other side has the line, and the receiver's timer runs."""
+        return bool(self._call("is_open"))
+
+    @property
+    def accepted(self) -> int:
+        """How many frames were accepted since the other side got the line."""
+        return int(self._call("accepted"))
+
+    @property
+    def held(self) -> int:
+        """How many bytes are held of a text that isn't complete."""
+        return int(self._call("held"))
+
+
 class Scanner(Owner):
     """Reads link bytes in pieces. A frame's text has at most `frame_limit` bytes, FRAME_TEXT or LONG_FRAME_TEXT."""
 
@@ -302,7 +392,7 @@ class Scanner(Owner):
                 )
 
 
-class Sender(Owner):
+class Sender(SendingEnd):
     """The sending end. `start`, `reply` and `timer` return the bytes to send.
 
     A frame's text has at most `frame_limit` bytes, FRAME_TEXT or LONG_FRAME_TEXT."""
@@ -312,14 +402,11 @@ class Sender(Owner):
     def __init__(self, *, frame_limit: int = FRAME_TEXT) -> None:
         super().__init__()
         self._set_limit(frame_limit)
-        self._room = ctypes.create_string_buffer(LONG_FRAME_TEXT + 7) if frame_limit == LONG_FRAME_TEXT else None
+        self._set_room(frame_limit)
 
     def add_text(self, text: bytes) -> None:
         """Adds a copy of a text to the next session."""
-        text = as_bytes(text)
-        status = self._call("add_text", address(text), len(text))
-        if status:
-            raise LinkError(status)
+        self._put_text(text)
 
     def clear(self) -> None:
         """Drops the texts of the next session."""
@@ -327,22 +414,11 @@ class Sender(Owner):
 
     def start(self) -> bytes:
         """Starts a session with the texts that were added; returns ENQ, to be sent."""
-        out, fault = _library.Bytes(), _library.Place()
-        status = self._call("start", ctypes.byref(out), ctypes.byref(fault))
-        if status:
-            raise LinkError(status, fault.index, fault.place)
-        return bytes(out.bytes[: out.len])
+        return self._started()
 
     def reply(self, byte: int) -> bytes:
         """A reply byte came: what is to be sent."""
         return self._sent("reply", as_number(byte, 0, 255, "the reply")) or self._long_frame()
-
-    def _long_frame(self) -> bytes:
-        """The frame that the last reply asked for, if it is too long for a struct."""
-        size = ctypes.c_size_t()
-        if self._room is None or self._call("frame", self._room, len(self._room), ctypes.byref(size)):
-            return b""
-        return self._room.raw[: size.value]
 
     def timer(self) -> bytes:
         """The time of `seconds` is over: what is to be sent."""
@@ -358,27 +434,12 @@ class Sender(Owner):
         return bytes(out.bytes[: out.len])
 
     @property
-    def phase(self) -> Phase:
-        """What the sender waits for."""
-        return Phase(self._call("phase"))
-
-    @property
-    def outcome(self) -> Outcome:
-        """How the last session ended."""
-        return Outcome(self._call("outcome"))
-
-    @property
-    def acknowledged(self) -> int:
-        """How many frames of the session are acknowledged."""
-        return int(self._call("acknowledged"))
-
-    @property
     def seconds(self) -> Optional[int]:
         """After how many seconds `timer` is due, if no reply comes; None if no session goes on."""
         return {Phase.NEUTRAL: None, Phase.BUSY: BUSY, Phase.CONTENTION: CONTENTION}.get(self.phase, REPLY)
 
 
-class Receiver(Owner):
+class Receiver(ReceivingEnd[Step]):
     """The receiving end. Keep a step's text first, then send its reply. If you can't keep it, call `restart` and
     send nothing.
 
@@ -390,18 +451,7 @@ class Receiver(Owner):
         super().__init__()
         self._set_limit(frame_limit)
 
-    def hear(self, data: bytes) -> Iterator[Step]:
-        """The steps of these bytes that mean something, in order. Bytes that a loop leaves unheard are heard by the
-        next call."""
-        return (step for _, step in self.hear_placed(data))
-
-    def hear_placed(self, data: bytes) -> Iterator[Tuple[int, Step]]:
-        """As `hear`, each step with the place in `data` of the byte that it is about; below 0 for bytes of an
-        earlier piece."""
-        left = self._add(data)
-        return self._steps(left)
-
-    def _steps(self, left: int) -> Iterator[Tuple[int, Step]]:
+    def _heard(self, left: int) -> Iterator[Tuple[int, Step]]:
         out = _library.StepOut()
         while self._at < len(self._piece):
             self._read_on("hear", out)
@@ -427,27 +477,6 @@ class Receiver(Owner):
         if isinstance(readiness, bool):
             raise TypeError("a Readiness is needed, not bool")
         self._call("set_ready", Readiness(readiness))
-
-    def reserve(self, count: int) -> None:
-        """Makes room for so many more bytes of text."""
-        status = self._call("reserve", as_number(count, 0, (1 << 64) - 1, "the count"))
-        if status:
-            raise LinkError(status)
-
-    @property
-    def is_open(self) -> bool:
-        """Whether the line is open, and so the receiver's timer runs."""
-        return bool(self._call("is_open"))
-
-    @property
-    def accepted(self) -> int:
-        """How many frames were accepted since the line was last opened."""
-        return int(self._call("accepted"))
-
-    @property
-    def held(self) -> int:
-        """How many bytes are held of a text that isn't complete."""
-        return int(self._call("held"))
 
     def _told(self, out: _library.StepOut) -> Step:
         text = self._text() if out.has_text else None

@@ -5,8 +5,8 @@ import enum
 from typing import Iterable, Iterator, NamedTuple, Optional, Tuple
 
 from . import _library
-from ._checks import as_bytes, as_flag, as_number
-from .link import FRAME_TEXT, LONG_FRAME_TEXT, LinkError, Note, Outcome, Owner, Phase, Step, address
+from ._checks import as_flag, as_number
+from .link import FRAME_TEXT, LinkError, Note, ReceivingEnd, SendingEnd, Step
 
 
 class Role(enum.IntEnum):
@@ -35,7 +35,7 @@ class Answer(NamedTuple):
         return None if self.step is None else self.step.note
 
 
-class Station(Owner):
+class Station(SendingEnd, ReceivingEnd[Answer]):
     """One side of a line on which both sides send: it receives at any time, and sends a session when it is started.
 
     Give it each byte that comes (`hear`), and call `timer` when `seconds` have passed since its last answer; it says
@@ -52,7 +52,7 @@ class Station(Owner):
             raise TypeError("a Role is needed, not bool")
         super().__init__()
         self._begin(Role(role), as_number(frame_limit, 0, (1 << 64) - 1, "the frame limit"))
-        self._room = ctypes.create_string_buffer(LONG_FRAME_TEXT + 7) if frame_limit == LONG_FRAME_TEXT else None
+        self._set_room(frame_limit)
 
     def _begin(self, role: Role, frame_limit: int) -> None:
         """Makes the station new; one that can't be is closed."""
@@ -64,40 +64,19 @@ class Station(Owner):
     def start(self, texts: Iterable[bytes]) -> bytes:
         """Asks for the line, to send these texts in one session; returns ENQ, to be sent.
 
-        LinkError, and the station is as before: LINE_OPEN while the other side has the line; IN_SESSION while a
-        session of its own goes on; NO_TEXT, FULL, OUT_OF_MEMORY; TOO_LONG or FORBIDDEN with the text and the byte.
-        The session is over when `phase` is NEUTRAL again, and only the `outcome` DONE says that all texts were
-        acknowledged. Keep yours until then: once a session is over, the station has its texts no more, however it
-        ended."""
-        out, fault = _library.Bytes(), _library.Place()
+        LinkError, and the station is as before: LINE_OPEN while the other side has the line; IN_SESSION while a session
+        of its own goes on; NO_TEXT, FULL, OUT_OF_MEMORY; TOO_LONG or FORBIDDEN with the text and the byte. The session
+        is over when `phase` is NEUTRAL again; only `outcome` DONE says that all texts were acknowledged. Keep yours
+        until then: the station has them no more, however the session ended."""
         self._call("clear")
         try:
             for text in texts:
-                self._add_text(as_bytes(text))
-            status = self._call("start", ctypes.byref(out), ctypes.byref(fault))
+                self._put_text(text)
+            return self._started()
         finally:
             self._call("clear")
-        if status:
-            raise LinkError(status, fault.index, fault.place)
-        return bytes(out.bytes[: out.len])
 
-    def _add_text(self, text: bytes) -> None:
-        status = self._call("add_text", address(text), len(text))
-        if status:
-            raise LinkError(status)
-
-    def hear(self, data: bytes) -> Iterator[Answer]:
-        """The answers to these bytes that mean something, in order. Bytes that a loop leaves unheard are heard by
-        the next call."""
-        return (answer for _, answer in self.hear_placed(data))
-
-    def hear_placed(self, data: bytes) -> Iterator[Tuple[int, Answer]]:
-        """As `hear`, each answer with the place in `data` of the byte that it is about; below 0 for bytes of an
-        earlier piece."""
-        left = self._add(data)
-        return self._answers(left)
-
-    def _answers(self, left: int) -> Iterator[Tuple[int, Answer]]:
+    def _heard(self, left: int) -> Iterator[Tuple[int, Answer]]:
         out = _library.AnswerOut()
         while self._at < len(self._piece):
             self._read_on("hear", out)
@@ -132,12 +111,6 @@ class Station(Owner):
         answered EOT in place of ACK."""
         self._call("ask_turn")
 
-    def reserve(self, count: int) -> None:
-        """Makes room for so many more bytes of text."""
-        status = self._call("reserve", as_number(count, 0, (1 << 64) - 1, "the count"))
-        if status:
-            raise LinkError(status)
-
     @property
     def seconds(self) -> Optional[int]:
         """After how many seconds `timer` is due; None if no timer runs, 0 if it is over at once."""
@@ -160,46 +133,9 @@ class Station(Owner):
         """Whether the next byte is a reply to its own ENQ or frame."""
         return bool(self._call("awaits_reply"))
 
-    @property
-    def is_open(self) -> bool:
-        """Whether the other side has the line."""
-        return bool(self._call("is_open"))
-
-    @property
-    def phase(self) -> Phase:
-        """What its sender waits for; NEUTRAL if no session of its own goes on."""
-        return Phase(self._call("phase"))
-
-    @property
-    def outcome(self) -> Outcome:
-        """How its own last session ended."""
-        return Outcome(self._call("outcome"))
-
-    @property
-    def acknowledged(self) -> int:
-        """How many frames of its own session are acknowledged."""
-        return int(self._call("acknowledged"))
-
-    @property
-    def accepted(self) -> int:
-        """How many frames were accepted since the other side got the line."""
-        return int(self._call("accepted"))
-
-    @property
-    def held(self) -> int:
-        """How many bytes are held of a text that isn't complete."""
-        return int(self._call("held"))
-
     def _told(self, out: _library.AnswerOut) -> Answer:
         send = bytes(out.send.bytes[: out.send.len])
         if not out.is_step:
             return Answer(send or self._long_frame(), None)
         step, text = out.step, self._text() if out.step.has_text else None
         return Answer(send, Step(send, text, Note(step.note), step.detail, step.place))
-
-    def _long_frame(self) -> bytes:
-        """The frame to be sent, if it is too long for a struct."""
-        size = ctypes.c_size_t()
-        if self._room is None or self._call("frame", self._room, len(self._room), ctypes.byref(size)):
-            return b""
-        return self._room.raw[: size.value]
