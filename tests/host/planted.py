@@ -276,7 +276,7 @@ FAULTS = {
         "if self._sending is not None:\n            self._outbox.sent(self._sending)",
     ),
     "test_orders.Answers.test_asked_before_the_line_went": Edit(
-        "host/outbox.py", "            self._later(self._left(site))", "            pass"
+        "host/outbox.py", "            self._work.begin(self._left(site))", "            pass"
     ),
     "test_orders.Answers.test_a_query_that_is_taken_back": Edit(
         "host/duplex.py", "            back.append(self._sending)\n            self._sending = None", "            pass"

@@ -259,7 +259,7 @@ def _segments(
     remarks: List[str],
 ) -> Log:
     """Packets that have their TCP numbers are put together as those of a pcap."""
-    from .packets import _one_after_another, joined
+    from .packets import joined
 
     segments, groups = [], {}  # type: List[Segment], Dict[str, List[Segment]]
     for one in told:
@@ -276,9 +276,6 @@ def _segments(
         found = [every[stream - 1]]
     if not found:
         raise LogError("no ENQ and no STX is in the packets")
-    if len(found) > 1 and not _one_after_another(found):
-        names = "; ".join(f"--stream {every.index(one) + 1}: {one.name()}" for one in found)
-        raise LogError(f"{len(found)} connections have ENQ or STX, choose one: {names}")
     log = joined(found, every, form)
     return log._replace(remarks=log.remarks + remarks)
 

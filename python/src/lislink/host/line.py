@@ -420,7 +420,7 @@ class Line:
         changes = self._intake.drop(reason)
         if self._intake.bodies:
             bodies, self._intake.bodies = self._intake.bodies, {}
-            self._mender.later(self._end_later(changes, bodies, is_over))
+            self._mender.tasks.begin(self._end_later(changes, bodies, is_over))
         elif changes:
             self._put_later(changes)
 

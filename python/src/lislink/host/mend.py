@@ -7,8 +7,7 @@ import re
 import time
 from collections import Counter
 from concurrent.futures import Executor
-from typing import Any, Callable, Coroutine, FrozenSet, Iterator, List, Mapping, NamedTuple, Optional, Sequence, Set
-from typing import Tuple, TypeVar
+from typing import Any, Callable, FrozenSet, Iterator, List, Mapping, NamedTuple, Optional, Sequence, Tuple, TypeVar
 
 from ..field.compare import gone_of_results
 from ..field.normalize import Told, normalize
@@ -16,6 +15,7 @@ from ..message import Fault, read_all
 from ..records import RECORD_BYTES
 from .options import ALWAYS, NAMES
 from .store import MENDED, WHOLE, Add, Begin, Change, End, new_key
+from .tasks import Tasks
 from .unknown import Unknown
 
 #: Those of lines whose frames may hold LF.
@@ -154,7 +154,8 @@ class Mender:
         #: How many messages each setting would have delivered.
         self._would = would
         self._left, self._at = float(AT_ONCE), time.monotonic()
-        self._tasks: "Set[asyncio.Task[None]]" = set()
+        #: Work for which the line doesn't wait.
+        self.tasks = Tasks()
 
     async def of_all(self, changes: Sequence[Change], bodies: Bodies, is_over: bool) -> List[Change]:
         """These changes, with those of the messages that are made of the ones that end and aren't whole."""
@@ -202,17 +203,6 @@ class Mender:
 
     async def _run(self, work: Callable[..., T], *words: Any) -> T:
         return await asyncio.get_running_loop().run_in_executor(self._executor, work, *words)
-
-    def later(self, work: Coroutine[Any, Any, None]) -> None:
-        """Does work for which the line doesn't wait."""
-        task: "asyncio.Task[None]" = asyncio.ensure_future(work)
-        self._tasks.add(task)
-        task.add_done_callback(self._tasks.discard)
-
-    async def finish(self) -> None:
-        """Done when all that was begun is done."""
-        while self._tasks:
-            await asyncio.wait(list(self._tasks))
 
     def _may_try(self, size: int) -> bool:
         now = time.monotonic()

@@ -10,6 +10,7 @@ from ..orders.order import ANSWERED, NORMAL, ORDERED, QUERIED, OrderError, nothi
 from ..orders.query import Query
 from ..records import MessageError, messages
 from .store import StoreError
+from .tasks import Tasks
 
 #: The most orders of a session, and of an answer; seconds between looks at the store; the seconds that a command has;
 #: the most bytes that it may answer; seconds until the next try, by the tries so far.
@@ -67,7 +68,7 @@ class Outbox:
         self._book: Optional[OrderBook] = None
         #: The orders that are being sent, or are sent and not yet marked.
         self._in_hand: Set[int] = set()
-        self._work: "Set[asyncio.Task[None]]" = set()
+        self._work = Tasks(say)
         self._looking: "Optional[asyncio.Task[None]]" = None
         self._woken: List[Callable[[str, str], None]] = []
         #: Who sees which orders have failed, and how many had when that was looked at.
@@ -81,34 +82,21 @@ class Outbox:
         """Opens the store; StoreError."""
         if not self._command:
             self._book = await self._run(self._open)
-            self._looking = self._later(self._look())
+            self._looking = self._work.begin(self._look())
 
     async def stop(self) -> None:
         """Marks what is sent and isn't marked yet, as far as the store lets it."""
         if self._looking is not None:
             self._looking.cancel()
-        if self._work:
-            await asyncio.wait(list(self._work), timeout=2.0)
-        for task in self._work:
-            task.cancel()
-        await asyncio.gather(*self._work, return_exceptions=True)
+        if self._work.all:
+            await asyncio.wait(list(self._work.all), timeout=2.0)
+        await self._work.cancel()
         if self._book is not None:
             await self._run(self._book.close)
         self._thread.shutdown()
 
     async def _run(self, work: Callable[..., Any], *words: Any) -> Any:
         return await asyncio.get_running_loop().run_in_executor(self._thread, functools.partial(work, *words))
-
-    def _later(self, work: Any) -> "asyncio.Task[None]":
-        task: "asyncio.Task[None]" = asyncio.ensure_future(work)
-        self._work.add(task)
-        task.add_done_callback(self._over)
-        return task
-
-    def _over(self, done: "asyncio.Task[None]") -> None:
-        self._work.discard(done)
-        if not done.cancelled() and done.exception() is not None:
-            self._say(f"given up: {type(done.exception()).__name__}: {done.exception()}")
 
     # ---- waking lines
 
@@ -125,7 +113,7 @@ class Outbox:
         self._woken.remove(woken)
         self._queries.pop(site.place, None)
         if self._book is not None:
-            self._later(self._left(site))
+            self._work.begin(self._left(site))
 
     async def _left(self, site: Site) -> None:
         assert self._book is not None
@@ -272,13 +260,13 @@ class Outbox:
             texts_of([one.order], site.encoding)
             return True
         except OrderError as error:
-            self._later(self._in_vain(site, [one], str(error), 1))
+            self._work.begin(self._in_vain(site, [one], str(error), 1))
             return False
 
     def sent(self, batch: Batch) -> None:
         """All of it was acknowledged, in a session that is done."""
         if batch.placed:
-            self._later(self._mark([one.number for one in batch.placed]))
+            self._work.begin(self._mark([one.number for one in batch.placed]))
 
     async def _mark(self, numbers: List[int]) -> None:
         """Marks orders as sent. Until that is done nobody sends them again but a host that starts anew."""
@@ -296,7 +284,7 @@ class Outbox:
         """It was sent in vain."""
         self._say(f"{site.line}: not sent: {batch.told}: {why}")
         if batch.placed:
-            self._later(self._in_vain(site, batch.placed, why, self._tries))
+            self._work.begin(self._in_vain(site, batch.placed, why, self._tries))
 
     async def _in_vain(self, site: Site, placed: Sequence[Placed], why: str, most: int) -> None:
         assert self._book is not None

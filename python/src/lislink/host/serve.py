@@ -29,6 +29,7 @@ from .plainlink import PlainLine
 from .said import announce, say
 from .store import Store, StoreError
 from .tape import Tape
+from .tasks import Tasks
 from .telnet import Telnet
 from .tty import SerialWire, Unusable, open_serial
 from .unknown import Unknown
@@ -136,7 +137,7 @@ class Host:
         self._devices: "Dict[Any, asyncio.Task[None]]" = {}
         #: Set for a moment when the file of lines was read again.
         self._changed = asyncio.Event()
-        self._others: "Set[asyncio.Task[None]]" = set()
+        self._others = Tasks(say)
         #: What mends messages, by the names of lines; and how many of each line a setting would deliver.
         self._menders: List[Tuple[str, Mender]] = []
         self._mending = ThreadPoolExecutor(1, "mending")
@@ -231,15 +232,15 @@ class Host:
         for place in self.asked.listens:
             await self._listen(place)
         for serial in self.asked.serials:
-            self._devices[serial.device] = self._task(self._serve_serial(serial, self._open(serial)))
+            self._devices[serial.device] = self._others.begin(self._serve_serial(serial, self._open(serial)))
         for connect in self.asked.connects:
-            self._devices[connect[:2]] = self._task(self._serve_connect(connect))
-        self._task(self._look_now_and_then())
+            self._devices[connect[:2]] = self._others.begin(self._serve_connect(connect))
+        self._others.begin(self._look_now_and_then())
         await self._open_board()
         self._ready = False
         self._say_ready()
         systemd.notify("READY=1")
-        self._task(systemd.alive(systemd.watchdog_seconds()))
+        self._others.begin(systemd.alive(systemd.watchdog_seconds()))
 
     async def _start_outbox(self, asked: Asked) -> None:
         """Starts what sends orders, if a line sends some for the first time."""
@@ -274,7 +275,7 @@ class Host:
 
     def reads_again(self, wanted: asyncio.Event) -> None:
         """Reads the file of lines again, each time that it is wanted."""
-        self._task(self._read_each_time(wanted))
+        self._others.begin(self._read_each_time(wanted))
 
     async def _read_each_time(self, wanted: asyncio.Event) -> None:
         while True:
@@ -311,11 +312,11 @@ class Host:
                 line.stop("since its settings changed")
         for serial in asked.serials:
             if serial not in before:
-                task = self._task(self._serve_serial(serial, None, self._devices.get(serial.device)))
+                task = self._others.begin(self._serve_serial(serial, None, self._devices.get(serial.device)))
                 self._devices[serial.device] = task
         for connect in asked.connects:
             if connect not in before:
-                task = self._task(self._serve_connect(connect, self._devices.get(connect[:2])))
+                task = self._others.begin(self._serve_connect(connect, self._devices.get(connect[:2])))
                 self._devices[connect[:2]] = task
         for listen in new:
             try:
@@ -401,17 +402,6 @@ class Host:
             self._ready = True
             announce("ready")
 
-    def _task(self, work: Any) -> "asyncio.Task[None]":
-        task: "asyncio.Task[None]" = asyncio.ensure_future(work)
-        self._others.add(task)
-        task.add_done_callback(self._other_over)
-        return task
-
-    def _other_over(self, done: "asyncio.Task[None]") -> None:
-        self._others.discard(done)
-        if not done.cancelled() and done.exception() is not None:
-            say(f"given up: {type(done.exception()).__name__}: {done.exception()}")
-
     def _open(self, serial: Serial) -> Optional[SerialWire]:
         """The wire of a serial line; if its device can't be opened, that is said once."""
         try:
@@ -460,11 +450,11 @@ class Host:
             line.stop("since the host stops")
         if self.lines:
             await asyncio.wait(list(self.lines.values()), timeout=self.limits.grace)
-        for task in [*self.lines.values(), *self._others]:
+        for task in self.lines.values():
             task.cancel()
-        await asyncio.gather(*self.lines.values(), *self._others, return_exceptions=True)
+        await asyncio.gather(*self.lines.values(), self._others.cancel(), return_exceptions=True)
         for _, mender in self._menders:
-            await mender.finish()
+            await mender.tasks.finish()
         self._mending.shutdown()
         self.ticks.stop()
         await self.board.close()

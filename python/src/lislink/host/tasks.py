@@ -1,0 +1,34 @@
+"""Work that goes on next to what began it."""
+import asyncio
+from typing import Any, Callable, Coroutine, Optional, Set
+
+
+class Tasks:
+    """Tasks that nobody waits for, until the end. What fails is said, if there is somebody to say it to."""
+
+    def __init__(self, say: Optional[Callable[[str], None]] = None) -> None:
+        self._say = say
+        self.all: "Set[asyncio.Task[None]]" = set()
+
+    def begin(self, work: "Coroutine[Any, Any, None]") -> "asyncio.Task[None]":
+        """Begins work."""
+        task: "asyncio.Task[None]" = asyncio.ensure_future(work)
+        self.all.add(task)
+        task.add_done_callback(self._over)
+        return task
+
+    def _over(self, done: "asyncio.Task[None]") -> None:
+        self.all.discard(done)
+        if self._say is not None and not done.cancelled() and done.exception() is not None:
+            self._say(f"given up: {type(done.exception()).__name__}: {done.exception()}")
+
+    async def finish(self) -> None:
+        """Done when all that was begun is done."""
+        while self.all:
+            await asyncio.wait(list(self.all))
+
+    async def cancel(self) -> None:
+        """Ends all that goes on."""
+        for task in self.all:
+            task.cancel()
+        await asyncio.gather(*self.all, return_exceptions=True)
