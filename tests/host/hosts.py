@@ -4,13 +4,16 @@ import contextlib
 import hashlib
 import json
 import os
+import pty
 import re
 import signal
 import subprocess
 import sys
 import tempfile
+import termios
 import threading
 import time
+import tty
 from typing import NamedTuple
 
 from lislink.host.store import open_store
@@ -86,6 +89,14 @@ class HostTest(kit.Test):
     def path(self, name):
         """A file of this class."""
         return os.path.join(self.folder.name, name)
+
+    def terminal(self):
+        """A pseudo terminal that is raw: its end, and the name of the device."""
+        ends = pty.openpty()
+        for one in ends:
+            self.addCleanup(os.close, one)
+        tty.setraw(ends[1], termios.TCSANOW)
+        return ends[0], os.ttyname(ends[1])
 
     def true(self, name, holds, why=""):
         """Whether something holds."""

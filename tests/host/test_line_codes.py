@@ -24,6 +24,8 @@ from tests.host.test_lines import Client
 from tests.host.test_mllp import message, stored
 
 BODY = message("P|1|4711", "O|1|S7||^^^GLU\\^^^K", "R|1|^^^GLU|5.4|mmol/L", "R|2|^^^K|4.1|mmol/L")
+#: What is wanted of a table that isn't there; the end of a row of `lislab watch`.
+WANTED, END = "the file of a table of codes is wanted", "; 2 results with a code that its table lacks"
 TEXTS = [row + b"\r" for row in BODY.split(b"\r")[:-1]]
 
 
@@ -54,9 +56,9 @@ class LineCodes(HostTest):
             (f"{a}wrong.codes\n{b}sub/good.codes\n", ["b"], [f"{wrong}:2: a table of codes is written in UTF-8"]),
             (f"{a}quote.codes\n", [], [f"{quote}:2: field larger than field limit (131072): a table of codes is CSV"]),
             (f"{a}none.codes\n{b}none.codes\n", [],
-             [f"{file}:3: {self.path('none.codes')}: No such file or directory: the file of a table of codes is wanted"]),
+             [f"{file}:3: {self.path('none.codes')}: No such file or directory: {WANTED}"]),
             (f"{a}sub\n", [],
-             [f"{file}:3: {self.path('sub')}: Is a directory: the file of a table of codes is wanted"]),
+             [f"{file}:3: {self.path('sub')}: Is a directory: {WANTED}"]),
             ("[a]\nserial = /dev/x:9600\ncodes = sub/good.codes\n[b]\nconnect = h:1\ncodes = sub/good.codes\n",
              ["a", "b"], []),
         ):
@@ -91,14 +93,15 @@ class LineCodes(HostTest):
         store = self.path("applied.db")
         keep(store, [BODY], "a")
         words = ["--store", store, "--lines", file]
-        for name, command in (("export", ["export", *words, "--format", "records"]),
-                              ("deliver", ["deliver", *words, "--cursor", self.path("applied.cursor"), "--once", "--", "cat"])):
-            self.same(f"{name} sends by it", results(lislab(*command).stdout.replace("\n", "\r").encode()), own)
-        self.written("a.codes", HEAD + "GLU,\n")
-        for command in ("export", "deliver"):
-            more = ["--cursor", self.path("applied.cursor"), "--", "cat"] if command == "deliver" else []
-            done = lislab(command, *words, *more)
-            self.same(f"{command} with a fault", (done.returncode, f"{self.path('a.codes')}:2: " in done.stderr), (2, True))
+        more = {"export": ["--format", "records"],
+                "deliver": ["--cursor", self.path("applied.cursor"), "--once", "--", "cat"]}
+        for name in more:
+            shown = lislab(name, *words, *more[name]).stdout.replace("\n", "\r").encode()
+            self.same(f"{name} sends by it", results(shown), own)
+        fault = f"{self.written('a.codes', HEAD + 'GLU,')}:2: "
+        for name in more:
+            done = lislab(name, *words, *more[name])
+            self.same(f"{name} with a fault", (done.returncode, fault in done.stderr), (2, True))
 
     def test_read_again(self):
         """A delivery reads the tables again when a file changed. A fault then is said, and changes nothing."""
@@ -107,13 +110,13 @@ class LineCodes(HostTest):
         self.written("one.codes", HEAD + "GLU,G1\nK,K1\n")
         tables = Tables(None, file, said.append)
         taken, left = "the tables of codes are read again", "the tables of codes stay as they were"
+        missing = f"{self.path('one.codes')}:2: the laboratory's code is missing"
         for step, (name, text, wanted, words) in enumerate((
             ("one.codes", HEAD + "GLU,G2\nK,K2\n", "G2", [taken]),
-            ("one.codes", HEAD + "GLU,\n", "G2", [f"{self.path('one.codes')}:2: the laboratory's code is missing", left]),
+            ("one.codes", HEAD + "GLU,\n", "G2", [missing, left]),
             (None, None, "G2", []),
             ("again.lines", rows.format("two"), "G2", [
-                f"{file}:3: {self.path('two.codes')}: No such file or directory: the file of a table of codes is wanted",
-                left]),
+                f"{file}:3: {self.path('two.codes')}: No such file or directory: {WANTED}", left]),
             ("two.codes", HEAD + "GLU,G3\nK,K3\n", "G3", [taken]),
             ("one.codes", HEAD + "GLU,G4\nK,K4\n", "G3", []),
             ("again.lines", None, "G3", [f"[Errno 2] No such file or directory: '{file}'", left]),
@@ -128,12 +131,14 @@ class LineCodes(HostTest):
             self.same(f"{step}: {name}", (found[0].split("|")[2][3:], said), (wanted, words))
         once = Tables(None, file)
         self.written("again.lines", rows.format("two"))
-        self.same("a command that ends reads them once", results(once.applied(stored(BODY, line="a")).body), results(BODY))
+        found = results(once.applied(stored(BODY, line="a")).body)
+        self.same("a command that ends reads them once", found, results(BODY))
 
     def test_a_delivery(self):
         """A delivery that runs sends by the table as it is now."""
         file = self.written("runs.lines", "[a]\nlisten = 1\ncodes = runs.codes\n")
-        table, store, folder = self.written("runs.codes", HEAD + "GLU,G1\nK,K\n"), self.path("runs.db"), self.path("out")
+        table = self.written("runs.codes", HEAD + "GLU,G1\nK,K\n")
+        store, folder = self.path("runs.db"), self.path("out")
         keep(store, [BODY], "a")
         words = ["--store", store, "--cursor", self.path("runs.cursor"), "--lines", file, "--to", folder]
         one = process(["-m", "lislink", "deliver", *words])
@@ -166,13 +171,13 @@ class LineCodes(HostTest):
         with self.sends("a", [TEXTS[0], b"P|1\0\0\r", *TEXTS[2:]]):
             self.true("one that is mended", wait_for(lambda: host.says().count(f"{lacks}K 1\n") == 2), host.says())
         self.same("no other one", host.says().count(lacks), 2)
-        self.shows(host, "a: codes that its table lacks: K 2\n", "; 2 results with a code that its table lacks", 2)
+        self.shows(host, "a: codes that its table lacks: K 2\n", END, 2)
         self.reload(host, table, HEAD + "GLU,\n", f"{table}:2: the laboratory's code is missing\n")
         self.has("it is left", host.says(), "the file of lines is not taken")
-        self.shows(host, "a: codes that its table lacks: K 2\n", "; 2 results with a code that its table lacks", 2)
+        self.shows(host, "a: codes that its table lacks: K 2\n", END, 2)
         again = "the lines are read again: 0 closed, 0 opened, 2 as they were"
         self.reload(host, table, HEAD + "K,K,,,,mg\nGLU,GLUC,,,,\n", f"{again}; 1 with another table of codes\n")
-        self.shows(host, "a: codes that its table lacks: K mmol/L 2\n", "; 2 results with a code that its table lacks", 2)
+        self.shows(host, "a: codes that its table lacks: K mmol/L 2\n", END, 2)
         self.reload(host, table, HEAD + "K,K,,,,\n", f"{again}; 1 with another table of codes\n", 2)
         self.shows(host, None, "", 2)
         with self.sends("a", TEXTS):
@@ -223,7 +228,8 @@ class LineCodes(HostTest):
             found = [each for each in read_all(body, encoding) if isinstance(each, Found)]
             counts = [unknown.ended(one.key, one.state == WHOLE) for one in ends]
             wanted = codes.unknown_of(table, iter([stored(body, line="fire", encoding=encoding)] if found else []))
-            self.need(sum(one[0] for one in counts) == sum(wanted.values()), lambda: f"{turn}: {counts}, {wanted}: {body}")
+            count = sum(one[0] for one in counts)
+            self.need(count == sum(wanted.values()), lambda: f"{turn}: {counts}, {wanted}: {body}")
             shorter = {name for name in unknown.names() if len(name) < 20 and "?" not in name}
             self.need(shorter <= set(wanted), lambda: f"{turn}: {unknown.names()}, {wanted}: {body}")
             named += bool(wanted)

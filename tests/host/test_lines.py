@@ -10,7 +10,7 @@ import unittest.mock
 from lislink import FrameFault, frame_bytes
 from lislink.link import LONG_FRAME_TEXT
 from lislink.host import options, serve
-from tests.host.hosts import Found, Host, HostTest, lislab, sending, wait_for
+from tests.host.hosts import Found, Host, HostTest, lislab, sending
 
 #: The timers of tests in which they run out while a frame is answered in time: 15 seconds are 0.75.
 LATE = 0.05

@@ -2,12 +2,9 @@
 import contextlib
 import json
 import os
-import pty
 import select
 import signal
 import socket
-import termios
-import tty
 import unittest.mock
 
 from lislink import frame_bytes
@@ -282,11 +279,8 @@ class LinesFile(HostTest):
 
     def test_serial(self):
         """A serial line that changed is closed between sessions, and its device opened again."""
-        master, slave = pty.openpty()
-        self.addCleanup(os.close, master)
-        self.addCleanup(os.close, slave)
-        tty.setraw(slave, termios.TCSANOW)
-        rows = f"serial = {os.ttyname(slave)}:9600"
+        master, device = self.terminal()
+        rows = f"serial = {device}:9600"
         host, file = self.begun("serial", sections(old=rows))
 
         def asks(data):
@@ -313,7 +307,7 @@ class LinesFile(HostTest):
         said = [f"lislab: {TAKEN}1 closed, 1 opened, 0 as they were"]
         self.same("what is said", trouble(host.errors[-1]), said)
         for name, what in (("old", "open"), ("old", "closed since its settings changed; "), ("new", "open")):
-            self.has("what the line does", host.errors[-1], f"lislab: {name}: {os.ttyname(slave)}: {what}")
+            self.has("what the line does", host.errors[-1], f"lislab: {name}: {device}: {what}")
 
     def is_open(self, host, name):
         """Whether a line of a host that runs is connected, as its state says."""

@@ -275,8 +275,8 @@ class Mends(HostTest):
         many = [b"C|1|I|\xffa\r", b"C|2|I|b\r"] * 60
         for name, came, left, mark in (
             ("two", [*GOOD[:4], R2, C2, M2, R2, *GOOD[4:]], GOOD, "record 8, from byte"),
-            ("another field delimiter", [b"H!\\^&\r", *bangs(*GOOD[1:4], R2, GOOD[4])], [b"H!\\^&\r", *bangs(*GOOD[1:])],
-             "record 5, from byte 53"),
+            ("another field delimiter", [b"H!\\^&\r", *bangs(*GOOD[1:4], R2, GOOD[4])],
+             [b"H!\\^&\r", *bangs(*GOOD[1:])], "record 5, from byte 53"),
             ("small letters", [*GOOD[:4], R2.lower(), C2.lower(), *GOOD[4:]], GOOD, "record 5, from byte 64"),
             ("escapes", [*GOOD[:4], R2[:-1] + b"&X41&" * 20000 + b"\r", *GOOD[4:]], GOOD, "record 5, from byte 64"),
             ("the only result", [*GOOD[:3], R2, C2, *GOOD[4:]], [*GOOD[:3], *GOOD[4:]], "record 4, from byte 42"),

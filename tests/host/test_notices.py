@@ -2,12 +2,9 @@
 often."""
 import json
 import os
-import pty
 import re
 import select
-import termios
 import time
-import tty
 
 from lislink import FrameFault
 from lislink.host.notices import CONNECTION, FRAME, Notices, Watch
@@ -176,15 +173,12 @@ class Said(HostTest):
 
     def test_late_reply(self):
         """A reply that comes after the host gave its own session up is said, and counted by the status."""
-        master, slave = pty.openpty()
-        self.addCleanup(os.close, master)
-        self.addCleanup(os.close, slave)
-        tty.setraw(slave, termios.TCSANOW)
+        master, device = self.terminal()
         store = self.path("late.db")
         book = open_book(store)
         book.add([Order("S7", ("GLU",))])
         book.close()
-        host = Host(store, "--serial", f"{os.ttyname(slave)}:9600,name=late,orders=send", listen=False)
+        host = Host(store, "--serial", f"{device}:9600,name=late,orders=send", listen=False)
 
         def byte():
             """What the host sends next."""
@@ -198,7 +192,7 @@ class Said(HostTest):
         self.same("it isn't answered either", byte(), EOT)
         os.write(master, ACK)
         said = "a reply came after the host had given its session up: byte 2 of the connection is 0x06\n"
-        said = f"lislab: late: {os.ttyname(slave)}: {said}"
+        said = f"lislab: late: {device}: {said}"
         self.true("it is said", wait_for(lambda: said in host.says(), 60), host.says())
         self.same("the host's status", host.stop(), 0)
         data = json.loads(lislab("status", "--store", store, "--json").stdout)

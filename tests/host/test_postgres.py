@@ -153,6 +153,14 @@ class RepeatsOfPostgres(EachWrite, Left, HostTest):
         return self.address
 
 
+def started(store, name):
+    """The status of a host that starts and is stopped, and why it doesn't start."""
+    try:
+        return Host(store, "--host-name", name).stop(), ""
+    except RuntimeError as error:
+        return None, str(error)
+
+
 class Postgres(HostTest):
     """Hosts that share a database."""
 
@@ -257,10 +265,7 @@ class Postgres(HostTest):
         with self.server.psql("killed", "-c", held):
             asked = "SELECT count(*) FROM pg_locks WHERE locktype = 'advisory' AND classid = 5402"
             there = hosts.wait_for(lambda: self.server.asks("killed", asked) == "1")
-            try:
-                status, why = Host(store, "--host-name", "killed").stop(), ""
-            except RuntimeError as error:
-                status, why = None, str(error)
+            status, why = started(store, "killed")
         self.same(f"a start while the name is still taken {why}", (there, status), (True, 0))
 
     def test_start_while_another_commits(self):
@@ -272,10 +277,7 @@ class Postgres(HostTest):
         with self.server.psql("commits", "-c", lock) as other:
             asked = "SELECT count(*) FROM pg_locks WHERE mode = 'RowExclusiveLock' AND relation = 'message'::regclass"
             held = hosts.wait_for(lambda: self.server.asks("commits", asked) == "1")
-            try:
-                status, why = Host(store, "--host-name", "second").stop(), ""
-            except RuntimeError as error:
-                status, why = None, str(error)
+            status, why = started(store, "second")
             other.terminate()
         self.same(f"a start while another host commits {why}", (held, status), (True, 0))
 

@@ -61,6 +61,14 @@ class Page(html.parser.HTMLParser):
         self.text += data
 
 
+def host_of(test, code):
+    """Where a host listens that this code is, in which `s` is its socket. It ends with the test."""
+    head = "import socket; s = socket.create_server(('127.0.0.1', 0)); print(s.getsockname()[1], flush=True)\n"
+    process = subprocess.Popen([sys.executable, "-c", head + code], stdout=subprocess.PIPE, text=True)
+    test.addCleanup(lambda: (process.kill(), process.wait(), process.stdout.close()))
+    return f"127.0.0.1:{process.stdout.readline().strip()}"
+
+
 class Plays(kit.Test):
     def test_results(self):
         """A good host: no play differs, and all is kept once."""
@@ -158,13 +166,11 @@ class Plays(kit.Test):
         path = os.path.join(kit.folder_of(self), "two.play")
         with open(path, "wb") as file:
             file.write(b'play 1\n> ENQ\n< ACK\n> "H|1"\n< ACK\n> EOT\n> ENQ\n< ACK\n> EOT\nend\n')
-        code = ("import socket; s = socket.create_server(('127.0.0.1', 0)); print(s.getsockname()[1], flush=True)\n"
-                "for at in range(2):\n"
+        code = ("for at in range(2):\n"
                 "    line, _ = s.accept(); line.recv(1); line.sendall(b'\\6'); at or (line.recv(99), line.close())\n"
                 "line.recv(99)")
-        process = subprocess.Popen([sys.executable, "-c", code], stdout=subprocess.PIPE, text=True)
-        self.addCleanup(lambda: (process.kill(), process.wait(), process.stdout.close()))
-        to, begun = f"127.0.0.1:{process.stdout.readline().strip()}", time.monotonic()
+        to = host_of(self, code)
+        begun = time.monotonic()
         ran = play(path, "--to", to)
         self.same("what differs", (ran.status, ran.lines), (1, ["difference 5 ACK closed", "steps 7 differences 1"]))
         self.check(time.monotonic() - begun < 15 * SCALE, "no timer is waited for")
@@ -249,13 +255,10 @@ class Reports(kit.Test):
         path, page, xml = (os.path.join(folder, name) for name in ("<&\"\1.play", "page.html", "plays.xml"))
         with open(path, "wb") as file:
             file.write(b"play 1\n# <b>&\x01\xff\n> ENQ\n< \"<script>&\x9f\"\n< '<script>&\"' ff 01\nend\n")
-        code = ("import socket; s = socket.create_server(('127.0.0.1', 0)); print(s.getsockname()[1], flush=True)\n"
-                "line, _ = s.accept(); line.recv(1)\n"
+        code = ("line, _ = s.accept(); line.recv(1)\n"
                 "line.sendall(b'\\x021</td>&\\xff\\r\\x03' + b'%02X\\r\\n' % (sum(b'1</td>&\\xff\\r\\x03') % 256))\n"
                 "line.sendall(b'</td>&\\0\\1\\x1b\\xff\\x02<b>'); line.recv(9)")
-        process = subprocess.Popen([sys.executable, "-c", code], stdout=subprocess.PIPE, text=True)
-        self.addCleanup(lambda: (process.kill(), process.wait(), process.stdout.close()))
-        to = f"127.0.0.1:{process.stdout.readline().strip()}"
+        to = host_of(self, code)
         ran = play(path, "--to", to, "--report", page, "--junit", xml, scale=0.02)
         self.same("status", ran.status, 1)
         found = Page(read(page).decode())
