@@ -289,8 +289,12 @@ class Mends(HostTest):
             self.true(f"{name}: it is named", found and any(mark in one for one in found.told), repr(found)[-900:])
         for name, came, setting in (
             ("results that end in LF", [*GOOD[:3], b"R|1|^^^A|5\nR|2|^^^B|" + b"6" * 70000 + b"\r", GOOD[4]], ["lf"]),
+            ("comments that end in LF", [*GOOD[:4], C2[:-1] + b"\nC|2|I|b\r", GOOD[4]], ["lf"]),
             ("a patient within a comment", [*GOOD[:4], C2[:-1] + b"\nP|2||4712\r", b"O|1|S8\r", *GOOD[3:]], ["lf"]),
-            ("a patient after a word for CR", [*GOOD[:4], C2[:-1] + b"<CR>P|2||4712\r", b"O|1|S8\r", *GOOD[3:]], []),
+            ("a patient after a word for CR", [*GOOD[:4], C2[:-1] + b"<CR>P|2||4712\r", b"O|1|S8\r", *GOOD[3:]],
+             ["cr-words"]),
+            ("a patient after a lost CR", [*GOOD[:4], C2[:-1] + b"P|2||4712\r", b"O|1|S8\r", *GOOD[3:]], []),
+            ("a result after a lost CR", [*GOOD[:4], C2[:-1] + b"R|2|^^^NA|139\r", GOOD[4]], []),
             ("no record", [*GOOD[:4], b"Caesar" + b"x" * 70000 + b"\r", GOOD[4]], []),
             ("another one that can't be read", [*GOOD[:4], R2, b"Z|1\r", GOOD[4]], []),
             ("no L", [*GOOD[:4], R2], ["last-l"]),

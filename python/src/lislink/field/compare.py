@@ -113,9 +113,12 @@ def results_after(data: bytes) -> List[Placed]:
 
 
 def is_one_record(text: bytes, mark: bytes) -> bool:
-    """Whether these bytes are a record, and no other one begins within them, at LF or another end of a record."""
-    begins = re.compile(rb"[HPORCQMSL]" + re.escape(mark), re.I)
-    return sum(begins.match(one) is not None for _, one in _pieces(text)) == 1
+    """Whether these bytes are a record, and no other one seems to begin within them: after LF or another end of a record,
+    or where a CR was lost."""
+    mark = re.escape(mark)
+    begins, within = (re.compile(one, re.I) for one in (rb"[HPORCQMSL]" + mark, rb"[HPORQL]%b\d{1,4}%b" % (mark, mark)))
+    is_one = sum(begins.match(one) is not None for _, one in _pieces(text)) == 1
+    return is_one and within.search(text, 1) is None
 
 
 def gone_of_results(before: bytes, after: bytes) -> Optional[int]:
