@@ -102,7 +102,10 @@ def long_case(letter, place, records=_RECORDS):
     return Long(came, left, "; ".join(marks), f"record {place + 1}, from byte {starts[place]}: too long")
 
 
+_TWO = (*GOOD[:4], b"P|2||4712\r", b"O|1|S8\r", b"R|1|^^^GLU|7.7\r", GOOD[4])
 LONG = {
+    "P2": long_case("P", 4, _TWO),
+    "O2": long_case("O", 5, _TWO),
     **{letter: long_case(letter, place) for place, letter in enumerate("HPORCMS")},
     "L": long_case("L", 8),
     "Q": long_case("Q", 1, (GOOD[0], b"Q|1|^S7||ALL\r", GOOD[4])),
@@ -239,7 +242,7 @@ class Mends(HostTest):
                 total = b"%02X" % (sum(unit[1:-4]) % 256)
                 self.same(f"{name}: frame {number}", (unit[1], unit[-4:]), (48 + number % 8, total + b"\r\n"))
 
-    def test_long(self):
+    def test_long_records(self):
         """A record of over 65,536 bytes is left out without a setting if nothing but comments belongs to it: the others
         are delivered, it is named with its place, and what came is kept. Else nothing is delivered."""
         words = [word for name in LONG for word in ("--listen", f"0,name={name},frame=63993")]
@@ -354,6 +357,8 @@ class Mends(HostTest):
         """A message that comes again is mended again, and marked, whenever a host is killed in between."""
         for store in (self.path("again.db"), "spool:" + self.path("again.spool")):
             mends_again(self, store)
+        case = LONG["R"]
+        mends_again(self, self.path("long again.db"), ",frame=63993", long_units(case.came), b"".join(case.left))
 
     def test_query(self):
         """A query that is mended is answered."""
@@ -416,19 +421,19 @@ class Mends(HostTest):
         self.same("a fault", found.faults, [f"{file.name}:7: a line mends {', '.join(options.NAMES)}, not lfs"])
 
 
-def mends_again(test, store):
+def mends_again(test, store, setting=",mend=escape", sent=None, wanted=None):
     """Sends a message that is mended three times, and kills the host each time before EOT."""
-    host, name = Host(store, "--listen", "0,name=bytes,mend=escape", scale=1.0, listen=False), store[:5]
+    host, name = Host(store, "--listen", f"0,name=bytes{setting}", scale=1.0, listen=False), store[:5]
     for turn in range(3):
         with Client(ports_of(host)["bytes"]) as client:
-            replies = [client.asks(unit, seconds=60) for unit in units("bytes")[:-1]]
+            replies = [client.asks(unit, seconds=60) for unit in (sent or units("bytes"))[:-1]]
             host.kill()  # what is acknowledged is delivered
         test.same(f"{name}: acknowledged {turn}", set(replies), {ACK})
         test.same(f"{name}: delivered {turn}", len(Found(store).whole), turn + 1)
         host.start()
     test.same("the host's status", host.stop(), 0)
     found = Found(store)
-    test.same(f"{name}: delivered", {one.body for one in found.whole}, {CASES["bytes"].message})
+    test.same(f"{name}: delivered", {one.body for one in found.whole}, {wanted or CASES["bytes"].message})
     test.same(f"{name}: unmarked repeats", found.unmarked(), [])
     test.same(f"{name}: counted", [(one.mended, one.unreadable) for one in found.counts], [(3, 0)])
     test.same(f"{name}: kept as they came", len({one.body for one in found.others}), 1)
