@@ -112,7 +112,7 @@ FAULTS = {
         "if one.take(asked.tables.get(name))]",
         "if one.table is None and one.take(asked.tables.get(name))]",
     ),
-    "test_mends.Mends.test_long_records": ("field/normalize.py", 'letter in (b"R", b"C",', 'letter in (b"O", b"R", b"C",'),
+    "test_mends.Mends.test_long_records": ("field/normalize.py", '(b"R", b"C", b"M", b"S") and', '(b"R", b"C", b"M") and'),
     "test_mends.Mends.test_long_parts": ("field/compare.py", "in _pieces(text)) == 1", "in _pieces(text)) >= 1"),
     "test_mends.Mends.test_long_query": (
         "host/mend.py", "names) if names or has_long(one.body) else None", "names) if names else None"

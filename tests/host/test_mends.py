@@ -102,10 +102,9 @@ def long_case(letter, place, records=_RECORDS):
     return Long(came, left, "; ".join(marks), f"record {place + 1}, from byte {starts[place]}: too long")
 
 
-_TWO = (*GOOD[:4], b"P|2||4712\r", b"O|1|S8\r", b"R|1|^^^GLU|7.7\r", GOOD[4])
 LONG = {
-    "P2": long_case("P", 4, _TWO),
-    "O2": long_case("O", 5, _TWO),
+    "P2": long_case("P", 4, (*GOOD[:4], b"P|2||4712\r", *GOOD[2:])),
+    "O2": long_case("O", 4, (*GOOD[:4], b"O|2|S8\r", *GOOD[3:])),
     **{letter: long_case(letter, place) for place, letter in enumerate("HPORCMS")},
     "L": long_case("L", 8),
     "Q": long_case("Q", 1, (GOOD[0], b"Q|1|^S7||ALL\r", GOOD[4])),
