@@ -8,6 +8,7 @@ import random
 import re
 
 from lislink.delivery import codes, fhir, oru
+from lislink.delivery.tables import coder_of
 from lislink.host import deliver, export
 from lislink.host.options import OptionError
 from lislink.message import Found, read_all
@@ -198,7 +199,7 @@ class Codes(WithLibrary):
             file.write(HEAD + "GLU,GLUC,mg/dL,18,,\nNA,NA,,,,\n")
         with open(SAMPLE, "rb") as file:
             one = stored(file.read())
-        made = {form: export.writer_of(form, path) for form in export.FORMATS}
+        made = {form: export.writer_of(form, coder_of(path, None)) for form in export.FORMATS}
         text = {form: ((write(None) or b"") + write(one)).decode() for form, write in made.items()}
         self.has("records", text["records"], "R|3|^^^K|5.6|mmol/L|3.5 to 5.1|H||F\rC|1|I|slightly haemolytic\r"
                                              "C|2|L|lislab: unknown code K|G\r")

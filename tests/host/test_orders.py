@@ -551,6 +551,7 @@ class Unheard(HostTest):
         given = (wire, intake, committer, Limits(), Counter(), probe, 240, print, Turns(), mender)
         line = TwoWayLine(outbox, Site("asks", "x", "latin-1", True, "L-I", "1"), *given)
         line._intake.drop.return_value = line._intake.take.return_value = []
+        line._intake.unread.return_value = None
         return line
 
     def test_long_text(self):
