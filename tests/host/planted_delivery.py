@@ -69,6 +69,12 @@ FAULTS = {
         '("", code, unit), (line, code, ""), ("", code, "")]',
     ),
     "test_fhir.Fhir.test_fields": ("delivery/fhir.py", 'return f"{data:f}"', "return str(float(data))"),
+    "test_dialects.Dialects.test_links": (
+        "host/mend.py", "    if not names & _AT_THE_END:\n", "    if names & _AT_THE_END:\n"
+    ),
+    "test_dialects.Dialects.test_records": (
+        "host/mend.py", "are_comments or not normalize(body, set(names))[0]", "are_comments"
+    ),
     "test_fhir.Fhir.test_structure": (
         "delivery/fhir.py", '_STATUS.get(result.status, "unknown")', "_STATUS.get(result.status, result.status)"
     ),

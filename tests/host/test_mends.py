@@ -167,10 +167,10 @@ def ports_of(host):
     return {name.strip(): int(where.rsplit(":", 1)[1]) for _, where, name in rows}
 
 
-def play(port, sent):
+def play(port, sent, seconds=60):
     """The replies to units."""
     with Client(port) as client:
-        replies = [client.asks(unit, seconds=60) for unit in sent[:-1]]
+        replies = [client.asks(unit, seconds=seconds) for unit in sent[:-1]]
         client.send(sent[-1])
     return replies
 

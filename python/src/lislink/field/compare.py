@@ -121,6 +121,13 @@ def is_one_record(text: bytes, mark: bytes) -> bool:
     return is_one and within.search(text, 1) is None
 
 
+def is_joined(text: bytes, four: bytes) -> bool:
+    """Whether a patient, an order, a query or the last record seems to begin within a record, where its CR is missing."""
+    mark = re.escape(four[:1])
+    before = rb"[^%b]" % re.escape(four)
+    return re.search(rb"%b(?:[POQ]%b\d{1,4}%b|L%b1(?:%b|$))" % (before, mark, mark, mark, mark), text, re.I) is not None
+
+
 def gone_of_results(before: bytes, after: bytes) -> Optional[int]:
     """How many results are gone; None if another one is changed, new or elsewhere."""
     seen, left = results_before(before), results_after(after)

@@ -9,7 +9,7 @@ from collections import Counter
 from concurrent.futures import Executor
 from typing import Any, Callable, FrozenSet, Iterator, List, Mapping, NamedTuple, Optional, Sequence, Tuple, TypeVar
 
-from ..field.compare import gone_of_results
+from ..field.compare import gone_of_results, is_joined
 from ..field.normalize import Told, normalize
 from ..message import Fault, read_all
 from ..records import RECORD_BYTES
@@ -63,9 +63,16 @@ def mended(body: bytes, names: FrozenSet[str]) -> Optional[Mended]:
     messages = _messages(out)
     if not messages:
         return Mended([], list(_words(body, told))) if _is_after_l(body, names) else None
-    if gone_of_results(body, out) != _long_results(body, names):
+    if gone_of_results(body, out) != _long_results(body, names) or _hides_records(messages, names):
         return None
     return Mended(messages, list(_words(body, told)))
+
+
+def _hides_records(messages: Sequence[bytes], names: FrozenSet[str]) -> bool:
+    """Whether CRs seem to be missing between records, so that an end that is put to a message would hide some."""
+    if not names & _AT_THE_END:
+        return False
+    return any(is_joined(record, one[1:5]) for one in messages for record in one.split(b"\r"))
 
 
 def _long_results(body: bytes, names: FrozenSet[str]) -> int:
@@ -107,9 +114,10 @@ def _messages(data: bytes) -> List[bytes]:
 
 
 def _is_after_l(body: bytes, names: FrozenSet[str]) -> bool:
-    """Whether these are comments and makers' records alone, which came after a message."""
+    """Whether this is fill that is left out, or comments and makers' records alone, which came after a message."""
     letters = {one.strip(b" \t\n")[:1].upper() for one in body.split(b"\r") if one.strip(b" \t\n")}
-    return "behind-l" in names and bool(letters) and letters <= {b"C", b"M", b"S"}
+    are_comments = "behind-l" in names and bool(letters) and letters <= {b"C", b"M", b"S"}
+    return are_comments or not normalize(body, set(names))[0]
 
 
 def _words(body: bytes, told: Sequence[Told]) -> Iterator[str]:
@@ -224,5 +232,5 @@ def made_of(one: Ended, found: Mended) -> List[Change]:
         changes.append(one.begin._replace(key=key))
         changes.append(Add(key, 0, one.end.at, body))
         changes.append(End(key, one.end.line, WHOLE, reason, digest, len(body), one.end.at))
-    made = f"delivered as {', '.join(keys)}" if keys else "records after L are left out"
+    made = f"delivered as {', '.join(keys)}" if keys else "what came after L is left out"
     return [*changes, one.end._replace(reason=f"{MENDED}{made}; {one.end.reason}")]
