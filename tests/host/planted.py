@@ -180,7 +180,7 @@ FAULTS = {
         "host/feeds.py", "(int(digits, 16) + count) % 256", "sum(body[1:].replace(_LF, _VT) + end) % 256"
     ),
     "test_mends.Mends.test_not_mended": Edit(
-        "host/mend.py", "if gone_of_results(body, out) != _long_results(body, names):", "if not out:"
+        "host/mend.py", "gone_of_results(body, out) != _long_results(body, names) or", ""
     ),
     "test_mends.Mends.test_query": Edit("host/duplex.py", "Asking().take(body[: QUERY + 1])", "Asking().take(body[:9])"),
     "test_mends.Mends.test_repeats": Edit("host/line.py", "_join(part, await self._ends_now(text))", "_join(part, [])"),
