@@ -651,6 +651,9 @@ HARMLESS = (
     Edit("host/plainlink.py", "        self._last = text\n", "        self._last = bytes(text)\n"),
     Edit("host/feeds.py", "    count = body.count(_LF)\n", "    count = len(body.split(_LF)) - 1\n"),
     Edit("host/lines.py", "for key in _WHERE if key in given]", "for key in _WHERE if given.get(key) is not None]"),
+    Edit("delivery/tables.py", "            if paths == self._paths:\n", "            if self._paths == paths:\n"),
+    Edit("host/unknown.py", "if pair in found or len(found) < MOST else", "if len(found) < MOST or pair in found else"),
+    Edit("field/compare.py", "    rest = iter(seen)\n", "    rest = iter(list(seen))\n"),
 )
 
 

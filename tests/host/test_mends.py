@@ -251,6 +251,13 @@ class Mends(HostTest):
         for name, case in {**LONG, "named": LONG["R"]}.items():
             replies = play(ports[name], long_units(case.came))
             self.same(f"{name}: acknowledged", set(replies), {ACK})
+
+        def states():
+            """What `lislab watch` says of the lines: their states."""
+            return dict(row.split()[:2] for row in lislab("watch", "--store", host.store, "--once").stdout.splitlines())
+
+        wanted = {"named": "good", **{name: "good" if case.left else "bad" for name, case in LONG.items()}}
+        self.true("what watch says", wait_for(lambda: states() == wanted), states())
         self.same("the host's status", host.stop(), 0)
         found = Found(host.store)
         for name, case in {**LONG, "named": LONG["R"]}.items():

@@ -386,7 +386,7 @@ class Line:
                 continue
             self._note_codes(change)
             self._counts["messages" if change.state == WHOLE else "quarantined"] += 1
-            if change.state == WHOLE or change.size:
+            if change.state == WHOLE or (change.size and not change.reason.startswith(MENDED)):
                 self._probe.ended(change)
             if change.state == WHOLE:
                 self.last = change.at
