@@ -1,4 +1,4 @@
-"""The units of systemd in HOST.md, as far as systemd looks at them without starting them."""
+"""The units of systemd in SERVICE.md, as far as systemd looks at them without starting them."""
 import os
 import re
 import shutil
@@ -7,7 +7,7 @@ import sys
 
 from tests.host.hosts import ROOT, HostTest
 
-PAGE = os.path.join(ROOT, "docs", "HOST.md")
+PAGE = os.path.join(ROOT, "docs", "SERVICE.md")
 
 
 def units():

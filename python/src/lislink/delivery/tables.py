@@ -53,15 +53,15 @@ class Tables:
             self._say("the tables of codes stay as they were")
 
     def applied(self, one: Stored) -> Stored:
-        """A message by the table of its line; as it is, if that has none or the message isn't whole. Refused as that of
-        a table."""
+        """A message by the table of its line; as it is, if that has none or the message isn't whole. It fails as
+        `applied` of a table does."""
         self._look()
         table = self._read.lines.get(one.line, self._read.others)
         return one if table is None or one.state != WHOLE else table.applied(one)
 
 
 def _states_of(paths: Sequence[str]) -> List[Optional[Tuple[int, ...]]]:
-    """What tells a file that changed; None of one that isn't there."""
+    """What differs once a file has changed; None of one that isn't there."""
     return [_state_of(path) for path in paths]
 
 
