@@ -327,19 +327,19 @@ void lis_line_restart(lis_line *line);
 
 /* What a byte or the timer meant. */
 LIS_ENUM(lis_note) {
-    LIS_NOTE_QUIET = 0,         /* nothing yet */
-    LIS_NOTE_OPENED = 1,        /* ENQ: a session begins, and what was held of an earlier text is dropped */
-    LIS_NOTE_NOT_READY = 2,     /* ENQ, answered as lis_receiver_set_ready says */
-    LIS_NOTE_ENDED = 3,         /* EOT: the session is over */
-    LIS_NOTE_ACCEPTED = 4,      /* a frame was taken; detail: its number */
-    LIS_NOTE_DUPLICATE = 5,     /* a frame came again that was taken before; detail: its number */
-    LIS_NOTE_OUT_OF_TURN = 6,   /* a frame came that isn't the next one; detail: its number */
-    LIS_NOTE_REFUSED = 7,       /* a bad frame; detail: a lis_fault; place: the forbidden byte's */
-    LIS_NOTE_NO_ROOM = 8,       /* there is no room for a frame, as lis_receiver_set_room said */
-    LIS_NOTE_TOO_LONG = 9,      /* the text would have over LIS_LIMIT_TEXT_BYTES */
-    LIS_NOTE_TOO_MANY = 10,     /* 4,294,967,295 frames were accepted in this session */
-    LIS_NOTE_OUT_OF_MEMORY = 11,  /* the frame is answered NAK and not taken */
-    LIS_NOTE_TIMED_OUT = 12     /* the line is closed, and what was held is dropped */
+    LIS_NOTE_QUIET = 0,             /* nothing yet */
+    LIS_NOTE_OPENED = 1,            /* ENQ: a session begins, and what was held of an earlier text is dropped */
+    LIS_NOTE_NOT_READY = 2,         /* ENQ, answered as lis_receiver_set_ready says */
+    LIS_NOTE_ENDED = 3,             /* EOT: the session is over */
+    LIS_NOTE_ACCEPTED = 4,          /* a frame was taken; detail: its number */
+    LIS_NOTE_DUPLICATE = 5,         /* a frame came again that was taken before; detail: its number */
+    LIS_NOTE_OUT_OF_TURN = 6,       /* a frame came that isn't the next one; detail: its number */
+    LIS_NOTE_REFUSED = 7,           /* a bad frame; detail: a lis_fault; place: the forbidden byte's */
+    LIS_NOTE_NO_ROOM = 8,           /* there is no room for a frame, as lis_receiver_set_room said */
+    LIS_NOTE_TOO_LONG = 9,          /* the text would have over LIS_LIMIT_TEXT_BYTES */
+    LIS_NOTE_TOO_MANY = 10,         /* 4,294,967,295 frames were accepted in this session */
+    LIS_NOTE_OUT_OF_MEMORY = 11,    /* the frame is answered NAK and not taken */
+    LIS_NOTE_TIMED_OUT = 12         /* the line is closed, and what was held is dropped */
 } LIS_ENUM_END(lis_note);
 
 /* How ENQ is answered. */

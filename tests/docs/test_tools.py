@@ -22,6 +22,18 @@ WRONG = [
     ("crates/lis_engine/src/print.rt", "    ghost text = { part_text };",
      "    ghost text = { λ part. heard_line part };", "heard_line is cited by a public contract"),
 ]
+# What tools/codes must say of a change: the file, its text, another one, and a part of what is said. Nothing is said of
+# a change of what is not made.
+CODES = [
+    ("bindings/codes.table", "LIS_PHASE_BUSY = 2", "LIS_PHASE_BUSY = 5", "LIS_PHASE_BUSY is 5, and 2 in crates/lis_c"),
+    ("bindings/codes.table", "LIS_NOTE_TIMED_OUT = 12 | ", "LIS_NOTE_LATE = 12 | ", "LIS_NOTE_LATE is not in crates"),
+    ("bindings/codes.table", "| no room |", "| no more room |", "examples/c/names.c is not what"),
+    ("include/lislink.h", "LIS_ROLE_COMPUTER = 1 ", "LIS_ROLE_COMPUTER = 2 ", "include/lislink.h is not what"),
+    ("python/src/lislink/codes.py", "    READY = 0", "    YES = 0", "python/src/lislink/codes.py is not what"),
+    ("bindings/rust/lislink/src/codes.rs", "    Sum = LIS", "    Total = LIS", "lislink/src/codes.rs is not what"),
+    ("bindings/rust/lislink/src/codes.rs", "//! The families of", "//! All families of", ""),
+    ("bindings/codes.table", "# The families of", "# All families of", ""),
+]
 # What changes nothing that is promised.
 HARMLESS = [
     ("docs/promises.table", "`lis_port`: `ok`, `err`", "`lis_port`: `err`, `ok`"),
@@ -50,8 +62,8 @@ class Tools(kit.Test):
             told = self.said_of(folder, HARMLESS)
             self.check(not any("cites" in line or "is cited" in line for line in told), told)
 
-    def said_of(self, folder, changes):
-        """What tools/trust says of a copy of the repository with some texts changed."""
+    def said_of(self, folder, changes, tool="tools/trust"):
+        """What a tool says of a copy of the repository with some texts changed."""
         before = {}
         for file, old, new in changes:
             path = os.path.join(folder, file)
@@ -61,7 +73,7 @@ class Tools(kit.Test):
             self.check(text.count(old) == 1, f"{file} has {old!r} {text.count(old)} times")
             with open(path, "w", encoding="utf-8") as it:
                 it.write(text.replace(old, new))
-        ran = subprocess.run([sys.executable, "tools/trust"], cwd=folder, capture_output=True, text=True)
+        ran = subprocess.run([sys.executable, tool], cwd=folder, capture_output=True, text=True)
         for path, text in before.items():
             with open(path, "w", encoding="utf-8") as it:
                 it.write(text)
@@ -84,6 +96,20 @@ class Tools(kit.Test):
             ran = subprocess.run([sys.executable, "tools/crates"], cwd=folder, capture_output=True, text=True)
         good = "lis_c -> lis_station: one has it" in ran.stdout and ran.returncode == 1
         self.check(good, "a missing arrow", ran.stdout)
+
+    def test_codes(self):
+        self.counts("tools/codes")
+
+    def test_codes_sees_what_is_wrong(self):
+        """A number, a name or words of a constant in one place only; other words in what is written by hand are fine."""
+        with tempfile.TemporaryDirectory() as folder:
+            for it in ("tools", "include", "bindings", "examples/c", "python/src/lislink", "crates/lis_c/specs"):
+                shutil.copytree(os.path.join(kit.ROOT, it), os.path.join(folder, it),
+                                ignore=shutil.ignore_patterns("target", "__pycache__"))
+            for *change, said in CODES:
+                told = self.said_of(folder, [change], "tools/codes")
+                good = any(said in line for line in told[:-1]) if said else told[-1].endswith(" 0 failed")
+                self.check(good, f"{change[0]}: {change[2]}", "\n".join(told))
 
     def test_man(self):
         self.counts("tools/man")

@@ -1,23 +1,13 @@
-"""The header's constants: each has words of its own in examples/c/names.c, the version is that of VERSION, one of
-another family is noticed by a compiler, and Python has the same names."""
+"""The header's constants: each has words of its own in examples/c/names.c, the version is that of VERSION, and one of
+another family is noticed by a compiler. That each language has the same names is for tools/codes."""
 import os
 import re
 import subprocess
-import sys
 
 from tests import ROOT, kit
 from tests.ffi.c import C11, HEADER, IN_C, SANITIZERS, WARNINGS, families
 
-sys.path.insert(0, os.path.join(ROOT, "python/src"))
-import lislink  # noqa: E402: it is found from there
-
 CALL = {"lis_signal_kind": "lis_signal_text", "lis_found_kind": "lis_found_text"}
-#: The families in Python, the beginnings of constants that aren't their family's name, and the names that differ.
-IN_PYTHON = {"lis_status": lislink.Status, "lis_signal_kind": lislink.Kind, "lis_fault": lislink.FrameFault,
-             "lis_phase": lislink.Phase, "lis_outcome": lislink.Outcome, "lis_note": lislink.Note,
-             "lis_ready": lislink.Readiness, "lis_role": lislink.Role, "lis_reason": lislink.Reason}
-PREFIXES = {"lis_signal_kind": "LIS_SIGNAL_"}
-OTHERS = {("lis_ready", "YES"): "READY", ("lis_signal_kind", "LONG_FRAME"): ""}
 SETS = '#include "lislink.h"\nlis_status set(lis_receiver *receiver);\n' \
        "lis_status set(lis_receiver *receiver) {{ return lis_receiver_set_ready(receiver, {}); }}\n"
 COMPILERS = (["gcc", "-std=c99"], ["gcc", "-std=c11"], ["g++", "-std=c++11", "-x", "c++"])
@@ -42,17 +32,6 @@ class Names(kit.Test):
                               r"|lis_(signal|fault|phase|outcome|ready|role|found|reason)_text")
         for call in re.findall(r"^(?:const char \*|\w+ )(lis_\w+)\(", kit.read("include/lislink.h"), re.M):
             self.check(left_out.fullmatch(call) or re.search(rf"\b{call}\b", page), f"lislink.3 doesn't name {call}")
-
-    def test_python(self):
-        """Python's families have the header's names and numbers, but for two of them."""
-        known = families(open(HEADER).read())
-        for family, kind in IN_PYTHON.items():
-            prefix = PREFIXES.get(family, f"{family.upper()}_")
-            names = {word.removeprefix(prefix): number for word, number in known[family].items()}
-            names = {OTHERS.get((family, name), name): number for name, number in names.items()}
-            for name, number in names.items():
-                if name:
-                    self.same(f"{kind.__name__}.{name}", getattr(kind, name, None), number)
 
     def test_families(self):
         """A constant of another family is an error, or a warning of -Wextra; one of its own family is fine."""

@@ -7,6 +7,7 @@
 """
 from ._library import LibraryMissing
 from .capture import Capture, CaptureError, Line, read_capture, write_lines
+from .codes import FrameFault, Kind, Note, Outcome, Phase, Readiness, Reason, Role, Status
 from .link import (
     BUSY,
     CONTENTION,
@@ -14,18 +15,11 @@ from .link import (
     LONG_FRAME_TEXT,
     RECEIVER,
     REPLY,
-    FrameFault,
-    Kind,
     LinkError,
-    Note,
-    Outcome,
-    Phase,
-    Readiness,
     Receiver,
     Scanner,
     Sender,
     Signal,
-    Status,
     Step,
     WrongThread,
     frame_bytes,
@@ -33,9 +27,9 @@ from .link import (
 from .message import Entry, Fault, Finding, Found, Message, read_all
 from .orders.order import Order, OrderError
 from .orders.order import texts_of as order_texts
-from .records import MessageError, Reader, Reason, Record, Writer, messages, records
+from .records import MessageError, Reader, Record, Writer, messages, records
 from .rows import Row
-from .station import Answer, Role, Station
+from .station import Answer, Station
 
 __version__ = "0.1.0"
 __all__ = [

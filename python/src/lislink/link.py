@@ -4,12 +4,12 @@ Scanners, senders and receivers are context managers. Each belongs to the thread
 thread raises WrongThread. A call that the library rejects raises LinkError with its status.
 """
 import ctypes
-import enum
 import threading
 from typing import Any, Generic, Iterator, NamedTuple, Optional, Tuple, TypeVar
 
 from . import _library
 from ._checks import as_bytes, as_flag, as_number
+from .codes import FrameFault, Kind, Note, Outcome, Phase, Readiness, Status
 
 #: The standard's timers, in seconds.
 REPLY, BUSY, CONTENTION, RECEIVER = 15, 10, 1, 30
@@ -17,84 +17,6 @@ REPLY, BUSY, CONTENTION, RECEIVER = 15, 10, 1, 30
 FRAME_TEXT, LONG_FRAME_TEXT = 240, 63993
 # The kind of a signal whose text doesn't fit into its struct; it is a FRAME here.
 _LONG_FRAME = 5
-
-
-class Status(enum.IntEnum):
-    """What a call that may fail returns."""
-
-    (
-        OK,
-        IN_SESSION,
-        NO_TEXT,
-        TOO_LONG,
-        FORBIDDEN,
-        FULL,
-        OUT_OF_MEMORY,
-        BAD_NUMBER,
-        TOO_SHORT,
-        NO_RECORD,
-        BAD_LETTER,
-        BAD_DELIMITERS,
-        ABSENT,
-        UNFINISHED,
-        PUT_NOT_HEADER,
-        PUT_NO_PARENT,
-        PUT_SECOND_HEADER,
-        OLD_LINE,
-        LINE_OPEN,
-    ) = range(19)
-
-
-class Kind(enum.IntEnum):
-    """What a signal is."""
-
-    NONE, ENQ, EOT, FRAME, BAD_FRAME = range(5)
-
-
-class FrameFault(enum.IntEnum):
-    """Why bytes between STX and LF are no frame."""
-
-    NONE, TOO_LONG, SHAPE, NUMBER, FORBIDDEN, SUM = range(6)
-
-
-class Phase(enum.IntEnum):
-    """What a sender waits for."""
-
-    NEUTRAL, AWAIT_LINE, BUSY, CONTENTION, AWAIT_REPLY = range(5)
-
-
-class Outcome(enum.IntEnum):
-    """How a sender's last session ended."""
-
-    NONE, DONE, TIMED_OUT, SIX_TRIES, RESTARTED = range(5)
-
-
-class Note(enum.IntEnum):
-    """What a byte or the timer meant to a receiver."""
-
-    (
-        QUIET,
-        OPENED,
-        NOT_READY,
-        ENDED,
-        ACCEPTED,
-        DUPLICATE,
-        OUT_OF_TURN,
-        REFUSED,
-        NO_ROOM,
-        TEXT_TOO_LONG,
-        TOO_MANY,
-        OUT_OF_MEMORY,
-        TIMED_OUT,
-    ) = range(13)
-    # The names of the C constant, and of an earlier version.
-    TOO_LONG, REFUSED_MEMORY = TEXT_TOO_LONG, OUT_OF_MEMORY
-
-
-class Readiness(enum.IntEnum):
-    """How a receiver answers ENQ: ACK, NAK, or ENQ once."""
-
-    READY, BUSY, CONTENDING = range(3)
 
 
 class LinkError(Exception):

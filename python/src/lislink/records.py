@@ -1,7 +1,6 @@
 """Records of LIS02-A2: single records, a reader of streams and a writer. Each decision is made by the proved
 library."""
 import ctypes
-import enum
 import operator
 import struct
 import threading
@@ -9,7 +8,8 @@ from typing import Any, Iterable, Iterator, List, Optional, Sequence, Tuple, Uni
 
 from . import _library
 from ._checks import as_bytes, as_number
-from .link import LinkError, Owner, Status, address
+from .codes import Reason, Status
+from .link import LinkError, Owner, address
 from .rows import Marks, Row, marks_of
 
 _MOST = (1 << 64) - 1
@@ -20,12 +20,6 @@ RECORD_BYTES = 65536
 TOGETHER = 512
 _ENTRY = struct.Struct("@QQQQQ4s4xB7x")
 _LETTERS = [chr(letter) for letter in range(256)]
-
-
-class Reason(enum.IntEnum):
-    """Why a record can't be read."""
-
-    NONE, BAD_RECORD, NOT_HEADER, NO_PARENT, SECOND_HEADER, UNFINISHED, TOO_LONG, OUT_OF_MEMORY = range(8)
 
 
 class MessageError(Exception):

@@ -1,18 +1,12 @@
 """Both ways of one line (LIS01-A2, 6.2.7 and 6.5): a station is a sender and a receiver, and knows which of them a
 byte is for. Each decision is made by the proved library."""
 import ctypes
-import enum
 from typing import Iterable, Iterator, NamedTuple, Optional, Tuple
 
 from . import _library
 from ._checks import as_flag, as_number
-from .link import FRAME_TEXT, LinkError, Note, ReceivingEnd, SendingEnd, Step
-
-
-class Role(enum.IntEnum):
-    """Which side of the line a station is. If both ask for the line at once, the analyzer goes first."""
-
-    ANALYZER, COMPUTER = range(2)
+from .codes import Note, Outcome, Phase, Role
+from .link import FRAME_TEXT, LinkError, ReceivingEnd, SendingEnd, Step
 
 
 class Answer(NamedTuple):

@@ -4,8 +4,9 @@ import functools
 import operator
 from typing import List, NamedTuple, Optional
 
-from ..link import FRAME_TEXT, LONG_FRAME_TEXT, FrameFault, LinkError, Status, frame_bytes
-from ..records import MessageError, Reason
+from ..codes import FrameFault, Reason, Status
+from ..link import FRAME_TEXT, LONG_FRAME_TEXT, LinkError, frame_bytes
+from ..records import MessageError
 from ..watch.verdicts import Verdict, Ways
 from .endings import ending_at
 from .log import CONTROL

@@ -4,7 +4,8 @@ import itertools
 from typing import Dict, Iterator, List, NamedTuple, Optional, Tuple, Union
 
 from ..capture import Capture, Line
-from ..link import FRAME_TEXT, Kind, Note, Readiness, Receiver, Scanner, Signal, Step
+from ..codes import Kind, Note, Readiness
+from ..link import FRAME_TEXT, Receiver, Scanner, Signal, Step
 from ..message import Fault, Found, read_all
 from ..watch.verdicts import BAD, Meaning, Verdict
 from .faults import Cause, Sum, cause_of_frame, checksum_of, words

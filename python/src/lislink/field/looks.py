@@ -4,9 +4,8 @@ import re
 from collections import Counter
 from typing import Any, Callable, Dict, Iterator, List, NamedTuple, Optional, Union
 
-from ..link import Note
+from ..codes import Note, Reason
 from ..message import Fault, Found
-from ..records import Reason
 from ..watch.verdicts import BAD, WARN, Meaning, Verdict, advice_on, is_way, plain_hint, way_of
 from .faults import cause_of_record, code_of
 from .ladder import Ladder, Look, Row

@@ -8,8 +8,9 @@ compared: which bytes it sends is the computer's own affair.
 from typing import Iterator, List, NamedTuple, Optional, Sequence, Tuple, Union
 
 from ..capture import Capture, Line
-from ..link import LinkError, Phase
-from ..station import Answer, Role, Station
+from ..codes import Phase, Role
+from ..link import LinkError
+from ..station import Answer, Station
 
 _STX, _LF, _ENQ, _EOT = 0x02, 0x0A, 0x05, 0x04
 #: The line at which a capture ends.

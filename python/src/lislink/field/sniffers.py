@@ -7,6 +7,7 @@ import zlib
 from typing import Callable, Dict, List, NamedTuple, Optional, Tuple
 
 from ..capture import Capture, Line, LINE_BYTES
+from ..codes import Kind
 from . import packets, serial_tools, traces, wireshark
 from .log import NEW, SECOND, Log, LogError, Piece, decode, in_order
 
@@ -375,7 +376,7 @@ def _lines(pieces: List[Piece], analyzer: str, timer: Optional[float]) -> Captur
 def of_two_dumps(analyzer: bytes, computer: bytes) -> Tuple[Capture, List[str]]:
     """A capture of the bytes of each direction: a reply of the computer is put after each ENQ and each frame. The
     order is made up by the rules of the link, and a remark says so."""
-    from ..link import Kind, Scanner
+    from ..link import Scanner
 
     lines: List[Line] = []
     at = used = 0

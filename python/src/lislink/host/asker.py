@@ -4,9 +4,10 @@ import random
 import re
 from typing import Iterator, List, NamedTuple, Optional, Sequence, Tuple
 
-from ..link import FRAME_TEXT, Outcome, Phase
+from ..codes import Outcome, Phase, Role
+from ..link import FRAME_TEXT
 from ..records import Writer, messages
-from ..station import Answer, Role, Station
+from ..station import Answer, Station
 from .send import Channel, Target, Trouble, connect
 
 #: How long the orders are waited for after a query, and a session that the host begins, in seconds.

@@ -5,10 +5,11 @@ import asyncio
 from collections import deque
 from typing import Any, Deque, List, Optional, Sequence
 
-from ..link import LinkError, Note, Outcome, Phase
+from ..codes import Note, Outcome, Phase, Role
+from ..link import LinkError
 from ..records import MessageError, Reader
 from ..rows import Row
-from ..station import Answer, Role, Station
+from ..station import Answer, Station
 from .outbox import Batch, Outbox, Site
 from .line import Line
 from .notices import OTHER, REPLY

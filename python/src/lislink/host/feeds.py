@@ -7,7 +7,8 @@ bytes, so that it is right exactly if what came was right. What is kept is what 
 import re
 from typing import Iterator, NamedTuple, Optional
 
-from ..link import Note, Step
+from ..codes import Note
+from ..link import Step
 
 _STX, _LF, _VT = b"\x02", b"\n", b"\x0b"
 #: What ends a frame, and what breaks one off.

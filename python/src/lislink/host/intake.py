@@ -4,8 +4,8 @@ import hashlib
 import re
 from typing import Callable, Dict, Iterable, Iterator, List, Optional, Tuple
 
-from ..link import Status
-from ..records import MessageError, Reader, Reason
+from ..codes import Reason, Status
+from ..records import MessageError, Reader
 from .store import UNFINISHED, UNREADABLE, WHOLE, Add, Begin, Change, End, new_key
 from .unknown import Unknown
 

@@ -4,7 +4,8 @@ import asyncio
 from collections import Counter, deque
 from typing import Callable, Deque, Dict, List, Optional, Sequence, Tuple
 
-from ..link import RECEIVER, Note, Receiver, Step
+from ..codes import Note
+from ..link import RECEIVER, Receiver, Step
 from ..watch.pulse import Probe
 from .commits import Committer
 from .feeds import AsItComes, LineFeeds

@@ -4,7 +4,8 @@ import time
 from collections import Counter
 from typing import Callable, Dict, Optional, Tuple
 
-from ..link import FrameFault, Note, Step
+from ..codes import FrameFault, Note
+from ..link import Step
 from .said import about
 
 #: So many notices of a line and a kind at once, and then one each so many seconds.

@@ -2,7 +2,8 @@
 for it by `link=plain`. This receiver is tested and not proved, and it can't notice damage."""
 from typing import Any, Iterator, Tuple
 
-from ..link import Note, Step
+from ..codes import Note
+from ..link import Step
 from .feeds import AsItComes
 from .line import Line
 

@@ -13,7 +13,8 @@ from collections import Counter, deque
 from typing import Callable, Deque, Iterator, List, NamedTuple, Optional, Sequence, Tuple, Union
 
 from ..capture import looks_like_capture
-from ..link import REPLY, Outcome, Phase, Sender
+from ..codes import Outcome, Phase
+from ..link import REPLY, Sender
 from ..message import Fault, read_all
 from ..records import Writer
 from .files import Appended

@@ -5,12 +5,13 @@ import time
 from collections import Counter, deque
 from typing import Any, Callable, Deque, Dict, List, NamedTuple, Optional, Tuple
 
+from ..codes import FrameFault, Note
 from ..field.faults import Cause, cause_of_frame
 from ..field.looks import has_bare_frames, is_hl7, parity_of, telnet_in
 from ..host.notices import Watch
 from ..host.store import WHOLE, End, StoreError
 from ..host.tape import Tape
-from ..link import FrameFault, Note, Step
+from ..link import Step
 from ..orders.book import Failed
 from .ring import Ring
 from .verdicts import BAD, GOOD, Verdict, Ways, advice_on, is_way, plain_hint, way_of
