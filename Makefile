@@ -93,12 +93,12 @@ library:
 	@tools/prove lis_c $(ARCHIVE)
 	$(MAKE) --no-print-directory linked
 
-# Both libraries out of the archive of the proved crate. These files of examples/c are part of both, so that a program
-# links with nothing else.
+# Both libraries out of the archive of the proved crate. The files of src/c are part of both, so that a program links
+# with nothing else.
 PLAIN = heap names connection pieces
 linked:
 	@mkdir -p $(BUILD)
-	for name in $(PLAIN); do $(CC) $(CPPFLAGS) $(CFLAGS) -fPIC -Iinclude -c examples/c/$$name.c -o $(BUILD)/$$name.o || exit 1; done
+	for name in $(PLAIN); do $(CC) $(CPPFLAGS) $(CFLAGS) -fPIC -Iinclude -c src/c/$$name.c -o $(BUILD)/$$name.o || exit 1; done
 	cp $(ARCHIVE) $(BUILD)/liblislink.a
 	ar r $(BUILD)/liblislink.a $(PLAIN:%=$(BUILD)/%.o)
 	$(CC) $(LDFLAGS) -shared -o $(BUILD)/liblislink.so.1 -Wl,-soname,liblislink.so.1 \

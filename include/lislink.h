@@ -287,7 +287,7 @@ lis_outcome lis_sender_outcome(lis_sender *s);
 /* How many frames of the session are acknowledged. */
 uint64_t lis_sender_acknowledged(lis_sender *s);
 
-/* ---- A sender and its connection: plain C (examples/c/connection.c), tested and not proved. ----
+/* ---- A sender and its connection: plain C (src/c/connection.c), tested and not proved. ----
  *
  * A reply has no mark of its session, so a late one can acknowledge what nobody took. These calls keep the sender's
  * duty: a session starts only on a connection on which no session was left without its reply, and a reply is heard
@@ -677,7 +677,7 @@ typedef struct lis_entry {
  * how many records they are. Returns how many bytes it read: give those that are left again, with more after them. If
  * it returns 0 though it had room for an entry and for as many parts as there are bytes, and though a CR is among the
  * bytes or they are LIS_LIMIT_RECORD_BYTES + 1, the next record can't come: lis_reader_read says why. Plain C, in
- * examples/c/pieces.c. */
+ * src/c/pieces.c. */
 size_t lis_reader_records(lis_reader *s, const uint8_t *bytes, size_t bytes_len, lis_entry *entries,
                           size_t entries_len, lis_part *parts, size_t parts_len, size_t *count);
 /* The end of the stream: LIS_STATUS_OK, or LIS_STATUS_UNFINISHED and `out` has the reason. `out` is always written, and
@@ -728,7 +728,7 @@ size_t lis_writer_text_len(lis_writer *s, size_t place);
  * `size` is always written, as 0 if it fails. */
 lis_status lis_writer_text(lis_writer *s, size_t place, uint8_t *out, size_t out_len, size_t *size);
 
-/* ---- Words, for logs: plain C (examples/c/names.c), tested and not proved. ---- */
+/* ---- Words, for logs: plain C (src/c/names.c), tested and not proved. ---- */
 
 /* The release of the library, as LIS_VERSION: "0.1.0". */
 const char *lis_version(void);
@@ -753,7 +753,7 @@ const char *lis_found_text(lis_found_kind kind);
 /* Words for why a record can't be read. */
 const char *lis_reason_text(lis_reason reason);
 
-/* ---- The heap, which the program has to bring: liblislink has examples/c/heap.c, over malloc and free. ---- */
+/* ---- The heap, which the program has to bring: liblislink has src/c/heap.c, over malloc and free. ---- */
 
 /* What was tried for a block. */
 typedef struct rattle_tried {

@@ -27,7 +27,7 @@ PAGES = ["README.md", "CONTRIBUTING.md", "CHANGELOG.md", "SECURITY.md", "docs/*.
 SOURCES = {
     "rust": ["crates/uses/src/*.rt", "crates/quick_results/src/*.rt", "crates/lis_tests/src/*.rt", "examples/rattle/*.rs",
              "bindings/rust/**/*.rs"],
-    "c": ["examples/c/*.c", "bindings/**/*.c"],
+    "c": ["examples/c/*.c", "src/c/*.c", "bindings/**/*.c"],
     "cpp": ["examples/cpp/*.cpp", "tests/**/*.cpp"],
     "python": ["examples/python/*.py", "python/src/lislink/**/*.py"],
 }

@@ -27,7 +27,7 @@ WRONG = [
 CODES = [
     ("bindings/codes.table", "LIS_PHASE_BUSY = 2", "LIS_PHASE_BUSY = 5", "LIS_PHASE_BUSY is 5, and 2 in crates/lis_c"),
     ("bindings/codes.table", "LIS_NOTE_TIMED_OUT = 12 | ", "LIS_NOTE_LATE = 12 | ", "LIS_NOTE_LATE is not in crates"),
-    ("bindings/codes.table", "| no room |", "| no more room |", "examples/c/names.c is not what"),
+    ("bindings/codes.table", "| no room |", "| no more room |", "src/c/names.c is not what"),
     ("include/lislink.h", "LIS_ROLE_COMPUTER = 1 ", "LIS_ROLE_COMPUTER = 2 ", "include/lislink.h is not what"),
     ("python/src/lislink/codes.py", "    READY = 0", "    YES = 0", "python/src/lislink/codes.py is not what"),
     ("bindings/rust/lislink/src/codes.rs", "    Sum = LIS", "    Total = LIS", "lislink/src/codes.rs is not what"),
@@ -103,7 +103,7 @@ class Tools(kit.Test):
     def test_codes_sees_what_is_wrong(self):
         """A number, a name or words of a constant in one place only; other words in what is written by hand are fine."""
         with tempfile.TemporaryDirectory() as folder:
-            for it in ("tools", "include", "bindings", "examples/c", "python/src/lislink", "crates/lis_c/specs"):
+            for it in ("tools", "include", "bindings", "src/c", "python/src/lislink", "crates/lis_c/specs"):
                 shutil.copytree(os.path.join(kit.ROOT, it), os.path.join(folder, it),
                                 ignore=shutil.ignore_patterns("target", "__pycache__"))
             for *change, said in CODES:

@@ -20,8 +20,8 @@ MADE = {"docs/API.md"}
 SOURCES = ["src/**/*.rt", "specs/**/*.antt", "proofs/**/*.antt"]
 MUTANTS = ["must-fail/*.edit", "mutants/*.edit", "harmless/*.edit"]
 # The code around the crates, whose comments and docstrings are looked at.
-AROUND = ["include/*", "examples/**/*.*", "bindings/rust/*/**/*.rs", "python/**/*.py", "conformance/*.py", "bench/*.py",
-          "tools/*.py", "tests/**/*.py", "tests/**/*.[ch]", "tests/**/*.cpp"]
+AROUND = ["include/*", "src/c/*", "examples/**/*.*", "bindings/rust/*/**/*.rs", "python/**/*.py", "conformance/*.py",
+          "bench/*.py", "tools/*.py", "tests/**/*.py", "tests/**/*.[ch]", "tests/**/*.cpp"]
 NAME = re.compile(r"[^\W\d]\w*(?:-[^\W\d]\w*)*")
 PART = re.compile(r"[A-Z]+(?![a-z])|[A-Z]?[a-z]+")
 STRING = re.compile(r'b?"(?:[^"\\]|\\.)*"')

@@ -1,4 +1,4 @@
-/* The calls of examples/c/connection.c: a reply of an earlier connection is dropped, and no session starts where a late
+/* The calls of src/c/connection.c: a reply of an earlier connection is dropped, and no session starts where a late
  * reply could meet it. Prints how many things were compared. */
 #include "lislink.h"
 #include <stdio.h>

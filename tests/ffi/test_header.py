@@ -82,7 +82,7 @@ def declared(text):
 
 def plain():
     """What the library has in plain C: its functions, which a compiler compares with the header, and their struct."""
-    texts = "".join(open(os.path.join(IN_C, name)).read() for name in OURS)
+    texts = "".join(open(path).read() for path in glob.glob(f"{OURS}/*.c"))
     return {"lis_line", "lis_entry", *re.findall(r"^\w[\w *]*?(lis_\w+)\([^;]*?\) \{$", texts, re.M)}
 
 

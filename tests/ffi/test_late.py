@@ -5,7 +5,7 @@ import re
 import subprocess
 
 from tests import ROOT, kit
-from tests.ffi.c import C11, IN_C, SANITIZERS
+from tests.ffi.c import C11, IN_C, SANITIZERS, source
 
 TALLY = re.compile(r"sessions (\d+) done (\d+) false (\d+) late (\d+) slow (\d+)\n")
 IN_TIME = "(step.reply != 0 && is_late(work))"
@@ -14,7 +14,7 @@ IN_TIME = "(step.reply != 0 && is_late(work))"
 def build(test, archive, host, program):
     """The test over a host."""
     files = [os.path.join(ROOT, "tests/ffi/late.c"), host,
-             *(os.path.join(IN_C, name) for name in ("analyzer.c", "serial.c", "heap.c"))]
+             *map(source, ("analyzer.c", "serial.c", "heap.c"))]
     flags = [it.replace("_POSIX_C_SOURCE=200809L", "_XOPEN_SOURCE=700") for it in (*C11, *SANITIZERS)]
     return test.runs([*flags, "-pthread", f"-I{ROOT}/examples/c", *files, archive, "-o", program])
 

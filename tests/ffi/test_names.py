@@ -1,11 +1,11 @@
-"""The header's constants: each has words of its own in examples/c/names.c, the version is that of VERSION, and one of
+"""The header's constants: each has words of its own in src/c/names.c, the version is that of VERSION, and one of
 another family is noticed by a compiler. That each language has the same names is for tools/codes."""
 import os
 import re
 import subprocess
 
 from tests import ROOT, kit
-from tests.ffi.c import C11, HEADER, IN_C, SANITIZERS, WARNINGS, families
+from tests.ffi.c import C11, HEADER, SANITIZERS, WARNINGS, families, source
 
 CALL = {"lis_signal_kind": "lis_signal_text", "lis_found_kind": "lis_found_text"}
 SETS = '#include "lislink.h"\nlis_status set(lis_receiver *receiver);\n' \
@@ -48,7 +48,7 @@ class Names(kit.Test):
         work, known = kit.folder_of(self), families(open(HEADER).read())
         with open(f"{work}/names.c", "w") as file:
             file.write(program(known))
-        if self.runs([*C11, *SANITIZERS, f"{work}/names.c", os.path.join(IN_C, "names.c"), "-o", f"{work}/names"]):
+        if self.runs([*C11, *SANITIZERS, f"{work}/names.c", source("names.c"), "-o", f"{work}/names"]):
             ran = subprocess.run([f"{work}/names"], capture_output=True, text=True)
             self.of_words(known, ran.stdout)
 

@@ -5,7 +5,7 @@ import re
 import sys
 
 from tests import ROOT, kit
-from tests.ffi.c import BARE, C11, IN_C, IN_PYTHON, RESULTS, SANITIZERS, compilers, python_over, shared
+from tests.ffi.c import BARE, C11, IN_PYTHON, RESULTS, SANITIZERS, compilers, python_over, shared, source
 
 VALUES = "".join(" ".join(line.split(" ")[:2]) + " \n" for line in RESULTS.splitlines())
 #: Each program: its files, those of this folder with their path, and the pattern of what it prints.
@@ -49,14 +49,14 @@ class Programs(kit.Test):
         with open(self.panel, "rb") as records, open(f"{work}/link", "wb") as link:
             link.write(session(records.read().splitlines(keepends=True)))
         for name, (files, said) in PROGRAMS.items():
-            paths = [os.path.join(IN_C, file) for file in files]
+            paths = [source(file) for file in files]
             if self.runs([*C11, *SANITIZERS, *paths, self.archive, "-o", f"{work}/{name}"]):
                 with open(self.panel if name == "values" else f"{work}/link") as given:
                     self.runs([f"{work}/{name}"], re.compile(said), stdin=given)
 
     def test_bare(self):
         work = kit.folder_of(self)
-        if self.runs([*BARE, os.path.join(IN_C, "bare.c"), self.archive, "-o", f"{work}/bare"]):
+        if self.runs([*BARE, source("bare.c"), self.archive, "-o", f"{work}/bare"]):
             self.runs([f"{work}/bare"], "")
 
     def test_python(self):

@@ -9,7 +9,7 @@ import sys
 import time
 
 from tests import ROOT, kit
-from tests.ffi.c import C11, IN_C, SANITIZERS, python_over, shared
+from tests.ffi.c import C11, SANITIZERS, python_over, shared, source
 
 RECEIVE, LATER = (os.path.join(ROOT, f"examples/python/{it}_receive.py") for it in ("quick", "async"))
 PROGRAMS = {"quick_send": ["examples/c/quick_send.c"], "quick_receive": ["examples/c/quick_receive.c"],
@@ -186,12 +186,12 @@ class Samples(kit.Test):
     def test_samples(self):
         archive, work = kit.built("archive"), kit.folder_of(self)
         library = shared(self, archive, work)
-        built = [self.runs([*C11, *SANITIZERS, *(os.path.join(ROOT, it) for it in files), os.path.join(IN_C, "heap.c"),
-                            archive, "-o", f"{work}/{name}"]) for name, files in PROGRAMS.items()]
-        sources = [os.path.join(ROOT, it) for it in ("examples/cpp/quick_receive.cpp", "examples/c/connection.c")]
-        built.append(self.runs(["g++", "-std=c++17", "-g", "-I", os.path.join(ROOT, "include"), *SANITIZERS, "-x", "c++",
-                                sources[0], "-x", "c", sources[1], "-x", "none", f"{IN_C}/heap.c", f"{IN_C}/names.c",
-                                archive, "-o", f"{work}/quick_receive_cpp"]))
+        built = [self.runs([*C11, *SANITIZERS, *(os.path.join(ROOT, it) for it in files), source("heap.c"), archive,
+                            "-o", f"{work}/{name}"]) for name, files in PROGRAMS.items()]
+        sources = [os.path.join(ROOT, it) for it in ("examples/cpp/quick_receive.cpp", "src/c/connection.c")]
+        words = ["g++", "-std=c++17", "-g", "-I", os.path.join(ROOT, "include"), *SANITIZERS]
+        built.append(self.runs([*words, "-x", "c++", sources[0], "-x", "c", sources[1], "-x", "none", source("heap.c"),
+                                source("names.c"), archive, "-o", f"{work}/quick_receive_cpp"]))
         if not library or not all(built):
             return
         how, late = python_over(library), paused(InC([f"{work}/quick_receive", f"{work}/late"]))
