@@ -319,7 +319,7 @@ fn run_on(
         assert!(rt; start_session(&mut line, &mut station, texts) == Ok(()));
     }
     let mut ends = Vec::new(alloc);
-    while ends.last() != Some(&b'C') && ends.len() < 20 {
+    for _run in 0..20 {
         let end = match run_station(&mut line, &mut station) {
             Ran::Text(text) => {
                 drop(text);
@@ -330,6 +330,9 @@ fn run_on(
             Ran::Closed => b'C',
         };
         ends.push(end).expect(rt, "memory");
+        if end == b'C' {
+            break;
+        }
     }
     drop(station);
     let sent = sent_on(rt, alloc, &line);
