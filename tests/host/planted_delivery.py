@@ -70,7 +70,7 @@ FAULTS = {
     ),
     "test_fhir.Fhir.test_fields": ("delivery/fhir.py", 'return f"{data:f}"', "return str(float(data))"),
     "test_dialects.Dialects.test_links": (
-        "host/mend.py", "    if not names & _AT_THE_END:\n", "    if names & _AT_THE_END:\n"
+        "host/mend.py", "if not names & _AT_THE_END or _messages", "if names & _AT_THE_END or _messages"
     ),
     "test_dialects.Dialects.test_records": (
         "host/mend.py", "are_comments or not normalize(body, set(names))[0]", "are_comments"
@@ -118,10 +118,11 @@ FAULTS = {
         "if one.take(asked.tables.get(name))]",
         "if one.table is None and one.take(asked.tables.get(name))]",
     ),
+    "test_mends.Mends.test_limits": ("host/mend.py", "<= MOST_RECORDS", "<= 2 * MOST_RECORDS"),
     "test_mends.Mends.test_long_records": ("field/normalize.py", '(b"R", b"C", b"M", b"S") and', '(b"R", b"C", b"M") and'),
     "test_mends.Mends.test_long_parts": ("field/compare.py", "in _pieces(text)) == 1", "in _pieces(text)) >= 1"),
     "test_mends.Mends.test_long_query": (
-        "host/mend.py", "names) if names or has_long(one.body) else None", "names) if names else None"
+        "host/mend.py", "if is_small and (names or has_long(body)) else", "if is_small and names else"
     ),
     "test_mends.Mends.test_long_random": (
         "field/normalize.py", 'is_of_one or letter == b"R"', 'is_of_one or letter in (b"R", b"C", b"M", b"S")'

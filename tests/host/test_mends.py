@@ -7,6 +7,7 @@ import io
 import json
 import os
 import random
+import unittest.mock
 from collections import Counter
 from typing import NamedTuple
 
@@ -17,7 +18,7 @@ from lislink.host import lines, mend, options
 from lislink.host.feeds import LineFeeds
 from lislink.host.intake import Intake
 from lislink.host.mend import Mender
-from lislink.host.store import WHOLE, Add, End
+from lislink.host.store import WHOLE, Add, Begin, End
 from lislink.link import FRAME_TEXT, LONG_FRAME_TEXT
 from tests.host.hosts import ROOT, Found, Host, HostTest, lislab, wait_for
 from tests.host.plain import frame
@@ -310,6 +311,26 @@ class Mends(HostTest):
         ):
             self.same(f"{name}: not left out", mend.mended(b"".join(came), frozenset()), None)
             self.same(f"{name}: the setting", mend.lacking(b"".join(came), frozenset(), True), setting)
+
+    def test_limits(self):
+        """A message with very many records isn't mended. What is whole before its end is made once."""
+        body = b"".join([*GOOD[:4], R2, GOOD[4]])
+        many = b"".join([*GOOD[:4], R2, *[b"C|\r"] * mend.MOST_RECORDS, GOOD[4]])
+        begin, end = Begin("k", "a", "p", "latin-1", 0.0), End("k", "a", "unreadable", "too long", "", 1, 0.0)
+        made = []
+
+        async def changes_of(data, is_asked):
+            mender = Mender((), None, Counter())
+            whole = await mender.is_whole(data) if is_asked else None
+            with unittest.mock.patch.object(mend, "mended", lambda *words: made.append(words) or mended(*words)):
+                return whole, len(await mender.changes(mend.Ended(begin, data, end, True)))
+
+        mended = mend.mended
+        self.same("one that is asked for before", asyncio.run(changes_of(body, True)), (True, 4))
+        self.same("it isn't made again", made, [])
+        self.same("one that isn't", asyncio.run(changes_of(body, False)), (None, 4))
+        self.same("it is made", len(made), 1)
+        self.same("many records", asyncio.run(changes_of(many, True)), (False, 1))
 
     def test_long_random(self):
         """Of random messages with long records each result that is delivered has the patient and the order that it had,

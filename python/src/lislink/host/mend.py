@@ -20,9 +20,9 @@ from .unknown import Unknown
 
 #: Those of lines whose frames may hold LF.
 LINE_FEEDS = frozenset(("lf", "crlf"))
-#: The most bytes of a message that is mended, which are held until it ends; and of one of which it is tried which
-#: setting would mend it.
-MOST, MOST_TRIED = 2 << 20, 1 << 18
+#: The most bytes of a message that is mended, which are held until it ends, and its most records; and the most bytes of
+#: one of which it is tried which setting would mend it.
+MOST, MOST_RECORDS, MOST_TRIED = 2 << 20, 100_000, 1 << 18
 #: So many messages of a line are tried at once, and then one each so many seconds.
 AT_ONCE, SECONDS = 5, 10.0
 #: So many changes of a message are named one by one, first of all each record that is left out since it is too long.
@@ -63,14 +63,14 @@ def mended(body: bytes, names: FrozenSet[str]) -> Optional[Mended]:
     messages = _messages(out)
     if not messages:
         return Mended([], list(_words(body, told))) if _is_after_l(body, names) else None
-    if gone_of_results(body, out) != _long_results(body, names) or _hides_records(messages, names):
+    if gone_of_results(body, out) != _long_results(body, names) or _hides_records(body, messages, names):
         return None
     return Mended(messages, list(_words(body, told)))
 
 
-def _hides_records(messages: Sequence[bytes], names: FrozenSet[str]) -> bool:
-    """Whether CRs seem to be missing between records, so that an end that is put to a message would hide some."""
-    if not names & _AT_THE_END:
+def _hides_records(body: bytes, messages: Sequence[bytes], names: FrozenSet[str]) -> bool:
+    """Whether CRs seem to be missing between records, so that the end that is put to a message would hide some."""
+    if not names & _AT_THE_END or _messages(normalize(body, {*(names - _AT_THE_END), *ALWAYS})[0]):
         return False
     return any(is_joined(record, one[1:5]) for one in messages for record in one.split(b"\r"))
 
@@ -162,6 +162,8 @@ class Mender:
         #: How many messages each setting would have delivered.
         self._would = would
         self._left, self._at = float(AT_ONCE), time.monotonic()
+        #: A message that goes on and is whole already, and what is made of it.
+        self._ready: Optional[Tuple[bytes, Mended]] = None
         #: Work for which the line doesn't wait.
         self.tasks = Tasks()
 
@@ -179,7 +181,7 @@ class Mender:
         """The changes that end a message, with those of the messages that are made of it."""
         names = self.names if one.is_over else self.names - _MAKES_AN_END
         try:
-            found = await self._run(mended, one.body, names) if names or has_long(one.body) else None
+            found = await self._made(one.body, names)
             if found is not None:
                 return await self._looked_up(made_of(one, found), one.begin.encoding)
             if not one.is_over or not self._may_try(len(one.body)):
@@ -193,6 +195,14 @@ class Mender:
         self._would[setting] += 1
         return [one.end._replace(reason=f"{one.end.reason}; {setting} would deliver it")]
 
+    async def _made(self, body: bytes, names: FrozenSet[str]) -> Optional[Mended]:
+        """What is made of a message by these changes, and by what is always done."""
+        ready, self._ready = self._ready, None
+        if ready is not None and ready[0] == body:
+            return ready[1]
+        is_small = body.count(b"\r") + body.count(b"\n") <= MOST_RECORDS
+        return await self._run(mended, body, names) if is_small and (names or has_long(body)) else None
+
     async def _looked_up(self, made: List[Change], encoding: str) -> List[Change]:
         """The same changes: the codes of the messages that they keep are looked up."""
         for change in made if self._unknown is not None else ():
@@ -202,12 +212,12 @@ class Mender:
 
     async def is_whole(self, body: bytes) -> bool:
         """Whether a message that still goes on is whole already, with the changes that its line makes."""
-        if not self.names and not has_long(body):
-            return False
         try:
-            return await self._run(is_whole, body, self.names - _AT_THE_END)
+            found = await self._made(body, self.names - _AT_THE_END)
         except Exception:  # that is said when the message ends
             return False
+        self._ready = (body, found) if found is not None and found.messages else None
+        return self._ready is not None
 
     async def _run(self, work: Callable[..., T], *words: Any) -> T:
         return await asyncio.get_running_loop().run_in_executor(self._executor, work, *words)

@@ -1,10 +1,11 @@
 """What a line's table of codes lacks: the results of its whole messages are looked up as a delivery looks them up."""
+import contextlib
 from collections import Counter
 from typing import Dict, Optional, Tuple
 
 from ..delivery.codes import Codes, code_and_unit
 from ..message import Entry
-from ..records import Reader
+from ..records import MessageError, Reader
 from ..rows import Row
 
 #: So many codes are counted one by one, of a line and of a message; so many of a message are named; a code is shown up
@@ -51,10 +52,11 @@ class Unknown:
 
     def look_at_all(self, key: str, body: bytes, encoding: str) -> None:
         """The same of all records of a message that can be read."""
-        if self.table is not None:
-            with Reader() as reader:
-                for row in reader.feed(body):
-                    self.look(key, row, encoding)
+        if self.table is None:
+            return
+        with Reader() as reader, contextlib.suppress(MessageError):
+            for row in reader.feed(body):
+                self.look(key, row, encoding)
 
     def ended(self, key: str, is_whole: bool) -> Tuple[int, str]:
         """A message is kept, or isn't whole: how many results of a whole one have codes that the table lacks, and which
