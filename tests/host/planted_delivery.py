@@ -90,9 +90,7 @@ FAULTS = {
     "test_fhir.Https.test_posts": ("delivery/https.py", '"X-Request-ID": key', '"X-Request-ID": kind'),
     "test_fhir.Https.test_words": ("delivery/https.py", "or parts.username or", "or"),
     "test_line_codes.LineCodes.test_a_delivery": (
-        "delivery/commands.py",
-        "    write = export.writer_of(form, coder_of(ask.codes, ask.lines, say))\n    if scheme",
-        "    write = export.writer_of(form, coder_of(ask.codes, ask.lines))\n    if scheme",
+        "delivery/commands.py", "coder_of(ask.codes, ask.lines, say)", "coder_of(ask.codes, ask.lines)"
     ),
     "test_line_codes.LineCodes.test_applied": (
         "delivery/tables.py",

@@ -77,9 +77,13 @@ def _target_of(ask: argparse.Namespace) -> Callable[[Stored], None]:
     if (ask.ca and scheme not in ("mllps", "https")) or (ask.headers and scheme != "https"):
         raise OptionError("--ca is for mllps:// and https://, --headers for https://")
     form: str = ask.format or _SCHEMES.get(scheme, "records")
-    if scheme in ("mllp", "mllps"):
-        return _receiver_of(scheme, rest, form, ask)
+    if scheme in ("mllp", "mllps") and form != "oru":
+        raise OptionError(f"MLLP carries messages of HL7, --format oru, and not {form}")
     write = export.writer_of(form, coder_of(ask.codes, ask.lines, say))
+    if scheme in ("mllp", "mllps"):
+        host, port = split_peer(rest.rstrip("/"))
+        context = https.context_of(ask.ca) if scheme == "mllps" else None
+        return mllp.to_mllp(mllp.Mllp(host, port, ask.seconds, context), write)
     if scheme == "https":
         headers = https.headers_of(ask.headers) if ask.headers else {}
         return https.to_https(https.Https(where, ask.seconds, https.context_of(ask.ca), headers), write, form)
@@ -87,16 +91,6 @@ def _target_of(ask: argparse.Namespace) -> Callable[[Stored], None]:
         return deliver.to_directory(where, form, write)
     words: List[str] = ask.words
     return deliver.to_command(words, write, ask.seconds)
-
-
-def _receiver_of(scheme: str, rest: str, form: str, ask: argparse.Namespace) -> Callable[[Stored], None]:
-    """A receiver of MLLP."""
-    if form != "oru":
-        raise OptionError(f"MLLP carries messages of HL7, --format oru, and not {form}")
-    host, port = split_peer(rest.rstrip("/"))
-    context = https.context_of(ask.ca) if scheme == "mllps" else None
-    write = export.writer_of(form, coder_of(ask.codes, ask.lines, say))
-    return mllp.to_mllp(mllp.Mllp(host, port, ask.seconds, context), write)
 
 
 def run_deliver(ask: argparse.Namespace) -> int:
