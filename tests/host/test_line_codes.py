@@ -1,10 +1,12 @@
 """The tables of codes that lines name: what a file of lines says of them, what a delivery makes by them, and what a
 host says of codes that they lack."""
 import contextlib
+import glob
 import io
 import os
 import random
 import signal
+import subprocess
 import unittest.mock
 
 from lislink import cli
@@ -141,20 +143,25 @@ class LineCodes(HostTest):
         store, folder = self.path("runs.db"), self.path("out")
         keep(store, [BODY], "a")
         words = ["--store", store, "--cursor", self.path("runs.cursor"), "--lines", file, "--to", folder]
-        one = process(["-m", "lislink", "deliver", *words])
-        self.true("the first", wait_for(lambda: os.path.isdir(folder) and len(os.listdir(folder)) == 1))
+        one = process(["-m", "lislink", "deliver", *words], stderr=subprocess.DEVNULL)
+
+        def names():
+            """The files that are whole."""
+            return sorted(glob.glob(os.path.join(folder, "0*.records")))
+
+        self.true("the first", wait_for(lambda: len(names()) == 1))
         self.written(os.path.basename(table), HEAD + "GLU,G2\nK,K\n")
         more = open_store(store)
         more.start("h")
         more.commit([[Begin("k2", "a", "p", "latin-1", 1.0), Add("k2", 0, 1.0, BODY),
                       End("k2", "a", WHOLE, "", "k2", len(BODY), 1.0)]])
         more.close()
-        self.true("the second", wait_for(lambda: len(os.listdir(folder)) == 2))
+        self.true("the second", wait_for(lambda: len(names()) == 2))
         one.kill()
         one.wait()
         found = []
-        for name in sorted(os.listdir(folder)):
-            with open(os.path.join(folder, name), "rb") as out:
+        for name in names():
+            with open(name, "rb") as out:
                 found.append(results(out.read())[0])
         self.same("by its table", found, ["R|1|^^^G1|5.4|mmol/L", "R|1|^^^G2|5.4|mmol/L"])
 
