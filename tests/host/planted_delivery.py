@@ -117,7 +117,9 @@ FAULTS = {
         "if one.table is None and one.take(asked.tables.get(name))]",
     ),
     "test_mends.Mends.test_limits": ("host/mend.py", "<= MOST_RECORDS", "<= 2 * MOST_RECORDS"),
-    "test_mends.Mends.test_long_records": ("field/normalize.py", '(b"R", b"C", b"M", b"S") and', '(b"R", b"C", b"M") and'),
+    "test_mends.Mends.test_long_records": (
+        "field/normalize.py", '(b"R", b"C", b"M", b"S") and', '(b"R", b"C", b"M") and'
+    ),
     "test_mends.Mends.test_long_parts": ("field/compare.py", "in _pieces(text)) == 1", "in _pieces(text)) >= 1"),
     "test_mends.Mends.test_long_query": (
         "host/mend.py", "if is_small and (names or has_long(body)) else", "if is_small and names else"

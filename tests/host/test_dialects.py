@@ -1,4 +1,5 @@
-"""What docs/DIALECTS.md says of a host: each row's setting delivers its sample, and without it the host names that one."""
+"""What docs/DIALECTS.md says of a host: each row's setting delivers its sample, and without it the host names the
+setting."""
 import asyncio
 import os
 import re
@@ -41,7 +42,8 @@ class Dialects(HostTest):
     """The samples of dialects."""
 
     def test_records(self):
-        """A sample of records isn't delivered without the change that its row names, is with it, and the host says so."""
+        """A sample of records isn't delivered without the change that its row names, is with it, and the host says it.
+        """
         found = list(rows("records"))
         self.true("there are rows", len(found) > 25)
         for name, says, helps in found:

@@ -243,8 +243,8 @@ class ReceivingEnd(Owner, Generic[Meaning]):
     """What a receiver and a station share: the other side's sessions."""
 
     def hear(self, data: bytes) -> Iterator[Meaning]:
-        """What further bytes mean, of those that mean something, in order. Bytes that a loop leaves unheard are heard by
-        the next call."""
+        """What further bytes mean, of those that mean something, in order. Bytes that a loop leaves unheard are heard
+        by the next call."""
         return (one for _, one in self.hear_placed(data))
 
     def hear_placed(self, data: bytes) -> Iterator[Tuple[int, Meaning]]:

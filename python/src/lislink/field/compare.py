@@ -113,8 +113,8 @@ def results_after(data: bytes) -> List[Placed]:
 
 
 def is_one_record(text: bytes, mark: bytes) -> bool:
-    """Whether these bytes are a record, and no other one seems to begin within them: after LF or another end of a record,
-    or where a CR was lost."""
+    """Whether these bytes are a record, and no other one seems to begin within them: after LF or another end of a
+    record, or where a CR was lost."""
     mark = re.escape(mark)
     begins, within = (re.compile(one, re.I) for one in (rb"[HPORCQMSL]" + mark, rb"[HPORQL]%b\d{1,4}%b" % (mark, mark)))
     is_one = sum(begins.match(one) is not None for _, one in _pieces(text)) == 1
@@ -122,7 +122,7 @@ def is_one_record(text: bytes, mark: bytes) -> bool:
 
 
 def is_joined(text: bytes, four: bytes) -> bool:
-    """Whether a patient, an order, a query or the last record seems to begin within a record, where its CR is missing."""
+    """Whether a patient, an order, a query or the last record seems to begin within a record whose CR is missing."""
     mark = re.escape(four[:1])
     before = rb"[^%b]" % re.escape(four)
     return re.search(rb"%b(?:[POQ]%b\d{1,4}%b|L%b1(?:%b|$))" % (before, mark, mark, mark, mark), text, re.I) is not None
