@@ -216,7 +216,7 @@ class LineCodes(HostTest):
         from lislink.watch.client import Host as Looks
         from lislink.watch.metrics import metrics_of
         from lislink.watch.unix import socket_of
-        found = metrics_of(Looks(host.store, socket_of(f"{host.store}.status")).look(), {})
+        found = metrics_of(Looks(host.store, socket_of(f"{host.store}.status")).look(), {}, {})
         self.has("metrics", found, f'lislab_unknown_codes_total{{line="a"}} {count}\n')
 
     def test_as_delivered(self):
