@@ -1,5 +1,5 @@
-/* The release of the library and words for its constants, for logs. Part of liblislink. Nothing here is proved: the
- * tests compare it with lislink.h. Made by tools/codes. */
+/* The release of the library and words for its constants, for logs. Part of liblislink. Nothing here is proved:
+ * the tests compare it with lislink.h. Made by tools/codes. */
 #include "lislink.h"
 
 #define WORDS(table, at) ((at) < sizeof(table) / sizeof *(table) && (table)[at] ? (table)[at] : "unknown")

@@ -34,6 +34,14 @@ CODES = [
     ("bindings/rust/lislink/src/codes.rs", "//! The families of", "//! All families of", ""),
     ("bindings/codes.table", "# The families of", "# All families of", ""),
 ]
+# A call in show.rt, and others in its place: whether each is a function more on the way.
+WAY_CALL = "    scanner.take(byte);\n"
+WAYS = [
+    (WAY_CALL + "    crate::playing::starved(0);\n", 1),
+    ("", 1),
+    (WAY_CALL + "    scanner.take(byte);\n", 0),
+    (WAY_CALL + "    // starved();\n", 0),
+]
 # What changes nothing that is promised.
 HARMLESS = [
     ("docs/promises.table", "`lis_port`: `ok`, `err`", "`lis_port`: `err`, `ok`"),
@@ -110,6 +118,21 @@ class Tools(kit.Test):
                 told = self.said_of(folder, [change], "tools/codes")
                 good = any(said in line for line in told[:-1]) if said else told[-1].endswith(" 0 failed")
                 self.check(good, f"{change[0]}: {change[2]}", "\n".join(told))
+
+    def test_way(self):
+        self.counts("tools/way")
+
+    def test_way_sees_what_is_wrong(self):
+        """One call more on the way of a byte is one function more; one that was there already is none, nor is one in a
+        comment; and a call that is gone is noticed."""
+        with tempfile.TemporaryDirectory() as folder:
+            for it in ("tools", "docs", "crates"):
+                shutil.copytree(os.path.join(kit.ROOT, it), os.path.join(folder, it),
+                                ignore=shutil.ignore_patterns("out", "must-fail", "mutants", "harmless", "proofs"))
+            shutil.copy(os.path.join(kit.ROOT, "crates.txt"), folder)
+            for new, more in WAYS:
+                told = self.said_of(folder, [("crates/lis_run/src/show.rt", WAY_CALL, new)], "tools/way")
+                self.check(told[-1] == f"way: {1 - more} passed, {more} failed", new, "\n".join(told))
 
     def test_man(self):
         self.counts("tools/man")
