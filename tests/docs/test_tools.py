@@ -123,8 +123,8 @@ class Tools(kit.Test):
         self.counts("tools/way")
 
     def test_way_sees_what_is_wrong(self):
-        """One call more on the way of a byte is one function more; one that was there already is none, nor is one in a
-        comment; and a call that is gone is noticed."""
+        """A new call on the way of a byte is a function more, and one that is gone is a function less; the same call
+        twice changes nothing, nor does one in a comment."""
         with tempfile.TemporaryDirectory() as folder:
             for it in ("tools", "docs", "crates"):
                 shutil.copytree(os.path.join(kit.ROOT, it), os.path.join(folder, it),
