@@ -315,6 +315,7 @@ fn run_on(
     let (role, texts) = side;
     let mut station = Station::new(alloc, role);
     if !texts.is_empty() {
+        assert!(rt; texts.len() < 10);
         let texts = Texts::from_slices(alloc, texts).expect(rt, "memory");
         assert!(rt; start_session(&mut line, &mut station, texts) == Ok(()));
     }
