@@ -398,7 +398,7 @@ class Host:
 
     def _say_ready(self) -> None:
         """Says once that all lines can be heard. It waits for no device that isn't there."""
-        if self._ready is False and not self._unusable:
+        if self._ready is False and not self._unusable and not self.stopping:
             self._ready = True
             announce("ready")
 
