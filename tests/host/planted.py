@@ -458,7 +458,7 @@ FAULTS = {
         '    if fault is not None:\n        say("")\n    for one in done:\n        if one.done():',
     ),
     "test_serial.Serial.test_a_device_that_is_no_terminal": Edit(
-        "host/serve.py", "if self._ready is False and not self._unusable:", "if self._ready is False:"
+        "host/serve.py", "self._ready is False and not self._unusable and", "self._ready is False and"
     ),
     "test_serial.Serial.test_a_speed_that_is_not_taken": Edit(
         "host/tty.py", "            _check_speed(descriptor, serial)\n", ""
