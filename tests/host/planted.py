@@ -460,6 +460,9 @@ FAULTS = {
     "test_serial.Serial.test_a_device_that_is_no_terminal": Edit(
         "host/serve.py", "self._ready is False and not self._unusable and", "self._ready is False and"
     ),
+    "test_serial.Serial.test_a_host_that_stops_is_not_ready": Edit(
+        "host/serve.py", "not self._unusable and not self.stopping:", "not self._unusable:"
+    ),
     "test_serial.Serial.test_a_speed_that_is_not_taken": Edit(
         "host/tty.py", "            _check_speed(descriptor, serial)\n", ""
     ),

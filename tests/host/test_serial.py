@@ -163,6 +163,23 @@ class Serial(HostTest):
         found, announced = self.after_a_start(f"{self.folder.name}:9600,name=A", os.ttyname(pty.openpty()[1]))
         self.same("one that takes its place: said once, and then ready", (len(found), announced), (1, ["ready"]))
 
+    def test_a_host_that_stops_is_not_ready(self):
+        """A device can't be used, and the host stops while a session goes on, which it waits for."""
+
+        async def serve_it():
+            asked = serve.Asked([], [options.serial_of("/dev/null:9600,name=A")], [], options.Limits(), None, None)
+            host = serve.Host(asked, open_store(self.path("stops.db")))
+            await host.start()
+            host.lines[unittest.mock.Mock()] = asyncio.ensure_future(asyncio.sleep(0.5))
+            await host.stop()
+            return [one.done() for one in host._devices.values()]
+
+        with unittest.mock.patch.multiple(serve, REOPEN=0.02, say=unittest.mock.DEFAULT, announce=unittest.mock.DEFAULT
+                                          ) as named:
+            over = asyncio.run(serve_it())
+        self.same("nobody waits for the device any more", over, [True])
+        self.same("announced", [call.args[0] for call in named["announce"].call_args_list], [])
+
     def test_a_speed_that_is_not_taken(self):
         """A driver that takes another speed than the one it is asked for."""
         name = os.ttyname(pty.openpty()[1])
