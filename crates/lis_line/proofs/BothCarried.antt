@@ -16,7 +16,8 @@ use Rattle.lis_world.specs.Unit.{enquiry}
 use Rattle.lis_world.specs.Session.{Session, new_session, session_at, changed, follows}
 use Rattle.lis_world.specs.World.{World}
 use Rattle.lis_world.specs.Steps.{begins, after_event}
-use Rattle.lis_world.specs.Progress.{Round, undisturbed, without_room, bad_frame, bad_reply, AreEnough, IsCarried, IsCalm}
+use Rattle.lis_world.specs.Progress.{Round, undisturbed, without_room, bad_frame, bad_reply}
+use Rattle.lis_world.specs.Progress.{AreEnough, IsCarried, IsCalm}
 use Rattle.lis_world.specs.Recovery.{AreTexts}
 use Rattle.lis_world.proofs.Invariant.{Holds, InPhase}
 use Rattle.lis_world.proofs.Safety.{event_holds}
@@ -357,7 +358,8 @@ carries_one limit is_limit events texts rounds calm are enough =
       subst (λ (v : TwoWay). HasDone limit 0 texts t.far.sessions v.far.sessions)
           (sym (after_more limit events (alone at_computer at_analyzer texts rounds)
           ∙ runs_there limit (start texts) rounds t))
-          (has_done limit 0 texts t.far.sessions (resting_world (turned t)) (beside_of (turned t)) _ there (omega arith)),
+          (has_done limit 0 texts t.far.sessions (resting_world (turned t)) (beside_of (turned t)) _ there
+          (omega arith)),
     )
 
 -- ---- both ask at once

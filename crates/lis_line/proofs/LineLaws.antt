@@ -1,5 +1,6 @@
 -- What the program that plays events on a line keeps is the line of the definition.
-use Rattle.std.proofs.Common.{IsOk, ◌≡◌, ◌≢◌, ℕ, zero, suc, Bool, true, false, List, [], ◌∷◌, Option, None, Some, OnOk, ◌⊎◌, inl, inr}
+use Rattle.std.proofs.Common.{IsOk, ◌≡◌, ◌≢◌, ℕ, zero, suc, Bool, true, false}
+use Rattle.std.proofs.Common.{List, [], ◌∷◌, Option, None, Some, OnOk, ◌⊎◌, inl, inr}
 use Rattle.std.proofs.Common.{refl, sym, ap, ◌∙◌, subst}
 use Rattle.std.specs.Prelude.{Result, Ok, Err, IfOk}
 use Rattle.lis_link.specs.Receiver.{ReceiverState}
@@ -367,8 +368,10 @@ stays :
     ≡ kept.far.station.receiver)
 stays item note frame message to_drop reply kept =
     let after = answered_stays to_drop reply (kept_noted item note frame message kept) in
-    let before = noted_stays item note frame message kept in
-    (ap (λ (s : KeptStation). s.receiver) (after.0 ∙ before.0), ap (λ (s : KeptStation). s.receiver) (after.1 ∙ before.1))
+    let before = noted_stays item note frame message kept in (
+      ap (λ (s : KeptStation). s.receiver) (after.0 ∙ before.0),
+      ap (λ (s : KeptStation). s.receiver) (after.1 ∙ before.1),
+    )
 
 -- what a receiver takes is the frame that the byte ends
 classified_takes : (r : ReceiverState) (frame : FrameContent) (note : Note)
@@ -421,7 +424,8 @@ hears_byte (Ok x) limit b true item old came new r q frame step near far same en
     absurd (answer memory).answers
 hears_byte (Ok x) limit b false item old came new r q frame step near far same ended answer memory went =
     let meant : ReceiverStep = asking old.near.station.asks_turn (on_byte limit b r) in
-    let after : StationState = (Stations.heard {limit = limit} (on_byte limit b r) (station_at old.near.station r)).after in
+    let after : StationState =
+    (Stations.heard {limit = limit} (on_byte limit b r) (station_at old.near.station r)).after in
     let made = (answer memory).answers in
     let station_is = (answer memory).station_is in
     let t : TwoWay = record (line_at old r q) { near = with_station after (end_at old.near r) } in
@@ -435,9 +439,11 @@ hears_byte (Ok x) limit b false item old came new r q frame step near far same e
     old.near.station.asks_turn
     (byte_takes {limit = limit} (signal_after limit r.past b) (record r { past = b ∷ r.past })))) in
     let drop_is : came.far.to_drop ≡ old.far.to_drop = ap (λ (k : KeptLine). k.far.to_drop) same in
-    line_is limit new meant.after q (steps item (routed limit false b (station_at old.near.station r)) (line_at old r q))
+    line_is limit new meant.after q
+    (steps item (routed limit false b (station_at old.near.station r)) (line_at old r q))
     (subst (λ (k : KeptLine). IsIn limit k.near.station.receiver meant.after) (sym went)
-    (subst (λ k. IsIn limit k meant.after) (sym (stays item step.note frame step.message came.far.to_drop step.reply came).0)
+    (subst (λ k. IsIn limit k meant.after)
+    (sym (stays item step.note frame step.message came.far.to_drop step.reply came).0)
     made.state))
     (subst (λ (k : KeptLine). IsIn limit k.far.station.receiver q) (sym went)
     (subst (λ k. IsIn limit k q) (sym (stays item step.note frame step.message came.far.to_drop step.reply came).1)

@@ -1,6 +1,7 @@
 -- While one side sends nothing, the line is that of one direction: a world of `lis_world`, and what the other direction
 -- has.
-use Rattle.std.proofs.Common.{◌≡◌, ◌⊎◌, inl, inr, ℕ, zero, suc, ◌+◌, Bool, true, false, List, [], ◌∷◌, ◌++◌, map, Option, None, Some}
+use Rattle.std.proofs.Common.{◌≡◌, ◌⊎◌, inl, inr, ℕ, zero, suc, ◌+◌, Bool, true, false}
+use Rattle.std.proofs.Common.{List, [], ◌∷◌, ◌++◌, map, Option, None, Some}
 use Rattle.std.proofs.Common.{refl, sym, ap, ◌∙◌, subst, append_assoc, append-nil, arith, length, ◌≤◌}
 use Rattle.std.specs.List.{fold, flat_map}
 use Rattle.std.specs.Prelude.{All, ◌≢◌, ◌==◌, ◌||◌, if◌then◌else◌}
@@ -42,7 +43,8 @@ use Rattle.lis_station.specs.declared.station.Role.{Role}
 use Rattle.lis_station.specs.declared.station.Turn.{Turn}
 use Rattle.lis_station.specs.Station.{StationState, awaits_reply, turn_reply, asking, asks_after}
 use Rattle.lis_station.specs.Station.{turn_after_note, turn_after_reply, given_reply, routed}
-use Rattle.lis_station.specs.Line.{Item, sent, answered, TwoWay, turned, noted, reply_out, steps, comes, left_line, arrives}
+use Rattle.lis_station.specs.Line.{Item, sent, answered, TwoWay, turned, noted, reply_out}
+use Rattle.lis_station.specs.Line.{steps, comes, left_line, arrives}
 use Rattle.lis_station.specs.Line.{receiver_went, sender_went, is_noise}
 use Rattle.lis_station.specs.Line.{emitted_out, room_near, damaged_in, arrive}
 use Rattle.lis_station.specs.Line.{arrive_without_room, damage, LineEvent, at_analyzer, at_computer, after_line_event}
@@ -369,7 +371,8 @@ emitted_here Emits.Enq w b near_turn far_turn =
 emitted_here Emits.Eot w b near_turn far_turn =
     ap (λ out. record (over w b near_turn far_turn) { outward = out }) (sym (map_push sent w.units _))
 emitted_here (Emits.Frame frame) w b near_turn far_turn =
-    ap (λ out. record (over (record w { sessions = changed w.current (sends_frame frame) w.sessions }) b near_turn far_turn)
+    ap (λ out. record
+    (over (record w { sessions = changed w.current (sends_frame frame) w.sessions }) b near_turn far_turn)
     { outward = out }) (sym (map_push sent w.units _))
 emitted_here _ w b near_turn far_turn = refl
 
@@ -652,10 +655,12 @@ rounds_carry :
 rounds_carry limit [] w b t is_limit silent noticed h = h
 rounds_carry limit (round ∷ rounds) w b t is_limit silent noticed h =
     let first = round_carries limit round w b t is_limit silent (All-head (IsNoticed limit) round rounds noticed) h in
-    let later = rounds_carry limit rounds _ b _ is_limit silent (All-tail (IsNoticed limit) round rounds noticed) first in
+    let later =
+    rounds_carry limit rounds _ b _ is_limit silent (All-tail (IsNoticed limit) round rounds noticed) first in
     subst (λ (v : World). Carries limit v b (line_runs limit (flat_map on_line (round ∷ rounds)) t))
     (sym (runs-append limit (round_events round) (flat_map round_events rounds) w))
-    (subst (λ (v : TwoWay). Carries limit (runs limit (flat_map round_events rounds) (runs limit (round_events round) w)) b v)
+    (subst (λ (v : TwoWay).
+    Carries limit (runs limit (flat_map round_events rounds) (runs limit (round_events round) w)) b v)
     (sym (line_runs-append limit (on_line round) (flat_map on_line rounds) t)) later)
 
 -- the session that has begun goes on as in one direction, and leaves no unit on the line

@@ -313,7 +313,8 @@ settled_calm limit here there t h few_in few_out =
     let closing : List LineEvent = at_analyzer close_line ∷ at_computer close_line ∷ [] in
     subst IsCalmLine
     (sym (line_runs-append limit (leaving_at at_analyzer here ++ leaving_at at_computer there) closing t
-    ∙ ap (line_runs limit closing) (line_runs-append limit (leaving_at at_analyzer here) (leaving_at at_computer there) t
+    ∙ ap (line_runs limit closing)
+    (line_runs-append limit (leaving_at at_analyzer here) (leaving_at at_computer there) t
     ∙ all_leave_there limit there v)))
     (closed_calm limit (turned u) (settles_turned u later.settles) later.none_in none_more)
 

@@ -9,7 +9,8 @@ use Rattle.lis_world.specs.Session.{Session, session_at}
 use Rattle.lis_world.specs.Progress.{Round, undisturbed, without_room, bad_frame, bad_reply, AreEnough, done_session}
 use Rattle.lis_world.specs.Recovery.{AreTexts}
 use Rattle.lis_station.specs.Station.{StationState}
-use Rattle.lis_station.specs.Line.{TwoWay, StationEvent, start, arrive, arrive_without_room, damage, lose, timer, give_up}
+use Rattle.lis_station.specs.Line.{TwoWay, StationEvent, start, arrive, arrive_without_room}
+use Rattle.lis_station.specs.Line.{damage, lose, timer, give_up}
 use Rattle.lis_station.specs.Line.{close_line, LineEvent, at_analyzer, at_computer, two_way}
 
 -- ---- a session on the line, from the station where `here` to the one where `there`

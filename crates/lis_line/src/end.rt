@@ -20,9 +20,9 @@ use lis_text::{LinkText, List};
 use std::alloc::{AllocError, Global};
 use std::marker::Model;
 
-/// A station; how many of its units on their way, from the front on, will be answered too late; the session that its
-/// sender is in, or was in last; the other side's session whose ENQ last opened the line here; and its own sessions, one
-/// for each ENQ that it sent.
+/// A station; how many of its units on their way, from the front on, will be answered too late; the number of its
+/// sender's session, or of the last one; the number of the other side's session whose ENQ last opened the line here;
+/// and its own sessions, one for each ENQ that it sent.
 #[derive(Drop)]
 pub(crate) struct EndOf<const N: usize> {
     pub(crate) station: Box<StationOf<N>>,

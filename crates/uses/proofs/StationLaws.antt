@@ -61,7 +61,8 @@ timer_made :
     (is_open : Bool) (s : StationState) (old new : KeptStation) (answer : AnswerOf 240)
     → IsIn 240 old.receiver s.receiver
     → IsAnswer 240 old (timed_by {limit = 240} is_open s) answer new
-    → IsOfEnd (timed_by {limit = 240} is_open s).answer answer × IsStation 240 new (timed_by {limit = 240} is_open s).after
+    → IsOfEnd (timed_by {limit = 240} is_open s).answer answer
+    × IsStation 240 new (timed_by {limit = 240} is_open s).after
 timer_made false s old new (Emits emit) near is = (
   is.answers.0,
   record { receiver_is = subst (λ k. IsIn 240 k s.receiver) (sym is.answers.1) near; station_is = is.station_is },
@@ -438,7 +439,8 @@ pub run_ended :
 run_ended first past now waited_it later turn kept_now new event ran so_far more waits takes =
     let was = takes so_far.s so_far.state in
     let log : List LogEvent = waited event ∷ was.event_log in
-    let doing : GoesOn now later log = goes_on_then now waited_it later (waited event ∷ []) was.event_log waits was.done in
+    let doing : GoesOn now later log =
+    goes_on_then now waited_it later (waited event ∷ []) was.event_log waits was.done in
     record {
       event_log = so_far.event_log ++ log;
       done = goes_on_then past now later so_far.event_log log so_far.done doing;
@@ -460,7 +462,8 @@ pub run_goes_on :
 run_goes_on first past now waited_it later turn kept_now new event so_far waits takes =
     let was = takes so_far.s so_far.state in
     let log : List LogEvent = waited event ∷ was.event_log in
-    let doing : GoesOn now later log = goes_on_then now waited_it later (waited event ∷ []) was.event_log waits was.done in
+    let doing : GoesOn now later log =
+    goes_on_then now waited_it later (waited event ∷ []) was.event_log waits was.done in
     record {
       event_log = so_far.event_log ++ log;
       done = goes_on_then past now later so_far.event_log log so_far.done doing;

@@ -42,7 +42,8 @@ IsOfEnd (hears step) (Hears result) = IsStep step result
 
 -- The program's answer to an event: the station's step. Or memory runs out for a frame that would be accepted: that is
 -- answered NAK, and nothing of it is kept.
-pub data IsStationAnswer (event : Event) (s : StationState) (answer : AnswerOf 240) (after : StationState) : Type 0 where
+pub data IsStationAnswer (event : Event) (s : StationState) (answer : AnswerOf 240) (after : StationState) :
+    Type 0 where
   made : IsOfEnd (station_step_at event s).answer answer → after ≡ (station_step_at event s).after
       → IsStationAnswer event s answer after
   refused : (byte : ℕ) (frame : FrameContent) (result : Step) → event ≡ Byte byte
@@ -86,8 +87,8 @@ over_by before Neutral outcome = Some (Rans.Over outcome)
 over_by before after outcome = None
 
 -- One event: the log of what is done at it, what the loop came to, none if it goes on, and the station after it.
-pub data IsTurn (event : Event) (s : StationState) (event_log : List LogEvent) (ran : Option Ran) (last : StationState) :
-    Type 0 where
+pub data IsTurn (event : Event) (s : StationState) (event_log : List LogEvent) (ran : Option Ran)
+    (last : StationState) : Type 0 where
   is_closed : event ≡ Closed → event_log ≡ [] → ran ≡ Some Rans.Closed → last ≡ s → IsTurn event s event_log ran last
   is_sent : (emit : EmitOf 240) → event ≢ Closed → IsStationAnswer event s (Emits emit) last
       → event_log ≡ put_out emit ++ timer_log (station_seconds last)

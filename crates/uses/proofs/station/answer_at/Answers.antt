@@ -5,5 +5,6 @@ pub returns-in-Byte : goal.returns-in-Byte
 returns-in-Byte c = (
   λ e. cc,
   λ s is. rw c.in-Byte.is
-      (answers_byte c.in-Byte.byte s _ _ c.byte.result c.byte.ensures.step c.byte.ensures.refused c.byte.ensures.memory is),
+      (answers_byte c.in-Byte.byte s _ _ c.byte.result c.byte.ensures.step c.byte.ensures.refused
+      c.byte.ensures.memory is),
 )

@@ -8,13 +8,16 @@ use Rattle.lis_line.proofs.line.LineOf.timer.Goals as goal
 pub returns-then-is_open : goal.returns-then-is_open
 returns-then-is_open g c r q near far =
     rw (← c.self.view_is)
-    (timed_here g.row.N r.is_open _ _ r q c.timer.result (sym (c.is_open.ensures r (rw (← c.self.view_is) at near)) ∙ c.if-is_open.true) (rw (← c.self.view_is) at far) (search rules)
+    (timed_here g.row.N r.is_open _ _ r q c.timer.result
+    (sym (c.is_open.ensures r (rw (← c.self.view_is) at near)) ∙ c.if-is_open.true)
+    (rw (← c.self.view_is) at far) (search rules)
     (c.timer.ensures.step r (rw (← c.self.view_is) at near)))
 
 pub returns-in-Neutral : goal.returns-in-Neutral
 returns-in-Neutral g c r q near far =
     timed_by_phase (λ (t : TwoWay). IsLine g.row.N c.args.self.now t) g.row.N r.is_open Neutral
-    (line_at c.args.self.now r q) (sym (c.is_open.ensures r (rw (← c.self.view_is) at near)) ∙ c.if-is_open.false) (search rules)
+    (line_at c.args.self.now r q)
+    (sym (c.is_open.ensures r (rw (← c.self.view_is) at near)) ∙ c.if-is_open.false) (search rules)
     (line_is g.row.N c.args.self.now r q (line_at c.args.self.now r q) near far refl)
 
 pub returns-in-AwaitLine : goal.returns-in-AwaitLine

@@ -11,7 +11,8 @@ returns-in-Emits g c r q near far closed =
       outward = c.self.inside.outward.items;
       inward = c.self.inside.inward.items;
     } in
-    timed_out c.emit.result g.row.N r.is_open c.args.self.now forgot _ c.emit.new.self r q c.in-Emits.emit closed near far
+    timed_out c.emit.result g.row.N r.is_open c.args.self.now forgot _ c.emit.new.self r q c.in-Emits.emit closed
+    near far
     (search rules) (search rules) (c.in-Emits.ensures.step r (search rules))
     (is_sent c.emit.result g.row.N _ c.emit.new.self c.in-Emits.emit c.emit.ensures.near c.emit.ensures.far
     c.emit.ensures.line)
