@@ -1,6 +1,7 @@
 //! A station: a sender and a receiver on one line.
 
-ghost use Rattle.std.specs.Prelude.{true, false, ◌≡◌, ◌≤◌, ◌<◌, ◌∷◌, max, take, length, None, Some, MatchResult, OnOk, OnErr};
+ghost use Rattle.std.specs.Prelude.{true, false, ◌≡◌, ◌≤◌, ◌<◌, ◌∷◌, max, take, length, None, Some};
+ghost use Rattle.std.specs.Prelude.{MatchResult, OnOk, OnErr};
 ghost use Rattle.lis_frame.specs.Limit.{IsLimit};
 ghost use Rattle.lis_text.specs.LinkText.{longest_text};
 ghost use Rattle.lis_link.specs.declared.sender.EmitOf.TheVariants as Emits;
@@ -287,21 +288,28 @@ impl<const N: usize, T: SessionTexts> StationOver<N, T> {
     }
 
     /// The receiver has made a step: its reply with regard to this side's turn.
-    fn heard(&mut self, step: Step) -> Step
+    fn heard(&mut self, mut step: Step) -> Step
         ensures step { result ≡ record step { reply = turn_reply step.note self.old.asks_turn step.reply } }
         ensures after { self.new ≡ record self.old {
           turn = turn_after_note step.note self.old.turn;
           asks_turn = asks_after step.note self.old.asks_turn;
         } }
     {
-        let reply = turn_reply(step.note, self.asks_turn, step.reply);
-        self.turn = turn_after_note(step.note, self.turn);
-        self.asks_turn = asks_after(step.note, self.asks_turn);
-        Step {
-            reply,
-            message: step.message,
-            note: step.note,
+        match step.note {
+            Note::Accepted(_) => {
+                if self.asks_turn {
+                    step.reply = Some(EOT);
+                    self.asks_turn = false;
+                }
+            }
+            Note::Ended | Note::TimedOut => {
+                self.turn = Turn::Free;
+                self.asks_turn = false;
+            }
+            Note::Opened | Note::NotReady => self.asks_turn = false,
+            _ => {}
         }
+        step
     }
 
     /// The station's timer runs out: the receiver's while its line is open, else the sender's.
@@ -459,35 +467,5 @@ fn turn_after_reply(phase: Phase, byte: u8, turn: Turn) -> Turn
         Phase::AwaitLine => { if byte == ENQ { Turn::Contended } else { turn } }
         Phase::AwaitReply => { if byte == EOT { Turn::Requested } else { turn } }
         Phase::Neutral | Phase::Busy | Phase::Contention => turn,
-    }
-}
-
-/// Whether the other side waits for its turn, after a step of the receiver.
-fn turn_after_note(note: Note, turn: Turn) -> Turn
-    ensures { result ≡ turn_after_note note turn }
-{
-    match note {
-        Note::Ended | Note::TimedOut => Turn::Free,
-        _ => turn,
-    }
-}
-
-/// Whether this side still asks for its turn, after a step of the receiver.
-fn asks_after(note: Note, asks: bool) -> bool
-    ensures { result ≡ asks_after note asks }
-{
-    match note {
-        Note::Opened | Note::NotReady | Note::Ended | Note::Accepted(_) | Note::TimedOut => false,
-        _ => asks,
-    }
-}
-
-/// The reply to a step of the receiver, with regard to this side's turn.
-fn turn_reply(note: Note, asks: bool, reply: Option<u8>) -> Option<u8>
-    ensures { result ≡ turn_reply note asks reply }
-{
-    match note {
-        Note::Accepted(_) => { if asks { Some(EOT) } else { reply } }
-        _ => reply,
     }
 }
