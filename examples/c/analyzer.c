@@ -6,6 +6,8 @@
 #include <string.h>
 #include <unistd.h>
 
+enum { MOST_TRIES = 3 };    /* how often ENQ is sent to a host that is busy */
+
 /* How long the sender waits for a reply in a phase, before its timer runs out. */
 static int seconds(lis_phase phase) {
     switch (phase) {
@@ -36,8 +38,9 @@ static bool put(int line, const lis_bytes *out) {
     return out->len == 0 || write(line, out->bytes, out->len) == (ssize_t)out->len;
 }
 
-/* Goes on with a session that was started until it is over. */
+/* Goes on with a session that was started until it is over or given up. */
 static int run(int line, lis_sender *sender, lis_bytes *out, int percent) {
+    int tries = 1;
     while (put(line, out)) {
         lis_phase phase = lis_sender_phase(sender);
         uint8_t byte;
@@ -52,7 +55,7 @@ static int run(int line, lis_sender *sender, lis_bytes *out, int percent) {
             if (out->len != 0 || lis_sender_phase(sender) != phase)
                 break;
         }
-        if (got < 0)
+        if (got < 0 || (got == 0 && phase == LIS_PHASE_BUSY && ++tries > MOST_TRIES))
             return -1;
         if (got == 0)
             lis_sender_timer(sender, out);

@@ -7,8 +7,9 @@
 #include "lislink.h"
 #include <time.h>
 
-/* Sends texts in one session; a lis_outcome, or -1 if the line is closed or there is no memory. After any other outcome
- * than LIS_OUTCOME_DONE a late reply may be on its way: no session may start on this line again. */
+/* Sends texts in one session; a lis_outcome, or -1 if the line is closed, the host is busy at three ENQs, or there is no
+ * memory. After any other outcome than LIS_OUTCOME_DONE a late reply may be on its way: no session may start on this
+ * line again. */
 int analyzer(int line, const char *const *texts, size_t count, int percent);
 
 /* A line that is taken anew after a session that failed. `connect` gives a file descriptor on which no late reply can

@@ -10,6 +10,8 @@
 #include <time.h>
 #include <unistd.h>
 
+enum { MOST_TRIES = 3 };    /* how often ENQ is sent to a host that is busy */
+
 /* Waits for a byte until this time: 1 if one came, 0 if none did, -1 if the line is closed. */
 static int byte_until(int line, time_t due, uint8_t *byte) {
     struct pollfd ready = {line, POLLIN, 0};
@@ -19,17 +21,18 @@ static int byte_until(int line, time_t due, uint8_t *byte) {
     return read(line, byte, 1) == 1 ? 1 : -1;
 }
 
-/* Sends what is due, and hears the replies, until the session is over or the line is closed. */
+/* Sends what is due, and hears the replies, until the session is over, given up, or the line is closed. */
 static void run(int line, lis_sender *sender, lis_bytes *out) {
     static const int seconds[] = {0, LIS_SECONDS_REPLY, LIS_SECONDS_BUSY, LIS_SECONDS_CONTENTION, LIS_SECONDS_REPLY};
     uint8_t phase, byte;
+    int tries = 1;
     while (write(line, out->bytes, out->len) == (ssize_t)out->len) {
         if ((phase = lis_sender_phase(sender)) == LIS_PHASE_NEUTRAL)
             return;
         time_t due = time(NULL) + seconds[phase];
         do {
             int came = byte_until(line, due, &byte);
-            if (came < 0)
+            if (came < 0 || (came == 0 && phase == LIS_PHASE_BUSY && ++tries > MOST_TRIES))
                 return;
             if (came > 0)
                 lis_sender_reply(sender, byte, out);

@@ -1,5 +1,6 @@
-/* The loops of examples/c in a program with a signal that comes often: an analyzer whose host is silent times out, and a
- * host's timer closes the line of an analyzer that is. Prints 'a timeout, a closed line'. */
+/* The loops of examples/c in a program with a signal that comes often: an analyzer whose host is silent times out, one
+ * whose host is busy gives up, and a host's timer closes the line of an analyzer that is silent. Prints 'a timeout, a
+ * busy host, a closed line'. */
 #include "../../examples/c/loops.h"
 #include <poll.h>
 #include <signal.h>
@@ -45,6 +46,27 @@ static int analyzer_ends(void) {
     return outcome;
 }
 
+/* How many ENQs an analyzer sends to a host that is busy, and then gives up; 0 if its session ends otherwise. */
+static int busy_asked(void) {
+    static const char *const texts[] = {"H|\\^&\r"};
+    static const char nak = 21;
+    int line[2], asked = 0, ended;
+    char byte;
+    if (socketpair(AF_UNIX, SOCK_STREAM, 0, line) != 0)
+        exit(2);
+    pid_t child = fork();
+    if (child == 0) {
+        close(line[1]);
+        be_disturbed();
+        _exit(analyzer(line[0], texts, 1, PERCENT) == -1 ? 0 : 1);
+    }
+    close(line[0]);
+    while (asked < 10 && read(line[1], &byte, 1) == 1 && byte == 5 && write(line[1], &nak, 1) == 1)
+        asked++;
+    close(line[1]);
+    return waitpid(child, &ended, 0) == child && WIFEXITED(ended) && WEXITSTATUS(ended) == 0 ? asked : 0;
+}
+
 /* The byte that the line gives within a time, 0 if none comes. */
 static char told(int line, int time) {
     struct pollfd ready = {line, POLLIN, 0};
@@ -76,9 +98,12 @@ static bool host_closes(void) {
 int main(void) {
     signal(SIGPIPE, SIG_IGN);
     bool closes = host_closes();
-    int outcome = analyzer_ends();
-    if (outcome != LIS_OUTCOME_TIMED_OUT || !closes)
-        return fprintf(stderr, "the analyzer's outcome is %d, the host %s\n", outcome, closes ? "is good" : "fails"), 1;
-    puts("a timeout, a closed line");
+    int asked = busy_asked(), outcome = analyzer_ends();
+    if (outcome != LIS_OUTCOME_TIMED_OUT || asked != 3 || !closes) {
+        fprintf(stderr, "the analyzer's outcome is %d, it asks %d times, the host %s\n", outcome, asked,
+                closes ? "is good" : "fails");
+        return 1;
+    }
+    puts("a timeout, a busy host, a closed line");
     return 0;
 }

@@ -21,7 +21,7 @@ PROGRAMS = {"values": (["values.c", "names.c", "pieces.c", "heap.c"], re.escape(
             "line": (["../../tests/ffi/line.c", "connection.c", "heap.c"], r"\d+ compared\n"),
             "pieces": (["../../tests/ffi/pieces.c", "pieces.c", "heap.c"], r"\d+ records are equal\n"),
             "pair": (["pair.c", "analyzer.c", "host.c", "heap.c"], r"5 texts went over\n"),
-            "signals": (["../../tests/ffi/signals.c", "analyzer.c", "host.c", "heap.c"], r"a timeout, a closed line\n"),
+            "signals": (["../../tests/ffi/signals.c", "analyzer.c", "host.c", "heap.c"], r"a timeout, a busy host, a closed line\n"),
             "message": (["message.c"], r"\d+ calls refused in turn\n"),
             "records": (["records.c"], r"\d+ calls refused in turn\n"),
             "refused": (["refused.c"], r"\d+ calls refused in turn\n"),

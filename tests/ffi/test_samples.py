@@ -6,6 +6,7 @@ import signal
 import socket
 import subprocess
 import sys
+import threading
 import time
 
 from tests import ROOT, kit
@@ -153,6 +154,28 @@ def of_sender(test, work, how):
     test.check(good and sender.process.wait(10) == 1, "quick_send.c to a host that is busy and closes the line")
 
 
+def busy(sample):
+    """A host, in a thread, that is busy at each ENQ of a sample; and the ENQs that it heard."""
+    heard = []
+
+    def reply():
+        while told(sample.line, 1, 20.0) == ENQ:
+            heard.append(ENQ)
+            sample.line.sendall(b"\x15")
+
+    host = threading.Thread(target=reply)
+    host.start()
+    return sample, host, heard
+
+
+def gives_up(sample, host, heard):
+    """After three ENQs."""
+    status = sample.process.wait(60)
+    sample.line.shutdown(socket.SHUT_RDWR)
+    host.join()
+    return (status, len(heard)) == (1, 3)
+
+
 def paused(sample):
     """A sample that is stopped before a frame comes; and since when."""
     good = ask(sample.line, ENQ, ACK) and ask(sample.line, frame(1, TEXTS[0]), ACK)
@@ -194,6 +217,7 @@ class Samples(kit.Test):
                                 source("names.c"), archive, "-o", f"{work}/quick_receive_cpp"]))
         if not library or not all(built):
             return
+        asks = busy(InC([f"{work}/quick_send", "text"]))
         how, late = python_over(library), paused(InC([f"{work}/quick_receive", f"{work}/late"]))
         late_in_cpp = paused(InPython([f"{work}/quick_receive_cpp", "0", f"{work}/late_in_cpp"]))
         late_too = paused(InPython([sys.executable, LATER, "0", f"{work}/late_too"], **how))
@@ -201,6 +225,7 @@ class Samples(kit.Test):
         of_host(self, work)
         of_sender(self, work, how)
         of_short_write(self, work)
+        self.check(gives_up(*asks), "quick_send.c to a host that is busy: three ENQs")
         self.check(is_silent_late(*late), "quick_receive.c, stopped for 12 seconds, sends a late reply")
         self.check(is_silent_late(*late_in_cpp), "quick_receive.cpp, stopped for 12 seconds, sends a late reply")
         self.check(is_silent_late(*late_too), "async_receive.py, stopped for 12 seconds, sends a late reply")
