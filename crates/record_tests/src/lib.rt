@@ -12,6 +12,8 @@ mod memory;
 #[cfg(test)]
 mod message;
 #[cfg(test)]
+mod message_table;
+#[cfg(test)]
 mod parts;
 #[cfg(test)]
 mod record;

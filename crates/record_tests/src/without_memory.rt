@@ -6,6 +6,7 @@
 use lis_message::{
     Fed, Message, MessageReader, RecordFound, RecordReader, read_messages, write_message,
 };
+use lis_message_table::MessageTable;
 use lis_port::Discard;
 use lis_record_values::*;
 use std::alloc::Global;
@@ -86,6 +87,20 @@ fn a_message(rt: &impl Abort, alloc: Global, asked: bool) {
     drop(messages);
 }
 
+/// A table with memory for the records of a message.
+fn a_table(rt: &impl Abort, alloc: Global, asked: bool) {
+    let mut table = MessageTable::new(alloc);
+    assert!(rt; table.reserve(6).is_ok());
+    if asked {
+        assert!(rt; table.read(MESSAGE) == Ok(Some(b"")) && table.read(b"H|\\^&\rP|1|un").is_err());
+        assert!(rt; table.read(MESSAGE).is_ok() && table.record(5).is_some());
+        assert!(rt; table.put_parts(3, &mut []) == Some(6));
+        drop(table.cleared());
+    } else {
+        drop(table);
+    }
+}
+
 /// A component with memory for so many symbols.
 fn a_component(rt: &impl Abort, alloc: Global, filled: bool) {
     let mut component = Component::with_capacity(alloc, 40).expect(rt, "memory");
@@ -132,6 +147,7 @@ fn all_values(rt: &impl Abort, alloc: Global, asked: bool) {
     a_reader(rt, alloc, asked);
     some_records(rt, alloc, asked);
     a_message(rt, alloc, asked);
+    a_table(rt, alloc, asked);
     a_component(rt, alloc, asked);
     a_field(rt, alloc, asked);
     a_record(rt, alloc, asked);

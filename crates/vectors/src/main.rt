@@ -9,6 +9,8 @@
 //! - `vectors station` does the same by a station;
 //! - `vectors messages` reads the record text of standard input, and says how many messages it holds;
 //! - `vectors again 40` does so 40 times, each time with the memory of the time before;
+//! - `vectors tables 40` does so 40 times where the messages are, by one table, and `vectors parts 40` with all
+//!   components of each record;
 //! - `vectors play 40` plays a session of 1,000 full frames 40 times, and says how many were accepted.
 #![tactic(auto)]
 
@@ -25,6 +27,7 @@ mod record_rows;
 mod resuming;
 mod sender_rows;
 mod state;
+mod table_rows;
 mod timed;
 mod words;
 mod writing_rows;

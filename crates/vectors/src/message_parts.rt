@@ -10,22 +10,28 @@ use lis_message::{
     TextsFault, message_texts, write_message,
 };
 use lis_port::Slow;
-use lis_tree::{Finding, findings};
+use lis_tree::{Finding, Findings, findings};
+use std::alloc::AllocError;
 use std::mem::drop;
 
 /// Puts a message: its delimiters, the number of its records, its tree, its findings, its texts, and what is written.
 pub(crate) fn put_message(message: &Message, answer: &mut Answer) {
+    put_read(message, answer);
+    answer.text(" texts=");
+    put_texts(message, answer);
+    answer.text(" written=");
+    put_written(message, answer);
+}
+
+/// Puts what is read of a message: its delimiters, the number of its records, its tree and its findings.
+pub(crate) fn put_read(message: &Message, answer: &mut Answer) {
     answer.word("message delimiters=");
     put_delimiters(message.delimiters(), answer);
     answer.number(" records=", message.len());
     answer.text(" tree=");
     put_tree(message, answer);
     answer.text(" findings=");
-    put_findings(message, answer);
-    answer.text(" texts=");
-    put_texts(message, answer);
-    answer.text(" written=");
-    put_written(message, answer);
+    put_findings(findings(answer.alloc, message), answer);
 }
 
 /// Puts the texts of a message's records, or why it has none.
@@ -51,8 +57,7 @@ fn put_written(message: &Message, answer: &mut Answer) {
 }
 
 /// Puts the findings of a message.
-fn put_findings(message: &Message, answer: &mut Answer) {
-    let found = findings(answer.alloc, message);
+pub(crate) fn put_findings(found: Result<Findings, AllocError>, answer: &mut Answer) {
     if let Some(found) = answer.made(found) {
         put_each_finding(found.as_slice(), answer);
         drop(found);

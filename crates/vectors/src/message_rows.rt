@@ -5,6 +5,7 @@ use crate::encoding::{delimiters_of, record_of};
 use crate::message_parts::{put_fault, put_message, put_place_fault};
 use crate::narrow::narrow_of;
 use crate::resuming::write_on;
+use crate::table_rows::put_others;
 use crate::words::Call;
 use lis_message::{Fed, Message, MessageFault, MessageReader, Messages, Records, read_messages};
 use std::mem::{drop, replace};
@@ -57,12 +58,16 @@ impl Reading {
         answer.number(" held=", held);
     }
 
-    /// Answers what a whole stream gives.
+    /// Answers what a whole stream gives, and what its tables say, if that is something else.
     fn read(&mut self, call: Call<'_>, answer: &mut Answer) {
         let bytes = call.bytes(0, answer);
         let fed = read_messages(answer.alloc, bytes.as_slice());
+        let mut others = Answer::new(answer.alloc);
+        put_others(bytes.as_slice(), &fed, &mut others);
         drop(bytes);
         self.put_fed(fed, answer);
+        answer.answer(&others);
+        drop(others);
     }
 
     /// Answers how the stream ends.

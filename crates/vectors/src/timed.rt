@@ -1,10 +1,11 @@
 //! Calls that `lislink` doesn't make by themselves, for the benchmark to time: the receiver's hearing of bytes, the
-//! reading of messages as trees, and the playing of events.
+//! reading of messages as trees and as tables, and the playing of events.
 
 ghost use Rattle.std.specs.Prelude.{◌<◌, ◌≤◌, length};
 
 use lis_link::{Outcome, Receiver};
 use lis_message::read_messages;
+use lis_message_table::{LisPart, MessageTable};
 use lis_station::{AnswerOf, HearingOf, Role, Station};
 use lis_text::Texts;
 use lis_world::{Event, Events, Session, play};
@@ -18,6 +19,18 @@ const PIECE: usize = 65_536;
 
 /// How many frames the session has that is played, each a text of its own.
 const FRAMES: usize = 1_000;
+
+/// How many components of a record are kept.
+const MOST_PARTS: usize = 256;
+
+const NO_PART: LisPart = LisPart {
+    offset: 0,
+    len: 0,
+    field: 0,
+    repeat: 0,
+    component: 0,
+    flags: 0,
+};
 
 /// What a full frame carries.
 const FULL: usize = 240;
@@ -33,6 +46,10 @@ pub(crate) enum Asked {
     Station,
     /// The reading of messages, so many times.
     Messages(u32),
+    /// The reading of messages where they are, so many times.
+    Tables(u32),
+    /// The same with all components of each record.
+    Parts(u32),
     /// The playing of a session, so many times.
     Play(u32),
 }
@@ -62,6 +79,8 @@ fn asked_again(what: &str, rounds: &str) -> Option<Asked> {
     let rounds = rounds.parse().ok()?;
     match what {
         "again" => Some(Asked::Messages(rounds)),
+        "tables" => Some(Asked::Tables(rounds)),
+        "parts" => Some(Asked::Parts(rounds)),
         "play" => Some(Asked::Play(rounds)),
         _ => None,
     }
@@ -78,11 +97,17 @@ pub(crate) fn make_calls(rt: &HostRuntime, asked: Option<Asked>) -> ExitCode {
         Some(Asked::Messages(rounds)) => {
             report(rt, in_messages(rt.alloc(), &mut rt.reader(), rounds))
         }
+        Some(Asked::Tables(rounds)) => {
+            report(rt, in_tables(rt.alloc(), &mut rt.reader(), rounds, false))
+        }
+        Some(Asked::Parts(rounds)) => {
+            report(rt, in_tables(rt.alloc(), &mut rt.reader(), rounds, true))
+        }
         Some(Asked::Play(rounds)) => report(rt, played(rt.alloc(), rounds)),
         Some(Asked::Rows) | None => {
             // If it can't be printed, the status still says it.
             let _ = eprintln!(rt;
-                "usage: vectors [bytes | station | messages | again ROUNDS | play ROUNDS]"
+                "usage: vectors [bytes | station | messages | again ROUNDS | tables ROUNDS | parts ROUNDS | play ROUNDS]"
             );
             ExitCode::from(2)
         }
@@ -176,6 +201,58 @@ fn messages_of(alloc: Global, bytes: &[u8]) -> Option<u64> {
     let is_refused = read.fault.is_some();
     drop(read);
     if is_refused { None } else { Some(count) }
+}
+
+/// The number of messages in all that is read, in all rounds, each read where it is, with all components of its records
+/// if that is asked; none where a read fails or a record is rejected.
+fn in_tables<R: Read>(alloc: Global, reader: &mut R, rounds: u32, with_parts: bool) -> Option<u64> {
+    let mut bytes = Vec::new(alloc);
+    reader.read_to_end(&mut bytes).ok()?;
+    let messages = tables_again(alloc, bytes.as_slice(), rounds, with_parts);
+    drop(bytes);
+    messages
+}
+
+/// The number of messages in all rounds over a record text, by one table.
+fn tables_again(alloc: Global, bytes: &[u8], rounds: u32, with_parts: bool) -> Option<u64> {
+    let mut parts = [NO_PART; MOST_PARTS];
+    let asked = if with_parts { MOST_PARTS } else { 0 };
+    let mut table = MessageTable::new(alloc);
+    let mut messages = Some(0u64);
+    for _ in 0..rounds {
+        messages = tables_of(&mut table, bytes, &mut parts[..asked], messages);
+    }
+    drop(table);
+    messages
+}
+
+/// The number of messages, with those of a record text; none where a record is rejected.
+fn tables_of<'a>(
+    table: &mut MessageTable<'a>,
+    bytes: &'a [u8],
+    parts: &mut [LisPart],
+    messages: Option<u64>,
+) -> Option<u64> {
+    let (mut rest, mut messages) = (bytes, messages?);
+    for _ in 0..=bytes.len() {
+        match table.read(rest) {
+            Ok(Some(following)) => rest = following,
+            Ok(None) => return Some(messages),
+            Err(_) => return None,
+        }
+        if !parts.is_empty() {
+            find_parts(table, parts);
+        }
+        messages = messages.saturating_add(1);
+    }
+    None
+}
+
+/// Finds all components of each record.
+fn find_parts(table: &MessageTable<'_>, parts: &mut [LisPart]) {
+    for index in 0..table.places().len() {
+        let _count = table.put_parts(index, parts);
+    }
 }
 
 /// The number of frames that were accepted in all rounds; none if memory runs out.

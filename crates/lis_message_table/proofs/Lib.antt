@@ -1,0 +1,3 @@
+pub mod ParentLaws
+pub mod ReadingLaws
+pub mod TableLaws

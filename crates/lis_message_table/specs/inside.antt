@@ -1,0 +1,3 @@
+-- What proofs and private functions speak of. No public contract cites it.
+pub mod Above
+pub mod Reading

@@ -1,0 +1,25 @@
+//! What holds of tables and messages, over the definitions that the contracts cite.
+
+ghost use Rattle.std.specs.Prelude.{◌≡◌, ◌∷◌, ◌++◌, ℕ, List, Option, map};
+ghost use Rattle.lis_record_values.specs.declared.faults.MessageFault.{MessageFault};
+ghost use Rattle.lis_table.specs.Entries.{entries_of};
+ghost use Rattle.lis_tree.specs.Tree.{MessageTree, flatten};
+ghost use Rattle.lis_message.specs.Feeding.{ReadsWhole};
+ghost use Rattle.lis_message_table.specs.Table.{IsTableOf, Table, contents_of, entries_in};
+
+/// The records at the places of a message's table are those of its tree, in the same order, and so are the components
+/// that their parts are read as.
+pub fn read_as_tree()
+    ensures records { (t : Table) (m : MessageTree) → IsTableOf t m → contents_of t ≡ flatten m }
+    ensures components { (t : Table) (m : MessageTree) → IsTableOf t m → entries_in t ≡ map entries_of (flatten m) }
+{}
+
+/// A table is that of one message at most. Where a text begins with its message, what reading the text gives is that
+/// message and then what reading the bytes after it gives, with the same fault: tables that are read one after another
+/// are the messages that `read_messages` gives.
+pub fn one_after_another()
+    ensures one { (t : Table) (m n : MessageTree) → IsTableOf t m → IsTableOf t n → m ≡ n }
+    ensures reads { (t : Table) (m : MessageTree) → IsTableOf t m → (following : List ℕ)
+        (messages : List MessageTree) (fault : Option MessageFault)
+        → ReadsWhole following messages fault → ReadsWhole (t.text ++ following) (m ∷ messages) fault }
+{}

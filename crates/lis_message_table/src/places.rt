@@ -1,0 +1,15 @@
+//! Where the records of a message are.
+
+use lis_record_values::Kind;
+
+/// A record of a message: where it is in the message's text, and the record that it is under.
+#[derive(Clone, Copy, Debug)]
+pub struct RecordPlace {
+    pub kind: Kind,
+    /// The place of its first byte, from 0.
+    pub start: usize,
+    /// How many bytes it has, without its CR.
+    pub len: u32,
+    /// The index of the record that it is under, from 0 for the header. The header's is its own.
+    pub parent: usize,
+}
