@@ -1,3 +1,4 @@
 pub mod ParentLaws
 pub mod ReadingLaws
+pub mod ResultLaws
 pub mod TableLaws

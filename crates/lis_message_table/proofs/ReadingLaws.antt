@@ -2,7 +2,7 @@
 use Rattle.std.proofs.Common.{◌≡◌, ◌≢◌, ◌≤◌, ◌<◌, ℕ, ◌+◌, ◌-◌, List, [], ◌∷◌, ◌++◌, length, map, take, drop, refl, sym}
 use Rattle.std.proofs.Common.{◌∙◌, ap, subst, append_assoc, arith, length-append, Option, None, Some, Err, inl, inr}
 use Rattle.std.proofs.Common.{⊎_elim}
-use Rattle.std.specs.List.{AllByRecursion, AllZip, flat_map}
+use Rattle.std.specs.List.{AllByRecursion, AllZip}
 use Rattle.std.specs.Option.{option_to_list}
 use Rattle.std.specs.declared.result.Result.{Result}
 use Rattle.std.proofs.Math.Seq.{drop-append_seam, take-append_seam}
@@ -12,7 +12,7 @@ use Rattle.lis_record_values.specs.declared.kinds.Kind.TheVariants as kinds
 use Rattle.lis_record_values.specs.declared.faults.MessageFault.{MessageFault}
 use Rattle.lis_record_values.specs.declared.faults.Reason.{Reason}
 use Rattle.lis_record_values.specs.declared.faults.Reason.TheVariants as reasons
-use Rattle.lis_record_values.specs.Delimiters.{DelimiterBytes, IsDelimiters}
+use Rattle.lis_record_values.specs.Delimiters.{DelimiterBytes}
 use Rattle.lis_record_values.specs.Relation.{IsRecord}
 use Rattle.lis_record_values.specs.Shape.{RecordContent}
 use Rattle.lis_record_values.specs.Text.{record_limit}
@@ -20,13 +20,13 @@ use Rattle.lis_record.specs.Borrowed.{Borrowed}
 use Rattle.lis_text.specs.Capped.{capped}
 use Rattle.lis_tree.specs.Begun.{Begun, level_of}
 use Rattle.lis_tree.specs.Level.{closed, kinds_of, misplaced, next_level, outside}
-use Rattle.lis_tree.specs.Tree.{MessageTree, IsTree, flatten}
+use Rattle.lis_tree.specs.Tree.{MessageTree, flatten}
 use Rattle.lis_tree.proofs.Levels.{allowed_more, level_more, map_append, next_unclosed}
 use Rattle.lis_message.specs.Feeding.{IsOutOfMemory, ReadsWhole, answer_at_end, next_place}
 use Rattle.lis_message.specs.Kept.{RecordsState}
-use Rattle.lis_message.specs.Records.{CantCome, HasLeft, IsRecordRefused, IsRecordRefusedFor, ReadsRecord}
+use Rattle.lis_message.specs.Records.{CantCome, IsRecordRefused, IsRecordRefusedFor, ReadsRecord}
 use Rattle.lis_message.specs.Stream.{AreBegun, AreLeft, AreMessage, IsRefused, IsRefusedText, IsSplit}
-use Rattle.lis_message.specs.Stream.{LacksReturn, count_of, ended}
+use Rattle.lis_message.specs.Stream.{count_of, ended}
 use Rattle.lis_message.specs.Taking.{ComesNext, Completes, begun_with, header, inner, left_after, records_of}
 use Rattle.lis_message.proofs.EveryStream.{completing}
 use Rattle.lis_message.proofs.Lines.{ended_snoc}

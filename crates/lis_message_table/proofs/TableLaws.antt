@@ -1,7 +1,7 @@
 -- What a message's table says of it: its records, and the bytes that the message is read from.
 use Rattle.std.proofs.Common.{◌≡◌, ◌≤◌, ◌<◌, ℕ, ◌+◌, ◌-◌, List, [], ◌∷◌, ◌++◌, length, map, take, drop, refl, sym, ◌∙◌, ap}
 use Rattle.std.proofs.Common.{subst, append_assoc, arith, length-append, Option, None, Some, false, inl, inr}
-use Rattle.std.specs.List.{AllByRecursion, AllZip, flat_map}
+use Rattle.std.specs.List.{AllByRecursion, AllZip}
 use Rattle.std.specs.Prelude.{MatchOption, is_some, option_map, slice_get, slice_index_or, suc, zero}
 use Rattle.std.proofs.Math.Seq.{take-append_seam}
 use Rattle.std.proofs.lemmas.List.{append-nil, drop-append-le, length-drop, length-map, take-append-le, take_all}
@@ -15,13 +15,12 @@ use Rattle.lis_record_read.specs.FrontReading.{fields_of}
 use Rattle.lis_record.specs.Borrowed.{Borrowed, front_length, record_in}
 use Rattle.lis_record.proofs.RecordTexts.{fields_of-AreFieldTexts}
 use Rattle.lis_table.specs.Entries.{Entry, entries_of, entry_at}
-use Rattle.lis_table.specs.Table.{table_of}
 use Rattle.lis_table.proofs.EntryLaws.{table_read}
 use Rattle.lis_tree.specs.Begun.{Begun}
 use Rattle.lis_tree.specs.Level.{kinds_of}
 use Rattle.lis_tree.specs.Tree.{MessageTree, flatten}
-use Rattle.lis_message.specs.Feeding.{EndsEarly, IsOutOfMemory, ReadsWhole}
-use Rattle.lis_message.specs.Stream.{AreMessage, IsRefused, IsSplit, ended}
+use Rattle.lis_message.specs.Feeding.{ReadsWhole}
+use Rattle.lis_message.specs.Stream.{AreMessage, IsSplit, ended}
 use Rattle.lis_message.proofs.Reading.{split_one}
 use Rattle.lis_message.proofs.Splits.{split_start}
 use Rattle.lis_message_table.specs.Table.{IsTableOf, IsWithin, Table, contents_of, entries_in, parts_at, record_at}

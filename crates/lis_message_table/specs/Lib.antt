@@ -1,3 +1,4 @@
 pub mod Parents
+pub mod Results
 pub mod Table
 pub mod inside

@@ -3,8 +3,10 @@
 ghost use Rattle.std.specs.Prelude.{◌≡◌, ◌∷◌, ◌++◌, ℕ, List, Option, map};
 ghost use Rattle.lis_record_values.specs.declared.faults.MessageFault.{MessageFault};
 ghost use Rattle.lis_table.specs.Entries.{entries_of};
+ghost use Rattle.lis_tree.specs.Results.{result_record, results_of};
 ghost use Rattle.lis_tree.specs.Tree.{MessageTree, flatten};
 ghost use Rattle.lis_message.specs.Feeding.{ReadsWhole};
+ghost use Rattle.lis_message_table.specs.Results.{results_in};
 ghost use Rattle.lis_message_table.specs.Table.{IsTableOf, Table, contents_of, entries_in};
 
 /// The records at the places of a message's table are those of its tree, in the same order, and so are the components
@@ -12,6 +14,12 @@ ghost use Rattle.lis_message_table.specs.Table.{IsTableOf, Table, contents_of, e
 pub fn read_as_tree()
     ensures records { (t : Table) (m : MessageTree) → IsTableOf t m → contents_of t ≡ flatten m }
     ensures components { (t : Table) (m : MessageTree) → IsTableOf t m → entries_in t ≡ map entries_of (flatten m) }
+{}
+
+/// The result records at the places of a message's table, each with the record that it is under and the one that this
+/// is under, are the results of its tree with their orders and patients, in the same order.
+pub fn results()
+    ensures { (t : Table) (m : MessageTree) → IsTableOf t m → results_in t ≡ map result_record (results_of m) }
 {}
 
 /// A table is that of one message at most. Where a text begins with its message, what reading the text gives is that

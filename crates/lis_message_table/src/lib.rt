@@ -13,5 +13,5 @@ pub use lis_message::{
 };
 pub use lis_table::LisPart;
 pub use lis_tree::{Finding, Findings};
-pub use places::RecordPlace;
+pub use places::{RecordPlace, ResultIndexes};
 pub use table::MessageTable;

@@ -1,4 +1,4 @@
-//! Where the records of a message are.
+//! Where the records of a message are, and which a result belongs to.
 
 use lis_record_values::Kind;
 
@@ -12,4 +12,15 @@ pub struct RecordPlace {
     pub len: u32,
     /// The index of the record that it is under, from 0 for the header. The header's is its own.
     pub parent: usize,
+}
+
+/// A result of a message, by the indexes of its record and of those that it belongs to.
+#[derive(Clone, Copy, Debug, PartialEq, Eq)]
+pub struct ResultIndexes {
+    /// The patient that its order belongs to.
+    pub patient: usize,
+    /// The order that it belongs to.
+    pub order: usize,
+    /// The result.
+    pub entry: usize,
 }

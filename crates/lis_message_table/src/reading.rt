@@ -3,7 +3,6 @@
 ghost use Rattle.std.specs.Prelude.{◌≡◌, ◌≢◌, ◌<◌, ◌≤◌, ◌∷◌, ◌++◌, [], ℕ, List, IfErr, IfOk, IsFalse, IsTrue, Option, None};
 ghost use Rattle.std.specs.Prelude.{Some, length, vec_capacity};
 ghost use Rattle.lis_record_values.specs.declared.kinds.Kind.TheVariants as kinds;
-ghost use Rattle.lis_record_values.specs.declared.faults.Reason.TheVariants as reasons;
 ghost use Rattle.lis_tree.specs.Begun.{Begun};
 ghost use Rattle.lis_message.specs.Feeding.{ReadsWhole};
 ghost use Rattle.lis_message.specs.Records.{HasLeft, IsRecordRefused};

@@ -1,21 +1,20 @@
 //! The table of a message's records (LIS02-A2).
 
-ghost use Rattle.std.specs.Prelude.{◌≡◌, ◌≤◌, ◌<◌, ◌∷◌, ◌++◌, [], IfErr, IfNone, IfOk, IfSome, OnOk, OnErr, Some, None};
+ghost use Rattle.std.specs.Prelude.{◌≡◌, ◌≤◌, ◌++◌, [], IfErr, IfNone, IfOk, IfSome, OnOk, OnErr, Some, None};
 ghost use Rattle.std.specs.Prelude.{drop, length, option_map, slice_get, take};
 ghost use Rattle.std.specs.Option.{option_copied, option_to_list};
-ghost use Rattle.lis_record_values.specs.Delimiters.{usual};
-ghost use Rattle.lis_record_values.specs.declared.faults.Reason.TheVariants as reasons;
 ghost use Rattle.lis_tree.specs.Findings.{findings_of};
 ghost use Rattle.lis_tree.specs.Tree.{MessageTree};
 ghost use Rattle.lis_message.specs.Feeding.{ReadsWhole};
+ghost use Rattle.lis_message_table.specs.Results.{parent_at, result_indexes};
 ghost use Rattle.lis_message_table.specs.Table.{BeginsWith, IsClear, IsTableOf, IsTextFault, IsWithin, parts_at};
 ghost use Rattle.lis_message_table.specs.Table.{record_at, text_at};
 
-use crate::places::RecordPlace;
+use crate::places::{RecordPlace, ResultIndexes};
 use crate::reading::read_records;
 use lis_message::{Fed, Message, read_messages};
 use lis_record::BorrowedRecord;
-use lis_record_values::{Delimiters, MessageFault};
+use lis_record_values::{Delimiters, Kind, MessageFault};
 use lis_table::{LisPart, put_places};
 use lis_tree::{Finding, Findings, Numbering};
 use std::alloc::{AllocError, Global};
@@ -210,6 +209,34 @@ impl<'a> MessageTable<'a> {
         };
         let text = self.text_of(place);
         Some(put_places(self.delimiters, place.kind, text, out))
+    }
+
+    /// The result whose record has this index, with the order and the patient that it belongs to; none where the record
+    /// of the index is no result.
+    pub fn result(&self, index: usize) -> Option<ResultIndexes>
+        ensures { result ≡ result_indexes self.now.places index }
+    {
+        let Some(place) = self.places.get(index) else {
+            return None;
+        };
+        if place.kind != Kind::R {
+            return None;
+        }
+        Some(ResultIndexes {
+            patient: self.parent(place.parent),
+            order: place.parent,
+            entry: index,
+        })
+    }
+
+    /// The index of the record that the record of an index is under; 0 where there is no such record.
+    fn parent(&self, index: usize) -> usize
+        ensures { result ≡ parent_at self.now.places index }
+    {
+        match self.places.get(index) {
+            Some(place) => place.parent,
+            None => 0,
+        }
     }
 
     /// The message as a tree; none where the table is that of no message.

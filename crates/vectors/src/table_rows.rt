@@ -3,7 +3,7 @@
 use crate::answer::Answer;
 use crate::encoding::{put_delimiters, put_record};
 use crate::message_parts::{put_fault, put_findings, put_read};
-use lis_message::{Fed, Kind, MessageFault};
+use lis_message::{Fed, Kind, Message, MessageFault};
 use lis_message_table::{MessageTable, RecordPlace};
 use std::mem::drop;
 
@@ -12,6 +12,7 @@ pub(crate) fn put_others(bytes: &[u8], fed: &Fed, answer: &mut Answer) {
     let mut trees = Answer::new(answer.alloc);
     for message in fed.messages.as_slice() {
         put_read(message, &mut trees);
+        put_results(message, &mut trees);
     }
     put_end(fed.fault, &mut trees);
     let mut tables = Answer::new(answer.alloc);
@@ -61,16 +62,48 @@ fn put_table(table: &MessageTable<'_>, answer: &mut Answer) {
     let mut head = 0;
     for (index, place) in places.iter().enumerate() {
         head = put_place(places, *place, index, head, answer);
-        if let Some(entry) = table.record(index) {
-            let made = entry.to_record(answer.alloc);
-            if let Some(record) = answer.made(made) {
-                put_record(&record, answer);
-                drop(record);
-            }
-        }
+        put_indexed(table, index, answer);
     }
     answer.text(" findings=");
     put_findings(table.findings(answer.alloc), answer);
+    put_table_results(table, answer);
+}
+
+/// Puts the record of an index.
+fn put_indexed(table: &MessageTable<'_>, index: usize, answer: &mut Answer) {
+    if let Some(entry) = table.record(index) {
+        let made = entry.to_record(answer.alloc);
+        if let Some(record) = answer.made(made) {
+            put_record(&record, answer);
+            drop(record);
+        }
+    }
+}
+
+/// Puts the results of a message, each after its patient and its order.
+fn put_results(message: &Message, answer: &mut Answer) {
+    for found in message.results() {
+        answer.word("patient=");
+        put_record(found.patient.head(), answer);
+        answer.word("order=");
+        put_record(found.order.head(), answer);
+        answer.word("result=");
+        put_record(found.entry.head(), answer);
+    }
+}
+
+/// Puts those of a table.
+fn put_table_results(table: &MessageTable<'_>, answer: &mut Answer) {
+    for index in 0..table.places().len() {
+        if let Some(found) = table.result(index) {
+            answer.word("patient=");
+            put_indexed(table, found.patient, answer);
+            answer.word("order=");
+            put_indexed(table, found.order, answer);
+            answer.word("result=");
+            put_indexed(table, found.entry, answer);
+        }
+    }
 }
 
 /// Puts what comes before a record, and answers the index of the last record that is no note: `*` before a note, and

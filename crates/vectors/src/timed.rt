@@ -107,7 +107,7 @@ pub(crate) fn make_calls(rt: &HostRuntime, asked: Option<Asked>) -> ExitCode {
         Some(Asked::Rows) | None => {
             // If it can't be printed, the status still says it.
             let _ = eprintln!(rt;
-                "usage: vectors [bytes | station | messages | again ROUNDS | tables ROUNDS | parts ROUNDS | play ROUNDS]"
+                "usage: vectors [bytes | station | messages | again N | tables N | parts N | play N]"
             );
             ExitCode::from(2)
         }
@@ -240,19 +240,27 @@ fn tables_of<'a>(
             Ok(None) => return Some(messages),
             Err(_) => return None,
         }
-        if !parts.is_empty() {
-            find_parts(table, parts);
+        if !parts.is_empty() && size_of_parts(table, parts)? > bytes.len() as u64 {
+            return None;
         }
         messages = messages.saturating_add(1);
     }
     None
 }
 
-/// Finds all components of each record.
-fn find_parts(table: &MessageTable<'_>, parts: &mut [LisPart]) {
+/// How many bytes all components of a message have; none where a record has more of them than the list has room for.
+fn size_of_parts(table: &MessageTable<'_>, parts: &mut [LisPart]) -> Option<u64> {
+    let mut size = 0u64;
     for index in 0..table.places().len() {
-        let _count = table.put_parts(index, parts);
+        let count = table.put_parts(index, parts)?;
+        if count > parts.len() {
+            return None;
+        }
+        for part in &parts[..count] {
+            size = size.saturating_add(u64::from(part.len));
+        }
     }
+    Some(size)
 }
 
 /// The number of frames that were accepted in all rounds; none if memory runs out.

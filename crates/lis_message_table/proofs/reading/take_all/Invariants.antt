@@ -1,5 +1,5 @@
 -- The records so far are read, and memory for no fewer places is there.
-use Rattle.std.proofs.Common.{◌≡◌, ◌≤◌, length, vec_capacity}
+use Rattle.std.proofs.Common.{◌≤◌, length, vec_capacity}
 use Rattle.lis_message_table.specs.inside.Reading.{IsReading}
 use Rattle.lis_message_table.proofs.reading.take_all.Given as goal
 

@@ -7,8 +7,7 @@ use Rattle.lis_message_table.proofs.ReadingLaws.{reads_all, reads_on, starved_wh
 use Rattle.lis_message_table.specs.declared.above.Above.{Above}
 use Rattle.lis_message_table.specs.declared.places.RecordPlace.{RecordPlace}
 use Rattle.lis_message_table.specs.inside.Above.{above_after}
-use Rattle.lis_message_table.specs.inside.Reading.{HasRead, IsReading, StopsAt}
-use Rattle.lis_message_table.specs.Table.{IsTextFault}
+use Rattle.lis_message_table.specs.inside.Reading.{HasRead, IsReading}
 use Rattle.lis_message_table.proofs.reading.take_next.Goals as goal
 
 pub returns-in_default-clause-memory : goal.returns-in_default-clause-memory

@@ -1,7 +1,6 @@
 -- A record more is numbered (next_content); at the end they are all of the message's (contents).
-use Rattle.std.proofs.Common.{◌≡◌, ◌≤◌, ◌+◌, ◌∙◌, ◌∷◌, ◌++◌, [], List, ap, arith, length, subst, sym, take}
+use Rattle.std.proofs.Common.{◌≤◌, ◌∙◌, ◌++◌, [], List, ap, arith, length, subst, sym, take}
 use Rattle.std.specs.Option.{option_to_list}
-use Rattle.lis_record_values.specs.Shape.{RecordContent}
 use Rattle.lis_tree.specs.Findings.{HasNumbered, findings_from}
 use Rattle.lis_tree.specs.declared.numbering.Finding.{Finding}
 use Rattle.lis_message_table.specs.Table.{Table, contents_of}
