@@ -36,7 +36,7 @@ above_more a i (x ∷ records) r =
 
 -- ---- the parts of a tree
 
--- a note is under the last record that is none, and leaves what is above the next one
+-- a note is under the last record that is no note, and leaves what is above the next one
 note_step : (a : Above) (i : ℕ) (k : Kind) → IsNote k → (parent_of a k ≡ a.head) × (above_after a i k ≡ a)
 note_step a i kinds.C note = (refl, refl)
 note_step a i kinds.M note = (refl, refl)

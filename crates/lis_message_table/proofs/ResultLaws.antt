@@ -1,4 +1,4 @@
--- The results that a table's parents tell are the result records of the message, each under the last order and the last
+-- The results by the parents of a table are the result records of the message, each under the last order and the last
 -- patient before it.
 use Rattle.std.proofs.Common.{◌≡◌, ℕ, ◌+◌, List, [], ◌∷◌, ◌++◌, length, map, refl, sym, ◌∙◌, ap, subst, append_assoc}
 use Rattle.std.proofs.Common.{arith, Option, None, Some, length-append}
