@@ -143,6 +143,26 @@ def of_trees(found):
     heads = ["input", "instructions a byte", "places", "Vecs", "heap bytes a byte", "places", "Vecs"]
     yield from table(heads, [[row.name, *three(row.instructions, 1), *three(row.heap, 1)] for row in found.trees])
     yield ""
+    yield from of_tables(found)
+
+
+def of_tables(found):
+    """The table of messages where they are."""
+    def two(known, digits=0):
+        return [number(known.get(way), digits) for way in ("tables", "parts")]
+
+    def times(row, way):
+        it = row.tables.get(way)
+        return f"{it.middle:.2f} ({it.low:.2f} to {it.high:.2f})" if it else NONE
+    yield from ["### Messages where they are", ""]
+    yield ("One `MessageTable` that reads the messages again and again, and with all components of each record "
+           "(`put_parts`); times the peer's places, which copy the text and find the ends of all fields.")
+    yield ""
+    heads = ["input", "MB/s", "components", "times places", "components", "instructions a byte", "components",
+             "bytes of table a byte"]
+    yield from table(heads, [[row.name, *two(row.again), times(row, "tables"), times(row, "parts"),
+                              *two(row.instructions, 1), number(row.size, 2)] for row in found.trees])
+    yield ""
 
 
 def of_calls(found):

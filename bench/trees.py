@@ -1,5 +1,6 @@
 """Measures messages as trees: those of the crates (crates/vectors), and two of the independent program, one of Vecs of
-Vecs and one of places in one buffer (peer/vecs.rs, peer/places.rs).
+Vecs and one of places in one buffer (peer/vecs.rs, peer/places.rs). Next to them messages as tables of places in their
+text (lis_message_table), without and with all components of each record.
 
 All trees are compared first, symbol by symbol. Then some messages are read again and again, each time with the memory
 of the time before, as a program does that drops each message; and a text is read once, all of whose messages are kept.
@@ -19,7 +20,10 @@ import programs
 # Bytes of the messages that are read again and again, of a text whose messages are kept, of one whose heap is counted.
 FEW, KEPT, HEAP = 8_000, 8_000_000, 600_000
 
-Row = namedtuple("Row", "name again ratios kept instructions heap")
+# Bytes of a record's place in a table.
+PLACE = 24
+
+Row = namedtuple("Row", "name again ratios tables kept instructions heap size")
 
 
 def ways(vectors, peer):
@@ -27,6 +31,12 @@ def ways(vectors, peer):
     return {"ours": lambda rounds: [vectors, "again", str(rounds)],
             "places": lambda rounds: [peer, "trees", "places", str(rounds)],
             "vecs": lambda rounds: [peer, "trees", "vecs", str(rounds)]}
+
+
+def tables(vectors):
+    """The words that read a text so many times into one table, and then all components of each record too."""
+    return {"tables": lambda rounds: [vectors, "tables", str(rounds)],
+            "parts": lambda rounds: [vectors, "parts", str(rounds)]}
 
 
 def messages_of(block, size):
@@ -81,14 +91,16 @@ def seconds(words, path, answer):
 
 
 def speeds(work, known, text, readings, rounds):
-    """MB/s of each way, medians; and the spread of how many times the speed of each other way the first makes."""
+    """MB/s of each way, medians; the spread of how many times the speed of each other way ours makes; and of how many
+    times the speed of places each way makes."""
     path = os.path.join(work, "text")
     with open(path, "wb") as file:
         file.write(text)
     answer = readings * text.count(b"\rL|")
     times = [{way: seconds(words(readings), path, answer) for way, words in known.items()} for _ in range(rounds)]
     made = {way: readings * len(text) / 1e6 / statistics.median(one[way] for one in times) for way in known}
-    return made, {way: measured.spread([one[way] / one["ours"] for one in times]) for way in known}
+    return (made, {way: measured.spread([one[way] / one["ours"] for one in times]) for way in known},
+            {way: measured.spread([one["places"] / one[way] for one in times]) for way in known})
 
 
 def small():
@@ -111,13 +123,16 @@ def heap_a_byte(words, made):
 def rows(work, vectors, peer, all_inputs, asked):
     """A row for each input."""
     known, counted = ways(vectors, peer), small()
+    both = {**known, **tables(vectors)}
     for made in all_inputs:
-        again, ratios, kept, instructions, heap = {}, {}, {}, {}, {}
+        again, ratios, of_places, kept, instructions, heap = {}, {}, {}, {}, {}, {}
+        few = messages_of(made.block, FEW)
         if asked.rounds:
-            few = messages_of(made.block, FEW)
-            again, ratios = speeds(work, known, few, int(asked.size * 1e6 / 3 / len(few)), asked.rounds)
-            kept, _ = speeds(work, known, messages_of(made.block, KEPT), 1, min(asked.rounds, 5))
+            readings = int(asked.size * 1e6 / 3 / len(few))
+            again, ratios, of_places = speeds(work, both, few, readings, asked.rounds)
+            kept, _, _ = speeds(work, known, messages_of(made.block, KEPT), 1, min(asked.rounds, 5))
         if asked.counts:
-            instructions = {way: instructions_a_byte(words, counted[made.name]) for way, words in known.items()}
+            instructions = {way: instructions_a_byte(words, counted[made.name]) for way, words in both.items()}
             heap = {way: heap_a_byte(words, made) for way, words in known.items()}
-        yield Row(made.name, again, ratios, kept, instructions, heap)
+        size = PLACE * few.count(b"\r") / len(few)
+        yield Row(made.name, again, ratios, of_places, kept, instructions, heap, size)

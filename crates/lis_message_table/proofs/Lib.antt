@@ -1,3 +1,4 @@
+pub mod OneWay
 pub mod ParentLaws
 pub mod ReadingLaws
 pub mod ResultLaws

@@ -94,12 +94,12 @@ left_more left texts text entry are (inner b l d is placed) other =
     })
 
 -- the message that a closing record completes
-pub record Closes (left : Option Begun) (texts : List (List ℕ)) (text : List ℕ) (entry : Borrowed RecordContent) : Type 0
-  where
-    pub message : MessageTree
-    pub are : AreMessage (texts ++ text ∷ []) message
-    pub delimiters : entry.delimiters ≡ message.delimiters
-    pub records : flatten message ≡ records_of left ++ entry.content ∷ []
+pub record Closes (left : Option Begun) (texts : List (List ℕ)) (text : List ℕ)
+    (entry : Borrowed RecordContent) : Type 0 where
+  pub message : MessageTree
+  pub are : AreMessage (texts ++ text ∷ []) message
+  pub delimiters : entry.delimiters ≡ message.delimiters
+  pub records : flatten message ≡ records_of left ++ entry.content ∷ []
 
 closes_with : (left : Option Begun) (texts : List (List ℕ)) (text : List ℕ) (entry : Borrowed RecordContent)
     (found : Option MessageTree) → AreLeft texts left → ComesNext left text entry → entry.content.kind ≡ kinds.L

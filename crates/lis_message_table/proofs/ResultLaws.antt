@@ -1,10 +1,9 @@
 -- The results by the parents of a table are the result records of the message, each under the last order and the last
 -- patient before it.
-use Rattle.std.proofs.Common.{◌≡◌, ℕ, ◌+◌, List, [], ◌∷◌, ◌++◌, length, map, refl, sym, ◌∙◌, ap, subst, append_assoc}
+use Rattle.std.proofs.Common.{◌≡◌, ℕ, ◌+◌, List, [], ◌∷◌, ◌++◌, length, map, refl, sym, ◌∙◌, ap, append_assoc}
 use Rattle.std.proofs.Common.{arith, Option, None, Some, length-append}
 use Rattle.std.specs.List.{flat_map}
 use Rattle.std.specs.Prelude.{slice_get, slice_index, ⊤}
-use Rattle.std.proofs.lemmas.List.{append-nil}
 use Rattle.lis_record_values.specs.declared.kinds.Kind.{Kind}
 use Rattle.lis_record_values.specs.declared.kinds.Kind.TheVariants as kinds
 use Rattle.lis_record_values.specs.Shape.{RecordContent}
@@ -12,7 +11,7 @@ use Rattle.lis_tree.specs.Level.{AllowedFrom, Level, closed, in_header, in_order
 use Rattle.lis_tree.specs.Level.{misplaced, next_level, outside}
 use Rattle.lis_tree.specs.Results.{ResultRecord, listed_results, order_after, patient_after, result_record}
 use Rattle.lis_tree.specs.Results.{results_among, results_of}
-use Rattle.lis_tree.specs.Tree.{MessageTree, IsTree, flatten}
+use Rattle.lis_tree.specs.Tree.{MessageTree, flatten}
 use Rattle.lis_tree.proofs.ListFaults.{tree_kinds}
 use Rattle.lis_tree.proofs.ResultLaws.{results_are_listed}
 use Rattle.lis_message_table.proofs.ParentLaws.{above_more, parents_are}

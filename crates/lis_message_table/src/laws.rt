@@ -1,7 +1,8 @@
 //! What holds of tables and messages, over the definitions that the contracts cite.
 
-ghost use Rattle.std.specs.Prelude.{◌≡◌, ◌∷◌, ◌++◌, ℕ, List, Option, map};
+ghost use Rattle.std.specs.Prelude.{◌≡◌, ◌≢◌, ◌∷◌, ◌++◌, ℕ, IfSome, List, Option, map};
 ghost use Rattle.lis_record_values.specs.declared.faults.MessageFault.{MessageFault};
+ghost use Rattle.lis_record_values.specs.declared.faults.Reason.TheVariants as reasons;
 ghost use Rattle.lis_table.specs.Entries.{entries_of};
 ghost use Rattle.lis_tree.specs.Results.{result_record, results_of};
 ghost use Rattle.lis_tree.specs.Tree.{MessageTree, flatten};
@@ -20,6 +21,14 @@ pub fn read_as_tree()
 /// is under, are the results of its tree with their orders and patients, in the same order.
 pub fn results()
     ensures { (t : Table) (m : MessageTree) → IsTableOf t m → results_in t ≡ map result_record (results_of m) }
+{}
+
+/// A text is read in one way, unless memory runs out: the messages and the fault are the same, whether trees or tables
+/// are made of it.
+pub fn read_in_one_way()
+    ensures { (text : List ℕ) (ms ns : List MessageTree) (f g : Option MessageFault)
+        → ReadsWhole text ms f → ReadsWhole text ns g → IfSome f (λ x. x.reason ≢ reasons.OutOfMemory)
+        → IfSome g (λ x. x.reason ≢ reasons.OutOfMemory) → (ms ≡ ns) × (f ≡ g) }
 {}
 
 /// A table is that of one message at most. Where a text begins with its message, what reading the text gives is that

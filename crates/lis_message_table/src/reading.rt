@@ -1,7 +1,7 @@
 //! Reading the records of a message one after another, and where they are (LIS02-A2).
 
-ghost use Rattle.std.specs.Prelude.{◌≡◌, ◌≢◌, ◌<◌, ◌≤◌, ◌∷◌, ◌++◌, [], ℕ, List, IfErr, IfOk, IsFalse, IsTrue, Option, None};
-ghost use Rattle.std.specs.Prelude.{Some, length, vec_capacity};
+ghost use Rattle.std.specs.Prelude.{◌≡◌, ◌≢◌, ◌<◌, ◌≤◌, ◌∷◌, ◌++◌, [], ℕ, List, IfErr, IfOk, IsFalse, IsTrue};
+ghost use Rattle.std.specs.Prelude.{None, Option, Some, length, vec_capacity};
 ghost use Rattle.lis_record_values.specs.declared.kinds.Kind.TheVariants as kinds;
 ghost use Rattle.lis_tree.specs.Begun.{Begun};
 ghost use Rattle.lis_message.specs.Feeding.{ReadsWhole};
@@ -100,8 +100,8 @@ fn take_next<'a>(
     }
 }
 
-/// Reads the message that a text begins with, by a reader that has read nothing, and puts the places of its records into
-/// an empty list; answers its delimiters and the bytes after it.
+/// Reads the message that a text begins with, by a reader that has read nothing, and puts the places of its records
+/// into an empty list; answers its delimiters and the bytes after it.
 fn take_all<'a>(
     records: &mut RecordReader,
     places: &mut Vec<RecordPlace>,
