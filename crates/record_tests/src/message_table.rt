@@ -1,7 +1,7 @@
 //! What no contract says: the table of a message that was worked by hand, and one table that is read again and again,
 //! from other texts too.
 
-use lis_message_table::{LisPart, Message, MessageFault, MessageTable, Reason};
+use lis_message_table::{LisPart, Message, MessageFault, MessageTable, Reason, ResultIndexes};
 use std::alloc::Global;
 use std::mem::drop;
 use std::process::Abort;
@@ -33,6 +33,22 @@ fn records_are_under_those_they_belong_to(rt: HostRuntime) {
         assert!(rt; place.parent == parent);
     }
     assert!(rt; table.text(4) == Some(b"R|1|^^^GLU|5.4") && table.text(14).is_none());
+    drop(table);
+}
+
+#[test]
+fn a_result_has_its_order_and_its_patient(rt: HostRuntime) {
+    let mut table = MessageTable::new(rt.alloc());
+    assert!(rt; table.read(PANEL).is_ok());
+    assert!(rt;
+        table.result(11)
+            == Some(ResultIndexes {
+                patient: 8,
+                order: 10,
+                entry: 11
+            })
+    );
+    assert!(rt; table.result(3).is_none() && table.result(14).is_none());
     drop(table);
 }
 
