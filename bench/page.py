@@ -86,10 +86,10 @@ def cells(row):
 
 def of_commands(found):
     """The table of commands, and how many rows make what is wanted."""
-    heads = ["command", "input", "MB/s", "peer's", "times the peer", "middle half", "times the tuned", "KiB resident", "its own",
-             "instructions a byte", "peer's"]
+    heads = ["command", "input", "MB/s", "peer's", "times the peer", "middle half", "times the tuned", "KiB resident",
+             "its own", "instructions a byte", "peer's"]
     yield from ["### Commands", "", *table(heads, map(cells, found.rows)), ""]
-    for of, wanted, whose in (("peer", WANTED, "the peer's"), ("tuned", WANTED_OF_TUNED, "the tuned peer's")):
+    for of, wanted, whose in (("peer", WANTED, "the peer's"), ("tuned", WANTED_OF_TUNED, "the tuned program's")):
         ratios = [(ratio_of(row, of).middle, row) for row in found.rows if ratio_of(row, of)]
         if ratios:
             least, row = min(ratios, key=lambda pair: pair[0])
@@ -100,12 +100,12 @@ def of_commands(found):
 
 
 def of_limits(found):
-    """What the bare loops make, and what AVX2 does."""
+    """What the bare loops make, and what the tuned program does."""
     rows = [row for row in found.rows if ratio_of(row, "bare")]
     if rows:
         yield from ["### Bare loops", "", "Times the peer, of the rows that the peer has a bare loop for:", ""]
         of = [["peer", "ours"], ["peer", "bare"], ["peer", "tuned"], ["bare", "ours"]]
-        yield from table(["command", "input", "`lislink`", "bare loop", "tuned peer", "`lislink`, times the bare loop"],
+        yield from table(["command", "input", "`lislink`", "bare loop", "tuned", "`lislink`, times the bare loop"],
                          [[f"`{row.command}`", row.made.name, *(f"{it.middle:.2f}" if it else NONE
                                                                 for it in (ratio_of(row, *two) for two in of))]
                           for row in rows])

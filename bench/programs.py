@@ -1,4 +1,5 @@
-"""The programs that are measured: lislink, the calls of the crates (crates/vectors), and the independent program."""
+"""The programs that are measured: lislink, the calls of the crates (crates/vectors), and two independent programs: the
+peer, which is plain and safe, and the tuned one, which is made for vectors."""
 import hashlib
 import os
 import subprocess
@@ -6,10 +7,11 @@ import subprocess
 HERE = os.path.dirname(os.path.abspath(__file__))
 ROOT = os.path.dirname(HERE)
 # The instructions that the kit's compiler may use, so that all programs have the same.
-RUSTC = ["rustc", "--edition", "2024", "-O", "-C", "codegen-units=1", "-C", "panic=abort", "--check-cfg", "cfg(tuned)"]
+RUSTC = ["rustc", "--edition", "2024", "-O", "-C", "codegen-units=1", "-C", "panic=abort"]
 SAME = ["-C", "target-cpu=x86-64-v2"]
-# Those of newer processors, which the tuned peer has.
-NEWER = ["-C", "target-cpu=x86-64-v3", "--cfg", "tuned"]
+# Those of newer processors, which the tuned program has, and some of them by the names that Linux gives them.
+NEWER = ["-C", "target-cpu=x86-64-v3"]
+NEEDED = {"avx2", "bmi1", "bmi2", "fma", "movbe", "abm"}
 
 
 def proved(name):
@@ -30,7 +32,7 @@ def vectors():
 
 def compiled(work, name, options):
     program = os.path.join(work, name)
-    subprocess.run([*RUSTC, *options, "-o", program, os.path.join(HERE, "peer/main.rs")], check=True)
+    subprocess.run([*RUSTC, *options, "-o", program, os.path.join(HERE, name, "main.rs")], check=True)
     return program
 
 
@@ -40,10 +42,10 @@ def peer(work):
 
 
 def tuned(work):
-    """The same with loops for AVX2 by hand, compiled; none on a processor that has no AVX2."""
+    """The tuned program, compiled; none on a processor that can't run it."""
     with open("/proc/cpuinfo", encoding="ascii", errors="replace") as lines:
-        has_avx2 = any(line.startswith("flags") and " avx2 " in line for line in lines)
-    return compiled(work, "tuned", NEWER) if has_avx2 else None
+        flags = next((set(line.split()) for line in lines if line.startswith("flags")), set())
+    return compiled(work, "tuned", NEWER) if NEEDED <= flags else None
 
 
 def printed_by(*words):

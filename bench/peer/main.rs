@@ -4,7 +4,6 @@
 //! next one.
 
 mod bare;
-#[cfg_attr(tuned, path = "tuned.rs")]
 mod bytes;
 mod capture;
 mod link;
