@@ -28,14 +28,25 @@ def spread(values):
     return Spread(*statistics.quantiles(values, n=4, method="inclusive"))
 
 
-def timed(words, path):
-    """Seconds from the start of a process to its end. It reads the file and prints to /dev/null."""
+def started(words, path):
+    """A process that reads the file and prints to /dev/null."""
     files = [(os.POSIX_SPAWN_OPEN, 0, path, os.O_RDONLY, 0), (os.POSIX_SPAWN_OPEN, 1, os.devnull, os.O_WRONLY, 0),
              (os.POSIX_SPAWN_OPEN, 2, os.devnull, os.O_WRONLY, 0)]
+    return os.posix_spawn(words[0], words, os.environ, file_actions=files)
+
+
+def timed(words, path):
+    """Seconds from the start of a process to its end."""
     start = time.perf_counter()
-    process = os.posix_spawn(words[0], words, os.environ, file_actions=files)
-    os.waitpid(process, 0)
+    os.waitpid(started(words, path), 0)
     return time.perf_counter() - start
+
+
+def processor_time(words, path):
+    """Seconds that the processor spent on a process, in the program and in the system for it. What else the machine
+    does changes it less than the time from start to end."""
+    used = os.wait4(started(words, path), 0)[2]
+    return used.ru_utime + used.ru_stime
 
 
 def memory(words, made, size):

@@ -30,22 +30,27 @@ def vectors():
     return proved("vectors")
 
 
-def compiled(work, name, options):
+def compiled(work, name, source, options):
     program = os.path.join(work, name)
-    subprocess.run([*RUSTC, *options, "-o", program, os.path.join(HERE, name, "main.rs")], check=True)
+    subprocess.run([*RUSTC, *options, "-o", program, os.path.join(HERE, source, "main.rs")], check=True)
     return program
 
 
 def peer(work):
     """The independent program, compiled."""
-    return compiled(work, "peer", SAME)
+    return compiled(work, "peer", "peer", SAME)
+
+
+def tuned_same(work):
+    """The tuned program with the instructions that all others have."""
+    return compiled(work, "tuned-v2", "tuned", SAME)
 
 
 def tuned(work):
-    """The tuned program, compiled; none on a processor that can't run it."""
+    """The tuned program with those of newer processors; none on a processor that hasn't got them."""
     with open("/proc/cpuinfo", encoding="ascii", errors="replace") as lines:
         flags = next((set(line.split()) for line in lines if line.startswith("flags")), set())
-    return compiled(work, "tuned", NEWER) if NEEDED <= flags else None
+    return compiled(work, "tuned", "tuned", NEWER) if NEEDED <= flags else None
 
 
 def printed_by(*words):

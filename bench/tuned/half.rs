@@ -1,10 +1,7 @@
-//! A vector of AVX2: 32 bytes, each by itself. The program is compiled for processors that have AVX2 (`half.rs` is not
-//! compiled for others), so each instruction by itself is sound; loads and stores say what they need.
+//! A vector of AVX2: 32 bytes, each by itself. This is compiled for processors that have AVX2 alone, so each
+//! instruction by itself is sound; loads and stores say what they need.
 
 use std::arch::x86_64::*;
-
-#[cfg(not(all(target_feature = "avx2", target_feature = "bmi2")))]
-compile_error!("the tuned program is for x86-64-v3");
 
 #[derive(Clone, Copy)]
 pub struct Half(__m256i);

@@ -7,6 +7,7 @@
 
 mod capture;
 mod check;
+#[cfg_attr(not(target_feature = "avx2"), path = "half_v2.rs")]
 mod half;
 mod link;
 mod numbers;

@@ -21,11 +21,16 @@ COMMANDS = {"link": ["show", "show --long"], "records": ["check", "results"],
 #: Two frames of a text, and the inputs each of whose bits is turned.
 FRAMES = inputs.frame(1, b"H|\r", inputs.ETB), inputs.frame(2, b"L|1\r", inputs.ETX)
 SMALL = {"show": b"\x05%s%s\x04" % FRAMES,
-         "replay": b"> 05\n< 06\n> %s\n> 0d0a\n< 06\n> %s\n< 06\n> 04\n" % (
-             FRAMES[0][:-2].hex().encode(), FRAMES[1].hex().upper().encode()),
+         "replay": b"> 05\n< 06\n> %s\n> %s\n< 06\n> %s\n< 06\n> 04\n" % (
+             FRAMES[0][:4].hex().encode(), FRAMES[0][4:].hex().encode(), FRAMES[1].hex().upper().encode()),
          "upgrade": b"T\n> 05\n< 06\n> %s\n< 1506\n" % FRAMES[0].hex().upper().encode(),
          "check": b"H|\\^&|\rP|1\rO|1|a\rR|1|^b|2\rC|1\rL|1|N\r",
          "results": b"H|\\^&|\rP|1\rO|1|a&F&\rR|1|^b|2|&X0d&|||N|F|\rL|1|N\r"}
+#: What is at a limit, or one more.
+LIMITS = [("check", b"H|\\^&\rL\r1|\r"), ("upgrade", b"> 0\n"), ("upgrade", b"T\n> 050\n"), ("replay", b"> 05\n> 0\n"),
+          *(("results", b"H|\\^&\rP|%s\rL|1\r" % bytes(65534 + more).replace(b"\0", b"x")) for more in (0, 1)),
+          *(("upgrade", b"T\n> %s%s\n" % (b"aB" * 2047, end)) for end in (b"", b"\r", b"\r\r", b"aB")),
+          *(("texts --long", b"> 05\n> %s\n> 02\n" % (b"41" * count)) for count in (2047, 2048))]
 LINES = (b"", b"T", b"R", b"S busy", b"S ready", b"S contending", b"> 05", b"> 04", b"< 06", b"< 15", b"> 02", b"> 0a",
          b"> 0502", b"< 0606", b"> 02310303340d0a", b"> 0231033334")
 MARKS = (b"\x02", b"\x03", b"\x04", b"\x05", b"\n", b"\r", b"\x17", b"\x00", b"\x07", b"\x7f", b"\xff", b"|", b"&",
@@ -83,6 +88,8 @@ def answers():
             change = damaged_capture if command.split()[0] in ("replay", "texts", "upgrade") else damaged
             for number in range(DAMAGED):
                 yield f"{made.name}, damaged {number}", command, change(rng, data), None
+    for number, (command, data) in enumerate(LIMITS):
+        yield f"limit {number}", command, data, None
     for command, data in SMALL.items():
         for place in range(8 * len(data)):
             turned = bytearray(data)
@@ -127,3 +134,6 @@ class Peers(kit.Test):
 
     def test_tuned(self):
         self.compare(programs.tuned, "the tuned program")
+
+    def test_tuned_same(self):
+        self.compare(programs.tuned_same, "the tuned program for x86-64-v2")
