@@ -97,13 +97,14 @@ fn a_table_is_that_of_the_message_that_was_read_last(rt: HostRuntime) {
 }
 
 /// Whether reading a text ends with this fault, and leaves no message.
-fn is_refused(
-    table: &mut MessageTable<'_>,
-    text: &'static [u8],
+fn is_refused<'a>(
+    table: &mut MessageTable<'a>,
+    text: &'a [u8],
     place: u64,
     reason: Reason,
 ) -> bool {
-    table.read(text) == Err(MessageFault { place, reason }) && table.places().is_empty()
+    let result = table.read(text);
+    result == Err(MessageFault { place, reason }) && table.places().is_empty()
 }
 
 #[test]
