@@ -56,7 +56,7 @@ unsafe fn spell(record: Record, start: usize, end: usize, mut to: *mut u8) -> *m
             continue;
         }
         // SAFETY: a byte becomes three at most: a lone one three, two digits five.
-        unsafe { to = copy(bytes.part(copied, found).as_ptr(), found - copied, to) };
+        unsafe { to = copy(bytes.from(copied, found - copied), found - copied, to) };
         copied = place;
         let mut put = |spelled: &[u8]| unsafe {
             spelled.iter().enumerate().for_each(|(place, byte)| to.add(place).write(*byte));
@@ -72,7 +72,7 @@ unsafe fn spell(record: Record, start: usize, end: usize, mut to: *mut u8) -> *m
         }
     }
     // SAFETY: as above.
-    unsafe { copy(bytes.part(copied, end).as_ptr(), end - copied, to) }
+    unsafe { copy(bytes.from(copied, end - copied), end - copied, to) }
 }
 
 impl Results {
@@ -89,7 +89,7 @@ impl Results {
     fn put_short(&self, record: Record, [from, to, nine, end]: [usize; 4], output: &mut Output) {
         let escapes = record.bytes.window(record.start).equal(record.escape);
         let place = output.room(self.length + 3 * WIDE + 3 * WIDE);
-        let at = |place: usize| record.bytes.part(record.start + place, record.start + place + WIDE).as_ptr();
+        let at = |place: usize| record.bytes.from(record.start + place, 0);
         // SAFETY: the room is for the order's field, and for three times 64 bytes, and more behind them. The places
         // are in the record, behind whose bytes there are more than 64.
         unsafe {

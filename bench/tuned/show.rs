@@ -133,7 +133,7 @@ fn put_frame(bytes: Padded, start: usize, frame: Frame, output: &mut Output) {
         let mut place = numbers::write(frame.length as u64, place.add(size));
         if frame.length > 0 {
             place.write(b' ');
-            write_digits(bytes.part(start, start + frame.length).as_ptr(), frame.length, place.add(1));
+            write_digits(bytes.from(start, frame.length), frame.length, place.add(1));
             place = place.add(1 + 2 * frame.length);
         }
         place.write(b'\n');

@@ -34,10 +34,10 @@ impl<'a> Padded<'a> {
         &self.0[start..end]
     }
 
-    /// A place of which a window can be loaded.
+    /// A place from which so many bytes, and 64 more, can be read.
     #[inline(always)]
-    fn from(self, place: usize) -> *const u8 {
-        assert!(place <= self.0.len() - WIDE);
+    pub fn from(self, place: usize, count: usize) -> *const u8 {
+        assert!(count <= self.0.len() - WIDE && place <= self.0.len() - WIDE - count);
         // SAFETY: the place is in the slice.
         unsafe { self.0.as_ptr().add(place) }
     }
@@ -45,21 +45,21 @@ impl<'a> Padded<'a> {
     #[inline(always)]
     pub fn window(self, place: usize) -> Window {
         // SAFETY: 64 bytes are there.
-        unsafe { Window::load(self.from(place)) }
+        unsafe { Window::load(self.from(place, 0)) }
     }
 
     /// Four bytes, the first of them lowest.
     #[inline(always)]
     pub fn four(self, place: usize) -> u32 {
         // SAFETY: 64 bytes are there.
-        unsafe { self.from(place).cast::<u32>().read_unaligned() }
+        unsafe { self.from(place, 0).cast::<u32>().read_unaligned() }
     }
 
     /// Eight bytes, the first of them lowest.
     #[inline(always)]
     pub fn eight(self, place: usize) -> u64 {
         // SAFETY: 64 bytes are there.
-        unsafe { self.from(place).cast::<u64>().read_unaligned() }
+        unsafe { self.from(place, 0).cast::<u64>().read_unaligned() }
     }
 
     /// The place of the first of these bytes from one place to another.
