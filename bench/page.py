@@ -77,11 +77,11 @@ def cells(row):
     if ratio:
         speeds = [row.size / 1e6 / statistics.median(one[who] for one in row.times) for who in ("ours", "peer")]
     resident, own = row.kibibytes
-    ours, peers = row.instructions or (None, None)
+    counts = row.instructions or {}
     return [f"`{row.command}`", row.made.name, number(speeds[0]), number(speeds[1]),
             f"{ratio.middle:.2f}" if ratio else NONE, f"{ratio.low:.2f} to {ratio.high:.2f}" if ratio else NONE,
             f"{tuned.middle:.2f}" if tuned else NONE,
-            number(resident), number(own), number(ours, 2), number(peers, 2)]
+            number(resident), number(own), number(counts.get("ours"), 2), number(counts.get("peer"), 2)]
 
 
 def of_commands(found):
@@ -101,17 +101,19 @@ def of_commands(found):
 
 def of_limits(found):
     """What the bare loops make, and the tuned program with and without newer instructions."""
-    rows = [row for row in found.rows if ratio_of(row, "same")]
-    if rows:
-        yield from ["### What other code makes", "",
-                    "Times the peer; and what `lislink` makes of the tuned program for x86-64-v2, its own level:", ""]
-        of = [["peer", "ours"], ["peer", "bare"], ["peer", "same"], ["peer", "tuned"], ["same", "ours"]]
-        yield from table(["command", "input", "`lislink`", "bare loop", "tuned for v2", "tuned for v3",
-                          "`lislink`, times the tuned for v2"],
-                         [[f"`{row.command}`", row.made.name, *(f"{it.middle:.2f}" if it else NONE
-                                                                for it in (ratio_of(row, *two) for two in of))]
-                          for row in rows])
-        yield ""
+    def cells_of(row):
+        made = (ratio_of(row, *two) for two in (("peer", "ours"), ("peer", "bare"), ("peer", "same"), ("peer", "tuned"),
+                                                ("same", "ours")))
+        counts = row.instructions or {}
+        return [f"`{row.command}`", row.made.name, *(f"{it.middle:.2f}" if it else NONE for it in made),
+                number(counts.get("ours"), 2), number(counts.get("same"), 2)]
+    yield from ["### What other code makes", "",
+                "Times the peer; what `lislink` makes of the tuned program for x86-64-v2, its own level; and the "
+                "instructions a byte of both:", ""]
+    yield from table(["command", "input", "`lislink`", "bare loop", "tuned for v2", "tuned for v3",
+                      "`lislink`, times the tuned for v2", "instructions a byte", "tuned for v2"],
+                     map(cells_of, found.rows))
+    yield ""
 
 
 def of_sizes(found):
