@@ -7,9 +7,9 @@ import tempfile
 
 from tests import ROOT, kit
 
-#: What README asks for, what belongs to Python or to any Debian, another name of what is installed; and cargo, since
-#: Debian 12 has one that can't read the version of Cargo.lock.
-ASKED = {"gcc", "g++", "pip", "rt", "dpkg-deb", "chromium-browser", "cargo"}
+#: What README asks for, what belongs to Python or to any Debian, another name of what is installed; and cargo and
+#: rustc, since those of Debian 12 are too old for Cargo.lock and for the programs of the benchmark.
+ASKED = {"gcc", "g++", "pip", "rt", "dpkg-deb", "chromium-browser", "cargo", "rustc"}
 #: Tests that need a tool: in a call of `needs`, of install's `has`, or of `which`.
 USES = re.compile(r'(?:self\.needs\(|\bif (?:not )?has\(|shutil\.which\()"([\w+-]+)"')
 
