@@ -52,6 +52,12 @@ class Tally:
         return self.out + self.named + self.full
 
 
+def of_trees(answer):
+    """What an answer says of trees, where a growth failed. `message.read` also reads its text as tables and says what
+    they say if it is something else; the growth that failed can be one of theirs, or of what is compared."""
+    return answer.partition(" tables: ")[0]
+
+
 def try_call(shim, program, trial, growths, test, tally):
     """Asks a call with each of its growths failing in turn, and once more with one after the last, which it doesn't
     reach."""
@@ -64,7 +70,7 @@ def try_call(shim, program, trial, growths, test, tally):
         part, answers = answers[:size], answers[size:]
         front, mine = part[:len(before)], part[len(before):]
         is_refused = growth <= growths
-        answered = [one.answer for one in mine]
+        answered = [of_trees(one.answer) if is_refused else one.answer for one in mine]
         holds = trial.holds(answered) and [one.answer for one in front] == [row[1] for row in trial.case[:trial.place]]
         if not is_refused:
             holds = holds and answered[0] == trial.wanted
