@@ -65,10 +65,6 @@ module _ (o : Opened) (begun : Begun) (is : o ≡ opened_with begun) (text : Lis
 
 -- ---- whether a message is open
 
-pub begun_is_open : (left : Option Begun) → is_some (opened_of left) ≡ is_some left
-begun_is_open None = refl
-begun_is_open (Some begun) = refl
-
 pub none_open : (left : Option Begun) → None ≡ opened_of left → left ≡ None
 none_open None e = refl
 none_open (Some begun) e = absurd cc

@@ -1,6 +1,6 @@
 -- Why a record text can't come next, in the order in which the reader finds out.
-use Rattle.std.proofs.Common.{◌≡◌, ◌≢◌, ℕ, List, [], ◌∷◌, true, false, Option, Some, None, refl, ◌∙◌, ap}
-use Rattle.std.specs.Prelude.{option_map, is_some}
+use Rattle.std.proofs.Common.{◌≡◌, ◌≢◌, ℕ, List, [], ◌∷◌, true, false, Option, Some, None, refl, ◌∙◌, ap, sym}
+use Rattle.std.specs.Prelude.{option_map, is_some, unwrap_or}
 use Rattle.std.specs.Option.{option_or}
 use Rattle.lis_record_values.specs.declared.faults.RecordFault.{RecordFault}
 use Rattle.lis_record_values.specs.declared.kinds.Kind.{Kind}
@@ -41,6 +41,14 @@ front_refused None [] e h = h
 front_refused None (letter ∷ bytes) e h = outside_letter letter (kind_of letter) (letter ∷ bytes) e h
 front_refused (Some b) [] e h = h
 front_refused (Some b) (letter ∷ bytes) e h = inside_letter b letter (kind_of letter) (letter ∷ bytes) e h
+
+-- or, where it reports none, the fault of a text that is no such record
+pub first_fault : (left : Option Begun) (text : List ℕ) (front : Option Reason) (e : RecordFault)
+    → front ≡ front_refusal (is_some left) text
+    → (front_refusal (is_some left) text ≡ None → refusal left text ≡ Some (reasons.BadRecord e))
+    → refusal left text ≡ Some (unwrap_or front (reasons.BadRecord e))
+first_fault left text None e is fault = fault (sym is)
+first_fault left text (Some reason) e is fault = front_refused left text reason (sym is)
 
 outside_header : (letter : ℕ) (k : Option Kind) (text : List ℕ) → letter_front false letter k ≡ None
     → letter_refusal None letter k text ≡ kind_refusal None kinds.H text

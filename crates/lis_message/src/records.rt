@@ -48,8 +48,8 @@ impl Model for Opened {
     ghost view = { λ o. record { delimiters = o.delimiters; level = position_level o.position; count = o.count } };
 }
 
-/// Why a text can't come next, by its first letter alone.
-#[inline(always)]
+/// Why a text can't come next, by its first letter alone. It is asked only of a text that is not such a record.
+#[inline(never)]
 fn front_fault(is_begun: bool, text: &[u8]) -> Option<Reason>
     ensures { result ≡ front_refusal is_begun text.now }
 {
@@ -63,19 +63,17 @@ fn front_fault(is_begun: bool, text: &[u8]) -> Option<Reason>
     }
 }
 
-#[tactic(auto, using(crate::proofs::TakingLaws::header_refused))]
-#[inline(always)]
 /// The header that a text is, which comes where no message is open.
+#[inline(always)]
 fn borrow_first(text: &[u8], bad: Option<usize>) -> Result<BorrowedRecord<'_>, Reason>
-    requires front { front_refusal false text.now ≡ None }
-    requires bad { bad ≡ bad_byte_place text.now }
+    requires { bad ≡ bad_byte_place text.now }
     ensures ok { IfOk result (λ entry. ComesNext None text.now entry) }
     ensures err { IfErr result (λ reason. refusal None text.now ≡ Some reason) }
     ensures place { IfOk result (λ entry. entry ≡ record_in entry.delimiters entry.content.kind text.now) }
 {
     match borrow_searched_header(text, bad) {
         Ok(entry) => Ok(entry),
-        Err(fault) => Err(Reason::BadRecord(fault)),
+        Err(fault) => Err(front_fault(false, text).unwrap_or(Reason::BadRecord(fault))),
     }
 }
 
@@ -86,8 +84,7 @@ fn borrow_inner<'a>(
     text: &'a [u8],
     bad: Option<usize>,
 ) -> Result<BorrowedRecord<'a>, Reason>
-    requires front { front_refusal true text.now ≡ None }
-    requires bad { bad ≡ bad_byte_place text.now }
+    requires { bad ≡ bad_byte_place text.now }
     ensures ok { IfOk result (λ entry. (begun : Begun) → opened.now ≡ opened_with begun
         → ComesNext (Some begun) text.now entry) }
     ensures err { IfErr result (λ reason. (begun : Begun) → opened.now ≡ opened_with begun
@@ -96,7 +93,7 @@ fn borrow_inner<'a>(
 {
     let entry = match borrow_searched_record(&opened.delimiters, text, bad) {
         Ok(entry) => entry,
-        Err(fault) => return Err(Reason::BadRecord(fault)),
+        Err(fault) => return Err(front_fault(true, text).unwrap_or(Reason::BadRecord(fault))),
     };
     match opened.position.place_fault(entry.kind()) {
         None => Ok(entry),
@@ -119,9 +116,6 @@ fn borrow_next<'a>(
         → refusal left text.now ≡ Some reason) }
     ensures place { IfOk result (λ entry. entry ≡ record_in entry.delimiters entry.content.kind text.now) }
 {
-    if let Some(reason) = front_fault(opened.is_some(), text) {
-        return Err(reason);
-    }
     match opened {
         None => borrow_first(text, bad),
         Some(opened) => borrow_inner(opened, text, bad),
@@ -543,11 +537,9 @@ impl RecordReader {
         ensures fault { self.new.fault ≡ self.old.fault }
         ensures same { IfErr result (λ _. self.new ≡ self.old) }
     {
-        if text.len() > RECORD_LIMIT {
-            return Err(Reason::RecordTooLong);
-        }
         let entry = match borrow_next(&self.opened, text, bad) {
             Ok(entry) => entry,
+            Err(_) if text.len() > RECORD_LIMIT => return Err(Reason::RecordTooLong),
             Err(reason) => return Err(reason),
         };
         open_after(&mut self.opened, entry.delimiters(), entry.kind());
