@@ -4,7 +4,8 @@
 ghost use Rattle.std.specs.Prelude.{◌≤◌};
 
 use lis_capture::*;
-use lis_engine::{OUTPUT_ROOM, OutputBuffer};
+use lis_engine::{OUTPUT_ROOM, Output};
+use lis_port::Discard;
 use std::process::Abort;
 
 /// The number of the last line of a capture that is read in pieces of at most `step` bytes, and whether it is rejected.
@@ -94,11 +95,19 @@ fn after_a_refused_line_nothing_is_read(rt: HostRuntime) {
 }
 
 #[test]
-fn the_room_of_an_output_buffer_is_what_is_left(rt: HostRuntime) {
-    let mut outgoing = OutputBuffer::new();
-    outgoing.append(b"abc");
-    assert!(rt; outgoing.room() == OUTPUT_ROOM - 3);
-    assert!(rt; outgoing.as_slice() == b"abc".as_slice());
-    outgoing.clear();
-    assert!(rt; outgoing.room() == OUTPUT_ROOM);
+fn the_room_of_an_output_is_what_is_left(rt: HostRuntime) {
+    let mut sink = Discard;
+    let mut out = Output::new(&mut sink);
+    out.append(b"abc");
+    assert!(rt; out.room() == OUTPUT_ROOM - 3);
+    assert!(rt; out.put(&[b'a'; OUTPUT_ROOM]).is_ok());
+    assert!(rt; out.room() == OUTPUT_ROOM);
+}
+
+#[test]
+fn a_text_that_there_is_room_for_waits(rt: HostRuntime) {
+    let mut sink = Discard;
+    let mut out = Output::new(&mut sink);
+    assert!(rt; out.put(&[b'a'; OUTPUT_ROOM]).is_ok());
+    assert!(rt; out.room() == 0);
 }

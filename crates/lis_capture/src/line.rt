@@ -16,8 +16,9 @@ ghost use Rattle.lis_capture.specs.inside.Reader.{IsCopied};
 
 use crate::digits::{decode, lower};
 use crate::encoding::LONGEST_ENCODING;
-use lis_engine::{OUTPUT_ROOM, OutputBuffer};
+use lis_engine::{OUTPUT_ROOM, Output};
 use lis_link::Readiness;
+use lis_port::Sink;
 use lis_text::CR;
 use std::marker::Model;
 
@@ -104,17 +105,16 @@ impl<'a> LineBytes<'a> {
         }
     }
 
-    /// Puts the digits of the bytes in lower case after an output buffer. There must be room for those of
-    /// [`MOST_BYTES`].
+    /// Puts the digits of the bytes in lower case. There must be room for those of [`MOST_BYTES`].
     #[inline(always)]
-    pub(crate) fn append_to(&self, outgoing: &mut OutputBuffer)
-        requires { length outgoing.old + MOST_DIGITS ≤ OUTPUT_ROOM }
-        ensures value { outgoing.new ≡ outgoing.old ++ encode_lower self.now }
-        ensures short { length outgoing.new ≤ length outgoing.old + MOST_DIGITS }
+    pub(crate) fn append_to<W: Sink>(&self, out: &mut Output<'_, W>)
+        requires { length out.old.waits + MOST_DIGITS ≤ OUTPUT_ROOM }
+        ensures value { out.new ≡ record out.old { waits = out.old.waits ++ encode_lower self.now } }
+        ensures short { length out.new.waits ≤ length out.old.waits + MOST_DIGITS }
     {
         match self.keeping {
-            Keeping::Bytes => outgoing.append_digits(self.kept),
-            Keeping::Digits => outgoing.append(self.kept),
+            Keeping::Bytes => out.append_digits(self.kept),
+            Keeping::Digits => out.append(self.kept),
         }
     }
 }
@@ -295,41 +295,42 @@ impl LastLine {
         reported
     }
 
-    /// Reads a text that is a mark and pairs of digits, as most are, and puts it after an output buffer in lower case,
+    /// Reads a text that is a mark and pairs of digits, as most are, and puts it in lower case,
     /// with LF after it; answers whether it is one. Of another text nothing is read.
     #[inline(always)]
-    pub(crate) fn copy(&mut self, text: &[u8], outgoing: &mut OutputBuffer) -> bool
-        requires { length outgoing.old + LONGEST_ENCODING ≤ OUTPUT_ROOM }
-        ensures copied { result ≡ true → IsCopied text.now self.new outgoing.old outgoing.new }
-        ensures unread { result ≡ false → (self.new ≡ self.old) × (outgoing.new ≡ outgoing.old) }
+    pub(crate) fn copy<W: Sink>(&mut self, text: &[u8], out: &mut Output<'_, W>) -> bool
+        requires { length out.old.waits + LONGEST_ENCODING ≤ OUTPUT_ROOM }
+        ensures copied { result ≡ true → IsCopied text.now self.new out.old out.new }
+        ensures unread { result ≡ false → (self.new ≡ self.old) × (out.new ≡ out.old) }
         ensures other { result ≡ false → length text.now ≤ LONGEST_LINE →
             reports_bytes (plain_line (without_return text.now)) ≡ false }
     {
         match without_return(text) {
             _ if text.len() > LONGEST_LINE => false,
-            [b'>', b' ', digits @ ..] => {
-                self.copy_digits(LineKind::FromAnalyzer, digits, outgoing)
-            }
-            [b'<', b' ', digits @ ..] => {
-                self.copy_digits(LineKind::FromComputer, digits, outgoing)
-            }
+            [b'>', b' ', digits @ ..] => { self.copy_digits(LineKind::FromAnalyzer, digits, out) }
+            [b'<', b' ', digits @ ..] => { self.copy_digits(LineKind::FromComputer, digits, out) }
             _ => false,
         }
     }
 
     /// The same of the digits of a line of this kind.
     #[inline(always)]
-    fn copy_digits(&mut self, kind: LineKind, digits: &[u8], outgoing: &mut OutputBuffer) -> bool
+    fn copy_digits<W: Sink>(
+        &mut self,
+        kind: LineKind,
+        digits: &[u8],
+        out: &mut Output<'_, W>,
+    ) -> bool
         requires short { length digits.now ≤ 4094 }
-        requires room { length outgoing.old + LONGEST_ENCODING ≤ OUTPUT_ROOM }
+        requires room { length out.old.waits + LONGEST_ENCODING ≤ OUTPUT_ROOM }
         ensures read { result ≡ is_some (bytes_of digits.now) }
         ensures line { self.new ≡ unwrap_or (option_map (line_with kind) (bytes_of digits.now)) self.old }
-        ensures written { outgoing.new ≡ outgoing.old ++ (if result then line_encoding self.new else []) }
+        ensures written { out.new ≡ record out.old { waits = out.old.waits ++ (if result then line_encoding self.new else []) } }
     {
         if !self.read_digits(kind, digits) {
             return false;
         }
-        self.line().append_to(outgoing);
+        self.line().append_to(out);
         true
     }
 

@@ -13,7 +13,8 @@ ghost use Rattle.lis_capture.specs.inside.Reader.{found_holding, found_of, holdi
 use crate::encoding::LONGEST_ENCODING;
 use crate::line::{CaptureVersion, Keeping, LONGEST_LINE, LastLine, Line, version_after};
 use arrayvec::ArrayVec;
-use lis_engine::{OUTPUT_ROOM, OutputBuffer};
+use lis_engine::{OUTPUT_ROOM, Output};
+use lis_port::Sink;
 use lis_text::LF;
 use memchr::memchr;
 use std::marker::Model;
@@ -124,15 +125,15 @@ impl LineReader {
         }
     }
 
-    /// Reads the next line, and puts it after the bytes of an output buffer as [`Line::append_to`] does, where it is
+    /// Reads the next line, and puts it as [`Line::append_to`] does, where it is
     /// whole in these bytes and reports bytes, as most do; answers how many bytes it read. Else it reads nothing. There
     /// must be room for [`LONGEST_ENCODING`] bytes.
     #[inline(always)]
-    pub fn copy(&mut self, bytes: &[u8], outgoing: &mut OutputBuffer) -> Option<usize>
-        requires { length outgoing.old + LONGEST_ENCODING ≤ OUTPUT_ROOM }
+    pub fn copy<W: Sink>(&mut self, bytes: &[u8], out: &mut Output<'_, W>) -> Option<usize>
+        requires { length out.old.waits + LONGEST_ENCODING ≤ OUTPUT_ROOM }
         ensures some { IfSome result (λ count. CopiesLine self.old self.new bytes.now count) }
-        ensures written { IfSome result (λ count. outgoing.new ≡ outgoing.old ++ added_encoding self.new.known.line) }
-        ensures none { IfNone result ((self.new ≡ self.old) × (outgoing.new ≡ outgoing.old)) }
+        ensures written { IfSome result (λ count. out.new ≡ record out.old { waits = out.old.waits ++ added_encoding self.new.known.line }) }
+        ensures none { IfNone result ((self.new ≡ self.old) × (out.new ≡ out.old)) }
         ensures other { IfNone result (self.old.known.refused ≡ false → self.old.held ≡ [] →
             EndsOther self.old.known.version bytes.now) }
     {
@@ -141,7 +142,7 @@ impl LineReader {
         }
         let place = first_line_feed(bytes)?;
         let (text, _) = bytes.split_at(place);
-        if !self.progress.copy(text, outgoing) {
+        if !self.progress.copy(text, out) {
             return None;
         }
         Some(place + 1)
@@ -235,18 +236,18 @@ fn first_line_feed(bytes: &[u8]) -> Option<usize>
 }
 
 impl Progress {
-    /// Takes a line that is a mark and pairs of digits, and puts it after an output buffer; answers whether it is one.
+    /// Takes a line that is a mark and pairs of digits, and puts it; answers whether it is one.
     /// Of another line nothing is taken.
     #[inline(always)]
-    fn copy(&mut self, text: &[u8], outgoing: &mut OutputBuffer) -> bool
-        requires { length outgoing.old + LONGEST_ENCODING ≤ OUTPUT_ROOM }
+    fn copy<W: Sink>(&mut self, text: &[u8], out: &mut Output<'_, W>) -> bool
+        requires { length out.old.waits + LONGEST_ENCODING ≤ OUTPUT_ROOM }
         ensures after { result ≡ true → self.new ≡ known_with self.old (line_of self.old.version text.now) }
         ensures found { result ≡ true → LineFound.Line ≡ found_of (line_of self.old.version text.now) }
-        ensures written { result ≡ true → outgoing.new ≡ outgoing.old ++ added_encoding self.new.line }
-        ensures none { result ≡ false → (self.new ≡ self.old) × (outgoing.new ≡ outgoing.old) }
+        ensures written { result ≡ true → out.new ≡ record out.old { waits = out.old.waits ++ added_encoding self.new.line } }
+        ensures none { result ≡ false → (self.new ≡ self.old) × (out.new ≡ out.old) }
         ensures other { result ≡ false → reports_bytes (line_of self.old.version text.now) ≡ false }
     {
-        if !self.last_line.copy(text, outgoing) {
+        if !self.last_line.copy(text, out) {
             return false;
         }
         if let CaptureVersion::Unsaid = self.version {

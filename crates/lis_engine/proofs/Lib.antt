@@ -1,4 +1,4 @@
 pub mod EncodeLemmas
-pub mod BufferLaws
+pub mod OutputLaws
 pub mod PutLaws
 pub mod RunLaws

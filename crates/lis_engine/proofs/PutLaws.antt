@@ -7,7 +7,8 @@ use Rattle.std.specs.declared.result.Result.{Result}
 use Rattle.std.specs.Io.KnownBytes.{Appends, Keeps}
 use Rattle.lis_engine.specs.declared.fault.ToolFault.{ToolFault}
 use Rattle.lis_engine.specs.declared.fault.ToolFault.TheVariants.{CaptureLine, Read, Write, OutOfMemory, TooManyReads}
-use Rattle.lis_engine.specs.Output.{most_counted, WentOut, Put}
+use Rattle.lis_engine.specs.Output.{FailedIn, most_counted, WentOut}
+use Rattle.lis_engine.specs.inside.Output.{Put}
 
 pub appends_nothing : (a : Option (List ℕ)) → Appends a a []
 appends_nothing None = tt
@@ -28,29 +29,28 @@ appends_then (Some ws) (Some bs) (Some cs) xs ys first second =
 -- bytes that a sink took whole
 pub put_taken :
     (a b : Option (List ℕ)) (before after : ℕ) (text : List ℕ) → Appends a b text
-    → after ≡ min (before + length text) most_counted →
-    Put a b before (Ok after) text
+    → after ≡ min (before + length text) most_counted → WentOut a b before after text (length text)
 put_taken a b before after text taken counted =
     record { within = omega arith; taken = rw (take_all (length text) text (omega arith)) taken; counted = counted }
 
-pub put_nothing : (a : Option (List ℕ)) (before : ℕ) → before ≤ most_counted → Put a a before (Ok before) []
+pub put_nothing : (a : Option (List ℕ)) (before : ℕ) → before ≤ most_counted → WentOut a a before before [] 0
 put_nothing a before fits = put_taken a a before before [] (appends_nothing a) (omega arith)
 
 pub put_none : (a : Option (List ℕ)) (before : ℕ) (text : List ℕ) → before ≤ most_counted → length text ≡ 0
-    → Put a a before (Ok before) text
+    → WentOut a a before before text (length text)
 put_none a before [] fits none = put_nothing a before fits
 put_none a before (b ∷ text) fits none = cc
 
 -- the sink failed before it took any
 pub put_failed :
     (a b : Option (List ℕ)) (before : ℕ) (text : List ℕ) → before ≤ most_counted → 0 < length text → Keeps a b →
-    Put a b before (Err (Write before)) text
+    FailedIn a b before (Write before) text
 put_failed a b before text fits some keeps =
     (0, some, record { within = omega arith; taken = keeps_appends a b keeps; counted = omega arith })
 
 pub part_then :
     (a b c : Option (List ℕ)) (before middle after count : ℕ) (xs ys : List ℕ) →
-    Put a b before (Ok middle) xs → WentOut b c middle after ys count
+    WentOut a b before middle xs (length xs) → WentOut b c middle after ys count
     → WentOut a c before after (xs ++ ys) (length xs + count)
 part_then a b c before middle after count xs ys first second =
     let whole : Appends a b xs = rw (take_all (length xs) xs (omega arith)) at first.taken in
@@ -62,24 +62,24 @@ part_then a b c before middle after count xs ys first second =
 
 -- a text that went out whole, and then another
 pub put_then :
-    (a b c : Option (List ℕ)) (before middle : ℕ) (r : Result ℕ ToolFault) (xs ys : List ℕ) →
-    Put a b before (Ok middle) xs → Put b c middle r ys → Put a c before r (xs ++ ys)
-put_then a b c before middle (Ok after) xs ys first second =
+    (a b c : Option (List ℕ)) (before middle after : ℕ) (r : Result Unit ToolFault) (xs ys : List ℕ) →
+    WentOut a b before middle xs (length xs) → Put b c middle after r ys → Put a c before after r (xs ++ ys)
+put_then a b c before middle after (Ok done) xs ys first second =
     rw (length-append xs ys) (part_then a b c before middle after (length ys) xs ys first second)
-put_then a b c before middle (Err (Write written)) xs ys first second = (
+put_then a b c before middle after (Err (Write written)) xs ys first second = (
   length xs + second.0,
   omega (arith, length-append xs ys, second.1),
   part_then a b c before middle written second.0 xs ys first second.2,
 )
-put_then a b c before middle (Err (CaptureLine line)) xs ys first second = second
-put_then a b c before middle (Err Read) xs ys first second = second
-put_then a b c before middle (Err OutOfMemory) xs ys first second = second
-put_then a b c before middle (Err TooManyReads) xs ys first second = second
+put_then a b c before middle after (Err (CaptureLine line)) xs ys first second = second
+put_then a b c before middle after (Err Read) xs ys first second = second
+put_then a b c before middle after (Err OutOfMemory) xs ys first second = second
+put_then a b c before middle after (Err TooManyReads) xs ys first second = second
 
 -- where the sink failed in a text, it failed in any longer one
 pub put_stops :
-    (a b : Option (List ℕ)) (before : ℕ) (fault : ToolFault) (xs ys : List ℕ) → Put a b before (Err fault) xs
-    → Put a b before (Err fault) (xs ++ ys)
+    (a b : Option (List ℕ)) (before : ℕ) (fault : ToolFault) (xs ys : List ℕ) → FailedIn a b before fault xs
+    → FailedIn a b before fault (xs ++ ys)
 put_stops a b before (Write written) xs ys put = (
   put.0,
   omega (arith, length-append xs ys, put.1),

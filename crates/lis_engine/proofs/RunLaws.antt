@@ -5,19 +5,19 @@ use Rattle.std.proofs.Common.{length-append, take_all, rules, is_some}
 use Rattle.std.proofs.lemmas.List.{take-append-le}
 use Rattle.std.specs.declared.result.Result.{Result}
 use Rattle.std.specs.Prelude.{IsTrue, ◌↔◌, ⊤}
-use Rattle.lis_port.specs.declared.port.Failed.{Failed}
 use Rattle.std.specs.Io.KnownBytes.{Appends, Consumes, IsAtEnd, Keeps}
 use Rattle.lis_engine.specs.declared.fault.ToolFault.{ToolFault}
 use Rattle.lis_engine.specs.declared.fault.ToolFault.TheVariants.{CaptureLine, Read, Write, OutOfMemory, TooManyReads}
 use Rattle.lis_engine.specs.declared.report.Report.{Report}
-use Rattle.lis_engine.specs.declared.machine.Halt.{Halt}
 use Rattle.lis_engine.specs.Outcome.{Outcome, whole, going}
-use Rattle.lis_engine.specs.Output.{IsBuffered, Out, Put, WentOut, out}
-use Rattle.lis_engine.specs.inside.Output.{PartWentOut}
+use Rattle.lis_engine.specs.Output.{Broke, FailedIn, IsPut, IsWorking, Out, WentOn, WentOut}
+use Rattle.lis_engine.specs.inside.Output.{IsUnused, PartWentOut, SentOn, Unsent}
 use Rattle.lis_engine.specs.Runs.{EachGave, IsFinished, WroteOutcome, Ran, StopsBy}
-use Rattle.lis_engine.specs.Steps.{Halts, Fails, Puts, IsEarly}
-use Rattle.lis_engine.specs.inside.Steps.{IsAnswered}
-use Rattle.lis_engine.proofs.BufferLaws.{buffered_sent, buffered_settled, buffered_then}
+use Rattle.lis_engine.specs.Steps.{Ends, Fails, Halts, Puts, Steps, ended_by}
+use Rattle.lis_engine.specs.inside.Steps.{IsEnded, IsHalted, had_failed, is_sent, is_unsent}
+use Rattle.lis_engine.specs.declared.machine.Stop.{Stop}
+use Rattle.lis_engine.specs.declared.machine.Stop.TheVariants.{Fault, Refused}
+use Rattle.lis_engine.proofs.OutputLaws.{put_on}
 use Rattle.lis_engine.proofs.PutLaws.{part_then, put_stops}
 
 pub consumes_none : (a : Option (List ℕ)) → Consumes a a []
@@ -38,20 +38,14 @@ consumes_then (Some ws) (Some vs) None xs ys first second = second
 consumes_then (Some ws) (Some vs) (Some us) xs ys first second =
     first ∙ ap (λ (l : List ℕ). xs ++ l) second ∙ sym (append_assoc xs ys us)
 
-pub appends_kept : (a b c : Option (List ℕ)) (text : List ℕ) → Appends a b text → Keeps b c → Appends a c text
-appends_kept None b c text taken kept = tt
-appends_kept (Some xs) None c text taken kept = absurd taken
-appends_kept (Some xs) (Some ys) None text taken kept = kept
-appends_kept (Some xs) (Some ys) (Some zs) text taken kept = kept ∙ taken
-
--- what was read so far, and the text for it: it went out, with its count, but for what waits in the output buffer
-pub record IsSoFar (represents : List ℕ → List ℕ → Type 0) (left_old left taken_old taken : Option (List ℕ))
-    (waits : List ℕ) (written turn : ℕ) : Type 0 where
+-- what was read so far, and the text for it, which was put
+pub record IsSoFar (represents : List ℕ → List ℕ → Type 0) (left_old left : Option (List ℕ)) (start here : Out)
+    (turn : ℕ) : Type 0 where
   pub bytes : List ℕ
   pub text : List ℕ
   pub represented : represents bytes text
   pub read : Consumes left_old left bytes
-  pub wrote : IsBuffered (out taken_old []) (out taken waits) 0 (Ok written) text
+  pub wrote : WentOn start here text
   pub short : length bytes ≤ 4096 * turn
   pub each_gave : turn ≤ length bytes
 
@@ -63,63 +57,102 @@ pub record HasAnswered {F : Type 0} (memory : Bool) (means : List ℕ → Bool �
   pub meant : means given ended outcome
   pub wrote : WroteOutcome memory result outcome a b
 
+-- where nothing waits, the text is out
+pub settled : (start here : Out) (text : List ℕ) → IsUnused start → here.waits ≡ [] → WentOn start here text
+    → Appends start.taken here.taken text
+settled start here text unused empty wrote =
+    let front_is : wrote.front ≡ text =
+    sym (append-nil wrote.front) ∙ ap (λ (t : List ℕ). wrote.front ++ t) (sym empty) ∙ sym wrote.joined
+    ∙ ap (λ (t : List ℕ). t ++ text) unused.empty in
+    let taken : Appends start.taken here.taken (take (length text) text) =
+    subst (λ (t : List ℕ). Appends start.taken here.taken (take (length t) t)) front_is wrote.went.taken in
+    rw (take_all (length text) text (omega arith)) at taken
+
+-- what went out of a text went out of a longer one
+went_longer : (a b : Option (List ℕ)) (before after : ℕ) (text rest : List ℕ) (count : ℕ)
+    → WentOut a b before after text count → WentOut a b before after (text ++ rest) count
+went_longer a b before after text rest count went = record {
+  within = omega (arith, went.within, length-append text rest);
+  taken = rw (take-append-le count text rest went.within) went.taken;
+  counted = went.counted;
+}
+
 module _ {F : Type 0} (memory : Bool) (means : List ℕ → Bool → Outcome F → Type 0) (given : List ℕ) (ended : Bool)
-    (a : Option (List ℕ)) where
-  -- the text is a part of the outcome's
+    (start : Out) (unused : IsUnused start) where
+  -- the sink failed in a part of the outcome's text
   part_of_whole :
-      (b : Option (List ℕ)) (fault : ToolFault) (text rest : List ℕ) (o : Outcome F) → means given ended o
+      (new : Out) (fault : ToolFault) (text rest : List ℕ) (o : Outcome F) → means given ended o
       → whole o ≡ text ++ rest
-      → Put a b 0 (Err fault) text → HasAnswered memory means given ended a b (Err fault)
-  part_of_whole b (Write written) text rest o begun joined put =
-      let p : Put a b 0 (Err (Write written)) (whole o) =
-      subst (λ (t : List ℕ). Put a b 0 (Err (Write written)) t) (sym joined)
-      (put_stops a b 0 (Write written) text rest put) in
-      record { outcome = o; meant = begun; wrote = (p.0, p.2) }
-  part_of_whole b (CaptureLine line) text rest o begun joined put = absurd put
-  part_of_whole b Read text rest o begun joined put = absurd put
-  part_of_whole b OutOfMemory text rest o begun joined put = absurd put
-  part_of_whole b TooManyReads text rest o begun joined put = absurd put
-
-  -- the sink failed in a step
-  pub fails_reported :
-      (b : Option (List ℕ)) (waits : List ℕ) (c : Out) (before : ℕ) (text : List ℕ) (fault : ToolFault)
-      → IsBuffered (out a []) (out b waits) 0 (Ok before) text
-      → Fails (means given ended) (out b waits) c before text fault
-      → HasAnswered memory means given ended a c.taken (Err fault)
-  fails_reported b waits c before text fault wrote fails =
-      part_of_whole c.taken fault (text ++ fails.more) fails.rest fails.outcome fails.meant fails.joined
-      (buffered_then (out a []) (out b waits) c 0 before (Err fault) text fails.more wrote fails.put)
-
-  -- all of a text went out, and then it could not be sent on
-  pub unsent_reported :
-      (b c : Option (List ℕ)) (written : ℕ) (text rest : List ℕ) (o : Outcome F) → means given ended o
-      → whole o ≡ text ++ rest
-      → Put a b 0 (Ok written) text → Keeps b c → HasAnswered memory means given ended a c (Err (Write written))
-  unsent_reported b c written text rest o begun joined put kept =
-      let taken : Appends a c (take (length text) text) = appends_kept a b c _ put.taken kept in
-      let within : length text ≤ length (whole o) = rw joined (omega (arith, length-append text rest)) in
+      → Broke start new fault text → HasAnswered memory means given ended start.taken new.taken (Err fault)
+  part_of_whole new (Write written) text rest o begun joined broke =
+      let part : FailedIn start.taken new.taken 0 (Write written) text =
+      rw (unused.empty, unused.none) at broke.part in
       record {
         outcome = o;
         meant = begun;
         wrote = (
-          length text,
-          record {
-            within = within;
-            taken = rw joined (rw (take-append-le (length text) text rest (omega arith)) taken);
-            counted = put.counted;
-          },
+          part.0,
+          subst (λ (t : List ℕ). WentOut start.taken new.taken 0 written t part.0) (sym joined)
+              (went_longer start.taken new.taken 0 written text rest part.0 part.2),
         );
       }
+  part_of_whole new (CaptureLine line) text rest o begun joined broke = absurd broke.part
+  part_of_whole new Read text rest o begun joined broke = absurd broke.part
+  part_of_whole new OutOfMemory text rest o begun joined broke = absurd broke.part
+  part_of_whole new TooManyReads text rest o begun joined broke = absurd broke.part
+
+  -- the sink failed in a step
+  fails_reported :
+      (there new : Out) (text : List ℕ) (fault : ToolFault) → WentOn start there text
+      → Fails (means given ended) there new text fault
+      → HasAnswered memory means given ended start.taken new.taken (Err fault)
+  fails_reported there new text fault wrote fails =
+      part_of_whole new fault (text ++ fails.more) fails.rest fails.outcome fails.meant fails.joined
+      (put_on start there new (Err fault) text fails.more wrote fails.broke)
+
+  -- the text so far is a part of the outcome's, and could not be sent on
+  pub unsent_reported :
+      (mid new : Out) (fault : ToolFault) (text rest : List ℕ) (o : Outcome F) → means given ended o
+      → whole o ≡ text ++ rest
+      → WentOn start mid text → Unsent mid new fault
+      → HasAnswered memory means given ended start.taken new.taken (Err fault)
+  unsent_reported mid new (Write written) text rest o begun joined wrote unsent =
+      let went : WentOut start.taken new.taken start.written written (wrote.front ++ mid.waits)
+      (length wrote.front + unsent.part.0) =
+      part_then start.taken mid.taken new.taken start.written mid.written written unsent.part.0 wrote.front mid.waits
+      wrote.went unsent.part.1 in
+      let all : WentOut start.taken new.taken 0 written text (length wrote.front + unsent.part.0) =
+      rw (← wrote.joined, unused.empty, unused.none) at went in
+      record {
+        outcome = o;
+        meant = begun;
+        wrote = (
+          length wrote.front + unsent.part.0,
+          subst (λ (t : List ℕ). WentOut start.taken new.taken 0 written t (length wrote.front + unsent.part.0))
+              (sym joined)
+              (went_longer start.taken new.taken 0 written text rest (length wrote.front + unsent.part.0) all),
+        );
+      }
+  unsent_reported mid new (CaptureLine line) text rest o begun joined wrote unsent = absurd unsent.part
+  unsent_reported mid new Read text rest o begun joined wrote unsent = absurd unsent.part
+  unsent_reported mid new OutOfMemory text rest o begun joined wrote unsent = absurd unsent.part
+  unsent_reported mid new TooManyReads text rest o begun joined wrote unsent = absurd unsent.part
 
   -- the run halted, all of its text is out
   sent_reported :
       (c : Option (List ℕ)) (text : List ℕ) (result : Result (Report F) ToolFault)
       → Halts memory (means given ended) text result
-      → Appends a c text → HasAnswered memory means given ended a c result
-  sent_reported c text (Ok report) (o, meant, halt, joined) taken =
-      record { outcome = o; meant = meant; wrote = (halt, subst (λ (t : List ℕ). Appends a c t) (sym joined) taken) }
-  sent_reported c text (Err (CaptureLine line)) (o, meant, halt, joined) taken =
-      record { outcome = o; meant = meant; wrote = (halt, subst (λ (t : List ℕ). Appends a c t) (sym joined) taken) }
+      → Appends start.taken c text → HasAnswered memory means given ended start.taken c result
+  sent_reported c text (Ok report) (o, meant, halt, joined) taken = record {
+    outcome = o;
+    meant = meant;
+    wrote = (halt, subst (λ (t : List ℕ). Appends start.taken c t) (sym joined) taken);
+  }
+  sent_reported c text (Err (CaptureLine line)) (o, meant, halt, joined) taken = record {
+    outcome = o;
+    meant = meant;
+    wrote = (halt, subst (λ (t : List ℕ). Appends start.taken c t) (sym joined) taken);
+  }
   sent_reported c text (Err OutOfMemory) (o, begun, rest, joined, wants) taken =
       record {
         outcome = o;
@@ -137,7 +170,7 @@ module _ {F : Type 0} (memory : Bool) (means : List ℕ → Bool → Outcome F �
   sent_reported c text (Err TooManyReads) halts taken = absurd halts
 
   -- the outcome that a halted run's text begins
-  pub record Part (text : List ℕ) : Type 0 where
+  record Part (text : List ℕ) : Type 0 where
     pub outcome : Outcome F
     pub begun : means given ended outcome
     pub rest : List ℕ
@@ -161,75 +194,73 @@ module _ {F : Type 0} (memory : Bool) (means : List ℕ → Bool → Outcome F �
   halts_part text (Err (Write written)) halts = absurd halts
   halts_part text (Err TooManyReads) halts = absurd halts
 
-  -- the run halted, and its text was sent on, or could not be
+  no_write : (all : List ℕ) (answer : Result (Report F) ToolFault) (written : ℕ) → answer ≡ Err (Write written)
+      → Halts memory (means given ended) all answer → ⊥
+  no_write all answer written is halts =
+      subst (λ (r : Result (Report F) ToolFault). Halts memory (means given ended) all r) is halts
+
+  -- a command ended after it had put its text
+  halted_puts :
+      (there out new : Out) (text : List ℕ) (answer result : Result (Report F) ToolFault) → WentOn start there text
+      → Puts (λ all. Halts memory (means given ended) all answer) there out text → IsHalted answer out new result
+      → HasAnswered memory means given ended start.taken new.taken result
+  halted_puts there out new text answer result wrote puts (had_failed written is answered same) =
+      absurd (no_write (text ++ puts.more) answer written is puts.following)
+  halted_puts there out new text answer result wrote puts (is_sent working answered sent_on) =
+      let put = put_on start there out (Ok tt) text puts.more wrote puts.put in
+      let all = put_on start out new (Ok tt) (text ++ puts.more) [] put sent_on.went in
+      let whole : WentOn start new (text ++ puts.more) =
+      subst (λ (t : List ℕ). WentOn start new t) (append-nil (text ++ puts.more)) all in
+      subst (λ (r : Result (Report F) ToolFault). HasAnswered memory means given ended start.taken new.taken r)
+      (sym answered)
+      (sent_reported new.taken (text ++ puts.more) answer puts.following
+      (settled start new (text ++ puts.more) unused sent_on.empty whole))
+  halted_puts there out new text answer result wrote puts (is_unsent fault working answered unsent_on) =
+      let put = put_on start there out (Ok tt) text puts.more wrote puts.put in
+      let part = halts_part (text ++ puts.more) answer puts.following in
+      subst (λ (r : Result (Report F) ToolFault). HasAnswered memory means given ended start.taken new.taken r)
+      (sym answered)
+      (unsent_reported out new fault (text ++ puts.more) part.rest part.outcome part.begun part.joined put unsent_on)
+
+  -- or its sink failed
+  halted_fails :
+      (there out new : Out) (text : List ℕ) (written : ℕ) (result : Result (Report F) ToolFault)
+      → WentOn start there text
+      → Fails (means given ended) there out text (Write written) → IsHalted (Err (Write written)) out new result
+      → HasAnswered memory means given ended start.taken new.taken result
+  halted_fails there out new text written result wrote fails (had_failed count is answered same) =
+      let count_is : Err (Write written) ≡ result = is ∙ sym answered in
+      subst (λ (r : Result (Report F) ToolFault). HasAnswered memory means given ended start.taken new.taken r) count_is
+      (subst (λ (o : Out). HasAnswered memory means given ended start.taken o.taken (Err (Write written))) (sym same)
+      (fails_reported there out text (Write written) wrote fails))
+  halted_fails there out new text written result wrote fails (is_sent working answered sent_on) =
+      absurd (not_both (sym working.works ∙ fails.broke.failed))
+    where
+      not_both : false ≡ true → ⊥
+      not_both e = cc
+  halted_fails there out new text written result wrote fails (is_unsent fault working answered unsent_on) =
+      absurd (not_both (sym working.works ∙ fails.broke.failed))
+    where
+      not_both : false ≡ true → ⊥
+      not_both e = cc
+
   halted_reported :
-      (failed : Bool) (b c : Option (List ℕ)) (text : List ℕ) (halt : Halt F) (result : Result (Report F) ToolFault)
-      → Halts memory (means given ended) text halt.result → Put a b 0 (Ok halt.written) text → Keeps b c
-      → IsAnswered halt result failed
-      → HasAnswered memory means given ended a c result
-  halted_reported false b c text halt result halts put kept reported =
-      subst (λ (r : Result (Report F) ToolFault). HasAnswered memory means given ended a c r) (sym reported)
-      (sent_reported c text halt.result halts (appends_kept a b c text
-      (rw (take_all (length text) text (omega arith)) at put.taken) kept))
-  halted_reported true b c text halt result halts put kept reported =
-      let part = halts_part text halt.result halts in
-      subst (λ (r : Result (Report F) ToolFault). HasAnswered memory means given ended a c r) (sym reported)
-      (unsent_reported b c halt.written text part.rest part.outcome part.begun part.joined put kept)
-
-  -- a step halted the run
-  pub step_halts :
-      (failed : Bool) (b : Option (List ℕ)) (waits : List ℕ) (c d : Option (List ℕ)) (before : ℕ) (text : List ℕ)
-      (halt : Halt F)
-      (result : Result (Report F) ToolFault) → IsBuffered (out a []) (out b waits) 0 (Ok before) text
-      → (holds : List ℕ → Type 0) → (puts : Puts holds (out b waits) (out c []) before halt.written text)
-      → Halts memory (means given ended) (text ++ puts.more) halt.result
-      → Keeps c d → IsAnswered halt result failed → HasAnswered memory means given ended a d result
-  step_halts failed b waits c d before text halt result wrote holds puts halts kept reported =
-      halted_reported failed c d (text ++ puts.more) halt result halts
-      (buffered_settled a c 0 halt.written (text ++ puts.more)
-      (buffered_then (out a []) (out b waits) (out c []) 0 before (Ok halt.written) text puts.more wrote puts.put))
-      kept reported
-
-  -- of the text so far a part went out, or all of it, which could not be sent on
-  pub so_far_unsent :
-      (b : Option (List ℕ)) (waits : List ℕ) (c : Option (List ℕ)) (before : ℕ) (fault : ToolFault) (text : List ℕ)
-      → means given ended (going text)
-      → IsBuffered (out a []) (out b waits) 0 (Ok before) text → PartWentOut b c before fault waits
-      → HasAnswered memory means given ended a c (Err fault)
-  so_far_unsent b waits c before (Write written) text meant (more, is, put) (count, part) =
-      record {
-        outcome = going text;
-        meant = meant;
-        wrote = (
-          length more + count,
-          subst (λ (t : List ℕ). WentOut a c 0 written t (length more + count)) (sym is ∙ sym (append-nil text))
-              (part_then a b c 0 before written count more waits put part),
-        );
-      }
-  so_far_unsent b waits c before (CaptureLine line) text meant wrote part = absurd part
-  so_far_unsent b waits c before Read text meant wrote part = absurd part
-  so_far_unsent b waits c before OutOfMemory text meant wrote part = absurd part
-  so_far_unsent b waits c before TooManyReads text meant wrote part = absurd part
-
--- what waited went out, or none of it
-pub so_far_settled :
-    (a : Option (List ℕ)) (b c : Out) (before after : ℕ) (text : List ℕ) → IsBuffered (out a []) b 0 (Ok before) text
-    → IsBuffered b c before (Ok after) [] → IsBuffered (out a []) c 0 (Ok after) text
-so_far_settled a b c before after text wrote settled =
-    subst (λ (t : List ℕ). IsBuffered (out a []) c 0 (Ok after) t) (append-nil text)
-    (buffered_then (out a []) b c 0 before (Ok after) text [] wrote settled)
-
--- all of the text so far went out
-pub so_far_out :
-    (a b : Option (List ℕ)) (waits : List ℕ) (written : ℕ) (text : List ℕ)
-    → IsBuffered (out a []) (out b waits) 0 (Ok written) text → waits ≡ []
-    → Appends a b text
-so_far_out a b waits written text wrote none =
-    let put : Put a b 0 (Ok written) text = buffered_settled a b 0 written text (rw none at wrote) in
-    rw (take_all (length text) text (omega arith)) at put.taken
+      (there out new : Out) (text : List ℕ) (answer result : Result (Report F) ToolFault) → WentOn start there text
+      → Ends memory (means given ended) there out text answer → IsHalted answer out new result
+      → HasAnswered memory means given ended start.taken new.taken result
+  halted_reported there out new text (Ok report) result wrote ends halted =
+      halted_puts there out new text (Ok report) result wrote ends halted
+  halted_reported there out new text (Err (Write written)) result wrote ends halted =
+      halted_fails there out new text written result wrote ends halted
+  halted_reported there out new text (Err (CaptureLine line)) result wrote ends halted =
+      halted_puts there out new text (Err (CaptureLine line)) result wrote ends halted
+  halted_reported there out new text (Err OutOfMemory) result wrote ends halted =
+      halted_puts there out new text (Err OutOfMemory) result wrote ends halted
+  halted_reported there out new text (Err Read) result wrote ends halted = absurd ends
+  halted_reported there out new text (Err TooManyReads) result wrote ends halted = absurd ends
 
 -- what a run reported, with what it read
-pub reported_ran :
+reported_ran :
     {F : Type 0} → (memory : Bool) (means : List ℕ → Bool → Outcome F → Type 0) (given : List ℕ) (ended : Bool)
     (left_old left_new a b : Option (List ℕ)) (result : Result (Report F) ToolFault)
     → Consumes left_old left_new given → HasAnswered memory means given ended a b result
@@ -239,18 +270,18 @@ reported_ran memory means given ended left_old left_new a b result read reported
 
 -- a read that gave bytes reported no end
 pub no_end : (ended : Bool) (count : ℕ) → (count ≡ 0 → ⊥)
-    → IsTrue ended ↔ (◌≡◌ {A = Result ℕ Failed} (Ok count) (Ok 0)) → ended ≡ false
+    → IsTrue ended ↔ (◌≡◌ {A = Result ℕ ToolFault} (Ok count) (Ok 0)) → ended ≡ false
 no_end false count some end = refl
 no_end true count some end = absurd (some (count_of (end.0 refl)))
   where
-    count_of : {a b : ℕ} → ◌≡◌ {A = Result ℕ Failed} (Ok a) (Ok b) → a ≡ b
+    count_of : {a b : ℕ} → ◌≡◌ {A = Result ℕ ToolFault} (Ok a) (Ok b) → a ≡ b
     count_of e = cc
 
 -- a read that gave none reported the end
-pub is_end : (ended : Bool) (count : ℕ) → count ≡ 0 → IsTrue ended ↔ (◌≡◌ {A = Result ℕ Failed} (Ok count) (Ok 0))
+pub is_end : (ended : Bool) (count : ℕ) → count ≡ 0 → IsTrue ended ↔ (◌≡◌ {A = Result ℕ ToolFault} (Ok count) (Ok 0))
     → ended ≡ true
 is_end true count none end = refl
-is_end false count none end = absurd (no (end.1 (ap (λ (n : ℕ). let r : Result ℕ Failed = Ok n in r) none)))
+is_end false count none end = absurd (no (end.1 (ap (λ (n : ℕ). let r : Result ℕ ToolFault = Ok n in r) none)))
   where
     no : IsTrue false → ⊥
     no h = search rules
@@ -263,12 +294,12 @@ consumes_end a b c xs ys count first second none =
     subst (λ (l : List ℕ). Consumes a c l) (append-nil xs) (consumes_then a b c xs [] first last)
 
 -- a read that failed reported no end
-pub failed_not_ended : {f : Failed} (ended : Bool) → IsTrue ended ↔ (◌≡◌ {A = Result ℕ Failed} (Err f) (Ok 0))
+pub failed_not_ended : {f : ToolFault} (ended : Bool) → IsTrue ended ↔ (◌≡◌ {A = Result ℕ ToolFault} (Err f) (Ok 0))
     → ended ≡ false
 failed_not_ended false end = refl
 failed_not_ended true end = absurd (not_ok (end.0 refl))
   where
-    not_ok : {f : Failed} → ◌≡◌ {A = Result ℕ Failed} (Err f) (Ok 0) → ⊥
+    not_ok : {f : ToolFault} → ◌≡◌ {A = Result ℕ ToolFault} (Err f) (Ok 0) → ⊥
     not_ok e = cc
 
 -- a run that ends in a report is finished
@@ -292,58 +323,22 @@ finished_early : {F : Type 0} → (refused : Option F) (ended : Bool) → is_som
 finished_early (Some refused) ended is = tt
 finished_early None ended is = cc
 
-pub well_early : {F : Type 0} → (refuses : Bool) (result : Result (Report F) ToolFault) (ended : Bool)
-    → IsEarly refuses result
-    → EndsWell refuses result ended
-well_early false (Ok report) ended early = cc
-well_early true (Ok report) ended early = finished_early report.refused ended early
-well_early false (Err fault) ended early = tt
-well_early true (Err fault) ended early = tt
+-- a step that stopped the run was a last step, and the run ends well after it
+pub step_ends :
+    {F : Type 0} → (refuses memory : Bool) (represents : List ℕ → Type 0) (means : Outcome F → Type 0) (old new : Out)
+    (text : List ℕ) (stop : Stop F) → Steps refuses memory represents means old new text (Err stop)
+    → Ends memory means old new text (ended_by stop)
+step_ends refuses memory represents means old new text (Fault fault) step = step
+step_ends refuses memory represents means old new text (Refused report) step = step.0
 
--- how a run that halted so stops
-fine_stops :
-    {F : Type 0} → (refuses closes memory : Bool) (means : Outcome F → Type 0) (text : List ℕ)
-    (halted : Result (Report F) ToolFault)
-    (left : Option (List ℕ)) (ended source_failed : Bool)
-    (made reads : ℕ) (taken sent : Option (List ℕ)) → Halts memory means text halted → EndsWell refuses halted ended
-    → source_failed ≡ false → sent ≡ taken → (ended ≡ true → IsAtEnd left) → made ≤ reads
-    → StopsBy refuses closes halted left ended source_failed made taken sent false reads
-fine_stops refuses closes memory means text (Ok report) left ended source_failed made reads taken sent halts ok fine
-    all_sent all_read bound =
-    record { stopped = (ok, fine, refl); sent_on = all_sent; all_read = all_read; bounded = bound }
-fine_stops refuses closes memory means text (Err (CaptureLine line)) left ended source_failed made reads taken sent
-    halts ok fine all_sent all_read bound =
-    record { stopped = (fine, refl); sent_on = all_sent; all_read = all_read; bounded = bound }
-fine_stops refuses closes memory means text (Err OutOfMemory) left ended source_failed made reads taken sent halts ok
-    fine all_sent all_read bound =
-    record { stopped = (fine, refl); sent_on = all_sent; all_read = all_read; bounded = bound }
-fine_stops refuses closes memory means text (Err Read) left ended source_failed made reads taken sent halts ok fine
-    all_sent all_read bound = absurd halts
-fine_stops refuses closes memory means text (Err (Write written)) left ended source_failed made reads taken sent halts
-    ok fine all_sent all_read bound = absurd halts
-fine_stops refuses closes memory means text (Err TooManyReads) left ended source_failed made reads taken sent halts ok
-    fine all_sent all_read bound = absurd halts
-
-pub halted_stops :
-    {F : Type 0} → (refuses closes memory : Bool) (means : Outcome F → Type 0) (text : List ℕ) (halt : Halt F)
-    (result : Result (Report F) ToolFault) (left : Option (List ℕ))
-    (ended source_failed : Bool) (made reads : ℕ) (taken sent : Option (List ℕ)) (failed : Bool)
-    → Halts memory means text halt.result
-    → IsAnswered halt result failed → EndsWell refuses halt.result ended → (closes ≡ false → failed ≡ true → ended
-    ≡ false)
-    → source_failed ≡ false → (failed ≡ false → sent ≡ taken) → (ended ≡ true → IsAtEnd left) → made ≤ reads
-    → StopsBy refuses closes result left ended source_failed made taken sent failed reads
-halted_stops {F} refuses closes memory means text halt result left ended source_failed made reads taken sent false halts
-    reported ok early fine all_sent all_read bound =
-    subst (λ (r : Result (Report F) ToolFault). StopsBy refuses closes r left ended source_failed made taken sent false
-    reads) (sym reported)
-    (fine_stops refuses closes memory means text halt.result left ended source_failed made reads taken sent halts ok
-    fine (all_sent refl) all_read bound)
-halted_stops {F} refuses closes memory means text halt result left ended source_failed made reads taken sent true halts
-    reported ok early fine all_sent all_read bound =
-    subst (λ (r : Result (Report F) ToolFault). StopsBy refuses closes r left ended source_failed made taken sent true
-    reads) (sym reported)
-    (record { stopped = ((λ c. early c refl), fine, refl); sent_on = tt; all_read = all_read; bounded = bound })
+pub step_ends_well :
+    {F : Type 0} → (refuses memory : Bool) (represents : List ℕ → Type 0) (means : Outcome F → Type 0) (old new : Out)
+    (text : List ℕ) (stop : Stop F) (ended : Bool) → Steps refuses memory represents means old new text (Err stop)
+    → EndsWell refuses (ended_by stop) ended
+step_ends_well refuses memory represents means old new text (Fault fault) ended step = tt
+step_ends_well refuses memory represents means old new text (Refused report) ended step =
+    subst (λ (t : Bool). IsFinished t report.refused ended) (sym step.1)
+    (finished_early report.refused ended step.2)
 
 -- the source reported no end, so nothing need be shown of it
 pub unended : {P : Type 0} {ended : Bool} → ended ≡ false → ended ≡ true → P
@@ -352,11 +347,6 @@ unended none is = absurd (no (sym none ∙ is))
     no : false ≡ true → ⊥
     no e = cc
 
--- whether or not something was written
-pub either : {P : Type 0} (wrote : Bool) → (wrote ≡ true → P) → (wrote ≡ false → P) → P
-either true written silent = written refl
-either false written silent = silent refl
-
 -- a fault of the sink
 abbrev pub IsWrite : ToolFault → Type 0
 IsWrite (Write written) = ⊤
@@ -364,14 +354,6 @@ IsWrite (CaptureLine line) = ⊥
 IsWrite Read = ⊥
 IsWrite OutOfMemory = ⊥
 IsWrite TooManyReads = ⊥
-
-pub put_failed : (a b : Option (List ℕ)) (before : ℕ) (fault : ToolFault) (text : List ℕ)
-    → Put a b before (Err fault) text → IsWrite fault
-put_failed a b before (Write written) text put = tt
-put_failed a b before (CaptureLine line) text put = put
-put_failed a b before Read text put = put
-put_failed a b before OutOfMemory text put = put
-put_failed a b before TooManyReads text put = put
 
 pub part_failed : (a b : Option (List ℕ)) (before : ℕ) (fault : ToolFault) (text : List ℕ)
     → PartWentOut a b before fault text → IsWrite fault
@@ -395,6 +377,70 @@ write_stops {fault = Read} is early fine failed all_read bound = absurd is
 write_stops {fault = OutOfMemory} is early fine failed all_read bound = absurd is
 write_stops {fault = TooManyReads} is early fine failed all_read bound = absurd is
 
+-- how a run stops whose command ended, and which was sent on
+sent_stops :
+    {F : Type 0} → (refuses closes memory : Bool) (means : Outcome F → Type 0) (there out new : Out) (text : List ℕ)
+    (answer : Result (Report F) ToolFault) (left : Option (List ℕ)) (ended source_failed : Bool) (made reads : ℕ)
+    → Ends memory means there out text answer → IsWorking out → SentOn out new → EndsWell refuses answer ended
+    → source_failed ≡ false → (ended ≡ true → IsAtEnd left) → made ≤ reads
+    → StopsBy refuses closes answer left ended source_failed made new.taken new.sent new.failed reads
+sent_stops refuses closes memory means there out new text (Ok report) left ended source_failed made reads ends works on
+    well fine all_read bound = record {
+      stopped = (well, fine, on.went.working.works);
+      sent_on = on.sent;
+      all_read = all_read;
+      bounded = bound;
+    }
+sent_stops refuses closes memory means there out new text (Err (CaptureLine line)) left ended source_failed made reads
+    ends works on well fine all_read bound =
+    record { stopped = (fine, on.went.working.works); sent_on = on.sent; all_read = all_read; bounded = bound }
+sent_stops refuses closes memory means there out new text (Err OutOfMemory) left ended source_failed made reads ends
+    works on well fine all_read bound =
+    record { stopped = (fine, on.went.working.works); sent_on = on.sent; all_read = all_read; bounded = bound }
+sent_stops refuses closes memory means there out new text (Err (Write written)) left ended source_failed made reads ends
+    works on well fine all_read bound = absurd (not_both (sym works.works ∙ ends.broke.failed))
+  where
+    not_both : false ≡ true → ⊥
+    not_both e = cc
+sent_stops refuses closes memory means there out new text (Err Read) left ended source_failed made reads ends works on
+    well fine all_read bound = absurd ends
+sent_stops refuses closes memory means there out new text (Err TooManyReads) left ended source_failed made reads ends
+    works on well fine all_read bound = absurd ends
+
+broken : {F : Type 0} → (memory : Bool) (means : Outcome F → Type 0) (there out : Out) (text : List ℕ) (written : ℕ)
+    (answer : Result (Report F) ToolFault) → answer ≡ Err (Write written) → Ends memory means there out text answer
+    → out.failed ≡ true
+broken memory means there out text written answer is ends =
+    let fails : Fails means there out text (Write written) = rw is at ends in fails.broke.failed
+
+pub halted_stops :
+    {F : Type 0} → (refuses closes memory : Bool) (means : Outcome F → Type 0) (there out new : Out) (text : List ℕ)
+    (answer result : Result (Report F) ToolFault) (left : Option (List ℕ)) (ended source_failed : Bool)
+    (made reads : ℕ)
+    → Ends memory means there out text answer → IsHalted answer out new result → EndsWell refuses answer ended
+    → (closes ≡ false → new.failed ≡ true → ended ≡ false)
+    → source_failed ≡ false → (ended ≡ true → IsAtEnd left) → made ≤ reads
+    → StopsBy refuses closes result left ended source_failed made new.taken new.sent new.failed reads
+halted_stops {F} refuses closes memory means there out new text answer result left ended source_failed made reads ends
+    (had_failed written is answered same) well early fine all_read bound =
+    let failed : new.failed ≡ true =
+    ap (λ (o : Out). o.failed) same ∙ broken memory means there out text written answer is ends in
+    subst (λ (r : Result (Report F) ToolFault).
+    StopsBy refuses closes r left ended source_failed made new.taken new.sent new.failed reads) (sym answered)
+    (write_stops {fault = Write written} tt (λ silent. early silent failed) fine failed all_read bound)
+halted_stops {F} refuses closes memory means there out new text answer result left ended source_failed made reads ends
+    (is_sent working answered on) well early fine all_read bound =
+    subst (λ (r : Result (Report F) ToolFault).
+    StopsBy refuses closes r left ended source_failed made new.taken new.sent new.failed reads) (sym answered)
+    (sent_stops refuses closes memory means there out new text answer left ended source_failed made reads ends working
+    on well fine all_read bound)
+halted_stops {F} refuses closes memory means there out new text answer result left ended source_failed made reads ends
+    (is_unsent fault working answered on) well early fine all_read bound =
+    subst (λ (r : Result (Report F) ToolFault).
+    StopsBy refuses closes r left ended source_failed made new.taken new.sent new.failed reads) (sym answered)
+    (write_stops (part_failed out.taken new.taken out.written fault out.waits on.part)
+    (λ silent. early silent on.failed) fine on.failed all_read bound)
+
 -- a read that reported the end waited
 pub waited : (may_wait : Bool) (count : ℕ) → count ≡ 0 → (may_wait ≡ false → 0 < count) → may_wait ≡ true
 waited true count none ready = refl
@@ -411,8 +457,8 @@ failed_waited false ready = absurd (ready refl)
 -- ---- how a run ends, after what was read so far
 
 module _
-    {represents : List ℕ → List ℕ → Type 0} {left_old left a b : Option (List ℕ)} {waits : List ℕ} {written turn : ℕ}
-    (s : IsSoFar represents left_old left a b waits written turn) where
+    {represents : List ℕ → List ℕ → Type 0} {left_old left : Option (List ℕ)} {start here : Out} {turn : ℕ}
+    (unused : IsUnused start) (s : IsSoFar represents left_old left start here turn) where
   -- each read gave a byte
   pub gave_so_far : {made : ℕ} → made ≤ turn → EachGave left_old left made
   gave_so_far bound = (s.bytes, s.read, omega (arith, s.each_gave, bound))
@@ -426,110 +472,62 @@ module _
     omega (arith, s.each_gave, bound, length-append s.bytes more),
   )
 
-  -- these are all the bytes that were read, and what came of those before the last read is buffered
-  pub record IsRead (given : List ℕ) (reported_end ended : Bool) (left_new c : Option (List ℕ)) (there : List ℕ)
-      (after : ℕ)
-      : Type 0 where
-    pub read : Consumes left_old left_new given
-    pub ended_is : ended ≡ reported_end
-    pub wrote : IsBuffered (out a []) (out c there) 0 (Ok after) s.text
+  -- these are all the bytes that were read, and the text for those before the last read was put
+  pub record IsRead (given : List ℕ) (reported_end ended : Bool) (left_new : Option (List ℕ)) (there : Out) : Type 0
+    where
+      pub read : Consumes left_old left_new given
+      pub ended_is : ended ≡ reported_end
+      pub wrote : WentOn start there s.text
+
+  pub wrote_there : (there : Out) → WentOn here there [] → WentOn start there s.text
+  wrote_there there settled =
+      subst (λ (t : List ℕ). WentOn start there t) (append-nil s.text)
+      (put_on start here there (Ok tt) s.text [] s.wrote settled)
 
   module _
-      {count : ℕ} {ended : Bool} {left_new : Option (List ℕ)} (ys : List ℕ) {c : Option (List ℕ)} {there : List ℕ}
-      {after : ℕ} (gives : Consumes left left_new (take count ys))
-      (reports : IsTrue ended ↔ (◌≡◌ {A = Result ℕ Failed} (Ok count) (Ok 0)))
-      (settled : IsBuffered (out b waits) (out c there) written (Ok after) []) where
-    -- the last read reported the end, so that nothing waits
-    pub read_end :
-        {may_wait : Bool} → count ≡ 0 → (may_wait ≡ true → there ≡ []) → (may_wait ≡ false → 0 < count)
-        → IsRead s.bytes true ended left_new c [] after
-    read_end {may_wait} none empty ready =
-        record {
-          read = consumes_end left_old left left_new s.bytes ys count s.read gives none;
-          ended_is = is_end ended count none reports;
-          wrote =
-              rw (empty (waited may_wait count none ready)) at
-              (so_far_settled a (out b waits) (out c there) written after s.text s.wrote settled);
-        }
+      {count : ℕ} {ended : Bool} {left_new : Option (List ℕ)} (ys : List ℕ) {there : Out}
+      (gives : Consumes left left_new (take count ys))
+      (reports : IsTrue ended ↔ (◌≡◌ {A = Result ℕ ToolFault} (Ok count) (Ok 0)))
+      (settled : WentOn here there []) where
+    -- the last read reported the end
+    pub read_end : count ≡ 0 → IsRead s.bytes true ended left_new there
+    read_end none = record {
+      read = consumes_end left_old left left_new s.bytes ys count s.read gives none;
+      ended_is = is_end ended count none reports;
+      wrote = wrote_there there settled;
+    }
 
     -- it gave more
     pub read_more : (more : List ℕ) → more ≡ take count ys → (count ≡ 0 → ⊥)
-        → IsRead (s.bytes ++ more) false ended left_new c there after
+        → IsRead (s.bytes ++ more) false ended left_new there
     read_more more is some =
         record {
           read = consumes_then left_old left left_new s.bytes more s.read
               (subst (λ (l : List ℕ). Consumes left left_new l) (sym is) gives);
           ended_is = no_end ended count some reports;
-          wrote = so_far_settled a (out b waits) (out c there) written after s.text s.wrote settled;
+          wrote = wrote_there there settled;
         }
 
   module _ {F : Type 0} (memory : Bool) (means : List ℕ → Bool → Outcome F → Type 0) where
     -- what waits could not go out
     pub unsent_ran :
-        {ended : Bool} {c : Option (List ℕ)} (fault : ToolFault) → ended ≡ false → means s.bytes false (going s.text)
-        → PartWentOut b c written fault waits → Ran memory means left_old left a c ended (Err fault)
-    unsent_ran {ended} {c} fault goes_on meant part =
-        reported_ran memory means s.bytes ended left_old left a c (Err fault) s.read
-        (subst (λ (e : Bool). HasAnswered memory means s.bytes e a c (Err fault)) (sym goes_on)
-        (so_far_unsent memory means s.bytes false a b waits c written fault s.text meant s.wrote part))
+        {ended : Bool} (new : Out) (fault : ToolFault) → ended ≡ false → means s.bytes false (going s.text)
+        → Unsent here new fault → Ran memory means left_old left start.taken new.taken ended (Err fault)
+    unsent_ran {ended} new fault goes_on meant unsent =
+        reported_ran memory means s.bytes ended left_old left start.taken new.taken (Err fault) s.read
+        (subst (λ (e : Bool). HasAnswered memory means s.bytes e start.taken new.taken (Err fault)) (sym goes_on)
+        (unsent_reported memory means s.bytes false start unused here new fault s.text [] (going s.text) meant refl
+        s.wrote unsent))
 
-    module _
-        {given : List ℕ} {reported_end ended : Bool} {left_new c : Option (List ℕ)} {there : List ℕ} {after : ℕ}
-        (is : IsRead given reported_end ended left_new c there after) where
-      -- the last step halted the run
-      pub halts_ran :
-          {holds : List ℕ → Type 0} {d e : Option (List ℕ)} (failed : Bool) (halt : Halt F)
-          (result : Result (Report F) ToolFault)
-          (puts : Puts holds (out c there) (out d []) after halt.written s.text)
-          → Halts memory (means given reported_end) (s.text ++ puts.more) halt.result → Keeps d e
-          → IsAnswered halt result failed
-          → Ran memory means left_old left_new a e ended result
-      halts_ran {holds} {d} {e} failed halt result puts halts kept reported =
-          reported_ran memory means given ended left_old left_new a e result is.read
-          (subst (λ (t : Bool). HasAnswered memory means given t a e result) (sym is.ended_is)
-          (step_halts memory means given reported_end a failed c there d e after s.text halt result is.wrote holds puts
-          halts kept reported))
-
-      -- the sink failed in it
-      pub fails_ran :
-          {d : Out} (fault : ToolFault) → Fails (means given reported_end) (out c there) d after s.text fault
-          → Ran memory means left_old left_new a d.taken ended (Err fault)
-      fails_ran {d} fault fails =
-          reported_ran memory means given ended left_old left_new a d.taken (Err fault) is.read
-          (subst (λ (t : Bool). HasAnswered memory means given t a d.taken (Err fault)) (sym is.ended_is)
-          (fails_reported memory means given reported_end a c there d after s.text fault is.wrote fails))
-
--- ---- an output buffer
-
--- what was buffered went out
-pub buffer_puts :
-    (holds : List ℕ → Type 0) (a : Out) (b c : Option (List ℕ)) (waits : List ℕ) (before middle after : ℕ)
-    (text : List ℕ)
-    → Puts holds a (out b waits) before middle text → Put b c middle (Ok after) waits
-    → Puts holds a (out c []) before after text
-buffer_puts holds a b c waits before middle after text puts sent =
-    record {
-      more = puts.more;
-      put = buffered_sent a b c waits before middle (Ok after) puts.more puts.put sent;
-      following = puts.following;
-    }
-
--- the sink failed in it where a step had halted the run
-pub buffer_halt_fails :
-    {F : Type 0} → (memory : Bool) (means : List ℕ → Bool → Outcome F → Type 0) (given : List ℕ) (ended : Bool)
-    (holds : List ℕ → Type 0)
-    (a : Out) (b c : Option (List ℕ)) (waits : List ℕ) (before middle : ℕ) (fault : ToolFault) (text : List ℕ)
-    (result : Result (Report F) ToolFault)
-    (puts : Puts holds a (out b waits) before middle text)
-    → Halts memory (means given ended) (text ++ puts.more) result → Put b c middle (Err fault) waits
-    → Fails (means given ended) a (out c []) before text fault
-buffer_halt_fails memory means given ended holds a b c waits before middle fault text result puts halts sent =
-    let part = halts_part memory means given ended a.taken (text ++ puts.more) result halts in
-    record {
-      outcome = part.outcome;
-      meant = part.begun;
-      more = puts.more;
-      rest = part.rest;
-      joined = part.joined;
-      put = buffered_sent a b c waits before middle (Err fault) puts.more puts.put sent;
-    }
+    -- the last step ended the run
+    pub halted_ran :
+        {given : List ℕ} {reported_end ended : Bool} {left_new : Option (List ℕ)} {there : Out}
+        (is : IsRead given reported_end ended left_new there) (out new : Out)
+        (answer result : Result (Report F) ToolFault)
+        → Ends memory (means given reported_end) there out s.text answer → IsHalted answer out new result
+        → Ran memory means left_old left_new start.taken new.taken ended result
+    halted_ran {given} {reported_end} {ended} {left_new} {there} is out new answer result ends halted =
+        reported_ran memory means given ended left_old left_new start.taken new.taken result is.read
+        (subst (λ (t : Bool). HasAnswered memory means given t start.taken new.taken result) (sym is.ended_is)
+        (halted_reported memory means given reported_end start unused there out new s.text answer result is.wrote ends
+        halted))

@@ -21,6 +21,3 @@ pub enum ToolFault {
     #[error("lislink: K5")]
     TooManyReads,
 }
-
-/// How many bytes of a run went out after a step, or why it stopped there.
-pub type Written = Result<u64, ToolFault>;

@@ -1,8 +1,7 @@
 //! What runs a command over any source and sink: a machine is fed with what is read, and what it writes goes out by way
-//! of an output buffer.
+//! of an output.
 #![tactic(auto)]
 
-mod buffering;
 mod digits;
 mod fault;
 mod machine;
@@ -12,10 +11,10 @@ mod ports;
 mod print;
 mod report;
 
-pub use buffering::make_room;
-pub use fault::{ToolFault, Written};
-pub use machine::{Closed, Fate, Halt, Machine, Turn, run};
-pub use output_buffer::{NUMBER_ROOM, OUTPUT_ROOM, OutputBuffer};
+pub use fault::ToolFault;
+pub use machine::{Machine, Stop, run};
+pub use output::Output;
+pub use output_buffer::{NUMBER_ROOM, OUTPUT_ROOM};
 pub use ports::SourceFor;
 pub use print::{CountsLine, Part, Print};
 pub use report::{Ended, Report, status_of};

@@ -1,45 +1,32 @@
-//! The form of all commands: a machine is fed with what a source gives, and writes to a sink.
+//! The form of all commands: a machine is fed with what a source gives, and writes to an output.
 
-ghost use Rattle.std.specs.Prelude.{◌≡◌, ◌+◌, ◌^◌, ◌<◌, ◌≤◌, ◌++◌, ℕ, Bool, true, false, List, [], length, is_err};
-ghost use Rattle.std.specs.Prelude.{IfOk};
-ghost use Rattle.std.specs.Io.KnownBytes.{Keeps};
+ghost use Rattle.std.specs.Prelude.{◌≡◌, ◌+◌, ◌^◌, ◌<◌, ◌≤◌, ◌++◌, ◌↔◌, ℕ, Bool, true, false, List, [], length, is_err};
+ghost use Rattle.std.specs.Prelude.{IfErr, IfOk, IsTrue, MatchResult, Ok, OnOk};
+ghost use Rattle.std.specs.Io.KnownBytes.{ReadConsumes};
 ghost use Rattle.lis_engine.specs.Outcome.{Outcome, going};
-ghost use Rattle.lis_engine.specs.Output.{out};
+ghost use Rattle.lis_engine.specs.Output.{IsLeft, IsWorking, WentOn};
 ghost use Rattle.lis_engine.specs.Runs.{EachGave, IsFresh, Ran, StopsBy};
-ghost use Rattle.lis_engine.specs.Steps.{Ends, Steps};
-ghost use Rattle.lis_engine.specs.inside.Steps.{IsAnswered};
-ghost use Rattle.lis_engine.specs.declared.machine.Halt.{Halt};
-ghost use Rattle.lis_engine.specs.declared.machine.Turn.TheVariants.{Off};
+ghost use Rattle.lis_engine.specs.Steps.{Ends, IsLeftAt, Steps, ended_by};
+ghost use Rattle.lis_engine.specs.inside.Output.{IsUnused, Unsent};
+ghost use Rattle.lis_engine.specs.inside.Reads.{read_room};
+ghost use Rattle.lis_engine.specs.inside.Steps.{IsEnded, IsHalted};
 
-use crate::buffering::{read_settled, send_buffer_before_a_wait};
 use crate::fault::ToolFault;
-use crate::output::send;
-use crate::output_buffer::OutputBuffer;
-use crate::report::Ended;
-use lis_port::{Failed, Sink, Source};
+use crate::output::Output;
+use crate::report::{Ended, Report};
+use lis_port::{Failed, Sink, Source, read_sent};
 
 /// The most bytes that are read at a time.
 const ROOM: usize = 4096;
 
-/// How a run halts, and how many bytes of it went out.
+/// Why a command takes no more of its input.
 #[derive(Clone, Copy)]
-pub struct Halt<F> {
-    pub written: u64,
-    pub result: Ended<F>,
+pub enum Stop<F> {
+    /// It came to a fault.
+    Fault(ToolFault),
+    /// It rejected input, and reports that.
+    Refused(Report<F>),
 }
-
-/// What becomes of a run after a step: it goes on, after so many bytes, or halts.
-#[derive(Clone, Copy)]
-pub enum Turn<F> {
-    On(u64),
-    Off(Halt<F>),
-}
-
-/// What becomes of a run after a step, or why it stopped there.
-pub type Fate<F> = Result<Turn<F>, ToolFault>;
-
-/// How a run halts at the end of its input, or why it stopped there.
-pub type Closed<F> = Result<Halt<F>, ToolFault>;
 
 /// A command. It is fed with the bytes that are read, and writes what they give. `F` says why it rejects
 /// input.
@@ -47,7 +34,7 @@ pub trait Machine<F>: Drop {
     // What bytes give, from the first on, where the end of the input was reported or wasn't.
     ghost means: { List ℕ → Bool → Outcome F → Type 0 };
 
-    // It represents these bytes, for which this text went out.
+    // It represents these bytes, for which this text was put.
     ghost represents: { Self → List ℕ → List ℕ → Type 0 };
 
     // Whether it may want memory.
@@ -59,31 +46,24 @@ pub trait Machine<F>: Drop {
     // Whether it may reject input, and end the run there.
     ghost refuses: { Bool };
 
-    /// Takes bytes that were read, after `written` bytes of the run, and buffers what they give in the output buffer.
-    /// Where the sink fails, or memory runs out, it is a part of the text of all these bytes.
-    fn feed<W: Sink>(
-        &mut self,
-        sink: &mut W,
-        outgoing: &mut OutputBuffer,
-        written: u64,
-        bytes: &[u8],
-    ) -> Fate<F>
-        requires { W.failed sink.old ≡ false }
+    /// Takes bytes that were read, and puts what they give. Where the sink fails, or memory runs out, that is a part of
+    /// the text of all these bytes.
+    fn feed<W: Sink>(&mut self, bytes: &[u8], out: &mut Output<'_, W>) -> Result<(), Stop<F>>
+        requires { IsWorking out.old }
         ensures steps { (past text : List ℕ) → represents self.old past text → length past + length bytes.now < 2 ^ 44 →
             Steps refuses takes_memory (represents self.new (past ++ bytes.now)) (means (past ++ bytes.now) false)
-            (out (W.taken sink.old) outgoing.old) (out (W.taken sink.new) outgoing.new) written text result }
-        ensures failed { W.failed sink.new ≡ is_err result };
+            out.old out.new text result }
+        ensures left { IsLeftAt result out.new }
+        ensures same { out.new.sink ≡ out.old.sink };
 
     /// Takes the end of the input.
-    fn end<W: Sink>(self, sink: &mut W, outgoing: &mut OutputBuffer, written: u64) -> Closed<F>
-        requires { W.failed sink.old ≡ false }
+    fn end<W: Sink>(self, out: &mut Output<'_, W>) -> Ended<F>
+        requires { IsWorking out.old }
         ensures ends { (past text : List ℕ) → represents self past text → length past < 2 ^ 44 →
-            Ends takes_memory (means past true) (out (W.taken sink.old) outgoing.old)
-            (out (W.taken sink.new) outgoing.new)
-            written text result }
-        ensures failed { W.failed sink.new ≡ is_err result }
-        ensures silent { closes ≡ false → (is_err result ≡ false) × (W.sent sink.new ≡ W.sent sink.old)
-            × (W.taken sink.new ≡ W.taken sink.old) × (outgoing.new ≡ outgoing.old) };
+            Ends takes_memory (means past true) out.old out.new text result }
+        ensures left { IsLeft result out.new }
+        ensures same { out.new.sink ≡ out.old.sink }
+        ensures silent { closes ≡ false → (is_err result ≡ false) × (out.new ≡ out.old) };
 
     /// Whether it may write at the end of the input.
     fn closes(&self) -> bool
@@ -99,7 +79,6 @@ pub trait Machine<F>: Drop {
 /// Feeds a machine with what a source gives, to its end, by at most `reads` calls of read, each with room for 4,096
 /// bytes. All text goes out before each that may wait for bytes, so that no line waits with it, and where the run ends.
 #[inline(never)]
-#[tactic(auto, using(crate::proofs::RunLaws::gave))]
 pub fn run<F: Copy, M: Machine<F>, R: Source, W: Sink>(
     machine: M,
     source: &mut R,
@@ -114,111 +93,131 @@ pub fn run<F: Copy, M: Machine<F>, R: Source, W: Sink>(
         (R.made source.new) (W.taken sink.new) (W.sent sink.new) (W.failed sink.new) reads }
     ensures each_gave { EachGave (R.left source.old) (R.left source.new) (R.made source.new) }
 {
+    let mut out = Output::new(sink);
+    let ended = run_to(machine, source, &mut out, reads);
+    let _sink = out.into_sink();
+    ended
+}
+
+/// The same, over an output for which nothing was put.
+#[inline(always)]
+#[tactic(auto, using(crate::proofs::RunLaws::gave))]
+fn run_to<F: Copy, M: Machine<F>, R: Source, W: Sink>(
+    machine: M,
+    source: &mut R,
+    out: &mut Output<'_, W>,
+    reads: u32,
+) -> Ended<F>
+    requires new { M.represents machine [] [] }
+    requires fresh { IsFresh (R.made source.old) (R.ended source.old) (R.failed source.old) out.old.failed }
+    requires unused { IsUnused out.old }
+    ensures same { out.new.sink ≡ out.old.sink }
+    ensures ran { Ran M.takes_memory M.means (R.left source.old) (R.left source.new) out.old.taken out.new.taken
+        (R.ended source.new) result }
+    ensures stops { StopsBy M.refuses M.closes result (R.left source.new) (R.ended source.new) (R.failed source.new)
+        (R.made source.new) out.new.taken out.new.sent out.new.failed reads }
+    ensures each_gave { EachGave (R.left source.old) (R.left source.new) (R.made source.new) }
+{
     let mut machine = machine;
     let mut buffer = [0; ROOM];
-    let mut outgoing = OutputBuffer::new();
-    let mut written = 0;
     for _turn in 0..reads {
-        match send_buffer_before_a_wait(source, sink, &mut outgoing, written) {
-            Ok(after) => written = after,
-            Err(fault) => return Err(fault),
-        }
-        let count = match read_settled(source, sink, &outgoing, &mut buffer) {
-            Ok(count) => count,
-            Err(Failed) => return Err(ToolFault::Read),
-        };
+        send_before_a_wait(source, out)?;
+        let count = read_settled(source, out, &mut buffer)?;
         if count == 0 {
-            let closes = machine.closes();
-            return match end_machine(machine, sink, &mut outgoing, written) {
-                Ok(halt) => halted(sink, halt, closes),
-                Err(fault) => Err(fault),
-            };
+            return close(machine, out);
         }
         let (given, _) = buffer.split_at(count);
-        match feed_machine(&mut machine, sink, &mut outgoing, written, given) {
-            Ok(Turn::On(after)) => written = after,
-            Ok(Turn::Off(halt)) => return halted(sink, halt, true),
-            Err(fault) => return Err(fault),
+        match machine.feed(given, out) {
+            Ok(()) => {}
+            Err(stop) => return halted(out, end_of(stop)),
         }
     }
-    match outgoing.send_buffer(sink, written) {
-        Ok(_) => Err(ToolFault::TooManyReads),
-        Err(fault) => Err(fault),
-    }
+    out.send()?;
+    Err(ToolFault::TooManyReads)
 }
 
-/// Feeds a machine with bytes, and puts out what they give where that halts the run.
-fn feed_machine<F: Copy, M: Machine<F>, W: Sink>(
-    machine: &mut M,
-    sink: &mut W,
-    outgoing: &mut OutputBuffer,
-    written: u64,
-    bytes: &[u8],
-) -> Fate<F>
-    requires { W.failed sink.old ≡ false }
-    ensures steps { (past text : List ℕ) → M.represents machine.old past text → length past + length bytes.now < 2 ^ 44
-        →
-        Steps M.refuses M.takes_memory (M.represents machine.new (past ++ bytes.now))
-        (M.means (past ++ bytes.now) false)
-        (out (W.taken sink.old) outgoing.old) (out (W.taken sink.new) outgoing.new) written text result }
-    ensures empty { IfOk result (λ turn. (halt : Halt F) → turn ≡ Off halt → outgoing.new ≡ []) }
-    ensures failed { W.failed sink.new ≡ is_err result }
+/// Sends on all that was put, where the next read of a source may wait for bytes.
+#[inline(always)]
+fn send_before_a_wait<R: Source, W: Sink>(
+    source: &R,
+    out: &mut Output<'_, W>,
+) -> Result<(), ToolFault>
+    requires { IsWorking out.old }
+    ensures put { OnOk result (WentOn out.old out.new []) }
+    ensures sent { OnOk result (R.may_wait source.now ≡ true → out.new.sent ≡ out.new.taken) }
+    ensures empty { OnOk result (R.may_wait source.now ≡ true → out.new.waits ≡ []) }
+    ensures err { IfErr result (λ fault. Unsent out.old out.new fault) }
 {
-    match machine.feed(sink, outgoing, written, bytes) {
-        Ok(Turn::On(after)) => Ok(Turn::On(after)),
-        Ok(Turn::Off(halt)) => match outgoing.put_buffer(sink, halt.written) {
-            Ok(written) => Ok(Turn::Off(Halt {
-                written,
-                result: halt.result,
-            })),
-            Err(fault) => Err(fault),
-        },
-        Err(fault) => Err(fault),
+    if source.may_wait() {
+        return out.send();
+    }
+    Ok(())
+}
+
+/// Reads from a source that has not failed, with room for 4,096 bytes: where the read may wait, all that was put is
+/// sent on.
+#[inline(always)]
+fn read_settled<R: Source, W: Sink>(
+    source: &mut R,
+    out: &Output<'_, W>,
+    buffer: &mut [u8],
+) -> Result<usize, ToolFault>
+    requires unfailed { R.failed source.old ≡ false }
+    requires room { length buffer.old ≡ read_room }
+    requires countable { R.made source.old < 4294967295 }
+    requires sent { R.may_wait source.old ≡ true → out.now.sent ≡ out.now.taken }
+    requires empty { R.may_wait source.old ≡ true → out.now.waits ≡ [] }
+    ensures bound { IfOk result (λ n. n ≤ length buffer.new) }
+    ensures bytes { ReadConsumes (R.left source.old) (R.left source.new) result buffer.new }
+    ensures made { R.made source.new ≡ R.made source.old + 1 }
+    ensures failed { R.failed source.new ≡ is_err result }
+    ensures ended { IsTrue (R.ended source.new) ↔ (result ≡ Ok 0) }
+    ensures ready { R.may_wait source.old ≡ false → MatchResult result (λ n. 0 < n) (λ _. ⊥) }
+    ensures fault { IfErr result (λ fault. fault ≡ ToolFault.Read) }
+{
+    match read_sent(source, out.sink(), buffer) {
+        Ok(count) => Ok(count),
+        Err(Failed) => Err(ToolFault::Read),
     }
 }
 
-/// Gives a machine the end of the input, and puts out what it writes there.
-fn end_machine<F: Copy, M: Machine<F>, W: Sink>(
-    machine: M,
-    sink: &mut W,
-    outgoing: &mut OutputBuffer,
-    written: u64,
-) -> Closed<F>
-    requires working { W.failed sink.old ≡ false }
-    requires empty { outgoing.old ≡ [] }
-    ensures ends { (past text : List ℕ) → M.represents machine past text → length past < 2 ^ 44 →
-        Ends M.takes_memory (M.means past true) (out (W.taken sink.old) []) (out (W.taken sink.new) []) written text
-        result }
-    ensures failed { W.failed sink.new ≡ is_err result }
-    ensures silent { M.closes ≡ false → (is_err result ≡ false) × (W.sent sink.new ≡ W.sent sink.old)
-        × (W.taken sink.new ≡ W.taken sink.old) }
+/// Gives a machine the end of the input, at which all that was put is sent on.
+fn close<F: Copy, M: Machine<F>, W: Sink>(machine: M, out: &mut Output<'_, W>) -> Ended<F>
+    requires working { IsWorking out.old }
+    requires empty { out.old.waits ≡ [] }
+    requires sent { out.old.sent ≡ out.old.taken }
+    ensures ended { (past text : List ℕ) → M.represents machine past text → length past < 2 ^ 44 →
+        IsEnded M.takes_memory (M.means past true) out.old out.new text result }
+    ensures same { out.new.sink ≡ out.old.sink }
+    ensures silent { M.closes ≡ false → out.new.failed ≡ false }
 {
     let closes = machine.closes();
-    match machine.end(sink, outgoing, written) {
-        Ok(halt) if closes => match outgoing.put_buffer(sink, halt.written) {
-            Ok(written) => Ok(Halt {
-                written,
-                result: halt.result,
-            }),
-            Err(fault) => Err(fault),
-        },
-        Ok(halt) => Ok(halt),
-        Err(fault) => Err(fault),
+    let ended = machine.end(out);
+    if closes {
+        return halted(out, ended);
+    }
+    ended
+}
+
+/// How a run ends whose command takes no more input.
+fn end_of<F: Copy>(stop: Stop<F>) -> Ended<F>
+    ensures { result ≡ ended_by stop }
+{
+    match stop {
+        Stop::Fault(fault) => Err(fault),
+        Stop::Refused(report) => Ok(report),
     }
 }
 
-/// Sends on what went out, where the last step may have written, and answers how the run ended.
-fn halted<F: Copy, W: Sink>(sink: &mut W, halt: Halt<F>, wrote: bool) -> Ended<F>
-    requires { W.failed sink.old ≡ false }
-    ensures taken { Keeps (W.taken sink.old) (W.taken sink.new) }
-    ensures reported { IsAnswered halt result (W.failed sink.new) }
-    ensures sent { wrote ≡ true → W.failed sink.new ≡ false → W.sent sink.new ≡ W.taken sink.new }
-    ensures silent { wrote ≡ false → (W.failed sink.new ≡ false) × (W.sent sink.new ≡ W.sent sink.old)
-        × (W.taken sink.new ≡ W.taken sink.old) }
+/// What waits goes out where a run ends, unless its sink failed; and how it ended.
+fn halted<F: Copy, W: Sink>(out: &mut Output<'_, W>, ended: Ended<F>) -> Ended<F>
+    requires { IsLeft ended out.old }
+    ensures halted { IsHalted ended out.old out.new result }
+    ensures same { out.new.sink ≡ out.old.sink }
 {
-    if !wrote {
-        return halt.result;
+    if let Err(ToolFault::Write { written: _ }) = ended {
+        return ended;
     }
-    send(sink, halt.written)?;
-    halt.result
+    out.send()?;
+    ended
 }

@@ -1,14 +1,11 @@
-//! What has a text, and how it's buffered in an output buffer.
+//! What has a text, and how it is put.
 
-ghost use Rattle.std.specs.Prelude.{◌≡◌, ◌++◌, ◌∷◌, [], ℕ, List, codes, decimal, false, is_err};
-ghost use Rattle.hex.specs.Hex.{encode_lower};
-ghost use Rattle.lis_engine.specs.Output.{IsBuffered, out};
+ghost use Rattle.std.specs.Prelude.{◌≡◌, ◌++◌, ◌∷◌, [], ℕ, List, codes, decimal};
+ghost use Rattle.lis_engine.specs.Output.{IsPut, IsWorking};
 ghost use Rattle.lis_engine.specs.Parts.{joined, part_text, parts_text, text_if_any};
 
-use crate::buffering::{CHUNK, buffer_chunk, make_room};
-use crate::fault::Written;
-use crate::output::put;
-use crate::output_buffer::{NUMBER_ROOM, OutputBuffer};
+use crate::fault::ToolFault;
+use crate::output::Output;
 use lis_port::Sink;
 
 /// What has a text.
@@ -16,24 +13,21 @@ pub trait Print {
     // Its text.
     ghost text: { Self → List ℕ };
 
-    /// Buffers the text, after `written` bytes of the run.
-    fn print<W: Sink>(&self, sink: &mut W, outgoing: &mut OutputBuffer, written: u64) -> Written
-        requires { W.failed sink.old ≡ false }
-        ensures buffered { IsBuffered (out (W.taken sink.old) outgoing.old) (out (W.taken sink.new) outgoing.new)
-            written result
-            (text self.now) }
-        ensures failed { W.failed sink.new ≡ is_err result };
+    /// Puts the text.
+    fn print<W: Sink>(&self, out: &mut Output<'_, W>) -> Result<(), ToolFault>
+        requires { IsWorking out.old }
+        ensures { IsPut out.old out.new result (text self.now) };
 }
 
-/// Where there is nothing, nothing is reported.
+/// Where there is nothing, nothing is put.
 impl<T: Print> Print for Option<T> {
     ghost text = { text_if_any T.text };
 
     #[inline(always)]
-    fn print<W: Sink>(&self, sink: &mut W, outgoing: &mut OutputBuffer, written: u64) -> Written {
+    fn print<W: Sink>(&self, out: &mut Output<'_, W>) -> Result<(), ToolFault> {
         match self {
-            None => Ok(written),
-            Some(it) => it.print(sink, outgoing, written),
+            None => Ok(()),
+            Some(it) => it.print(out),
         }
     }
 }
@@ -43,8 +37,8 @@ impl<T: Print> Print for &T {
     ghost text = { λ it. T.text it.now };
 
     #[inline(always)]
-    fn print<W: Sink>(&self, sink: &mut W, outgoing: &mut OutputBuffer, written: u64) -> Written {
-        T::print(self, sink, outgoing, written)
+    fn print<W: Sink>(&self, out: &mut Output<'_, W>) -> Result<(), ToolFault> {
+        T::print(self, out)
     }
 }
 
@@ -53,12 +47,11 @@ impl<A: Print, B: Print> Print for (A, B) {
     ghost text = { λ both. A.text both.0 ++ B.text both.1 };
 
     #[inline(always)]
-    fn print<W: Sink>(&self, sink: &mut W, outgoing: &mut OutputBuffer, written: u64) -> Written {
+    #[tactic(auto, using(crate::proofs::OutputLaws::put_on))]
+    fn print<W: Sink>(&self, out: &mut Output<'_, W>) -> Result<(), ToolFault> {
         let (first, second) = self;
-        match first.print(sink, outgoing, written) {
-            Ok(after) => second.print(sink, outgoing, after),
-            Err(fault) => Err(fault),
-        }
+        first.print(out)?;
+        second.print(out)
     }
 }
 
@@ -73,59 +66,16 @@ pub enum Part<'a> {
     Digits(&'a [u8]),
 }
 
-/// A text that there is no room for goes out by itself.
 impl Print for Part<'_> {
     ghost text = { part_text };
 
     #[inline(always)]
-    fn print<W: Sink>(&self, sink: &mut W, outgoing: &mut OutputBuffer, written: u64) -> Written {
+    fn print<W: Sink>(&self, out: &mut Output<'_, W>) -> Result<(), ToolFault> {
         match self {
-            Part::Text(text) => {
-                if text.len() <= outgoing.room() {
-                    outgoing.append(text);
-                    return Ok(written);
-                }
-                match outgoing.put_buffer(sink, written) {
-                    Ok(after) => put(sink, after, text),
-                    Err(fault) => Err(fault),
-                }
-            }
-            Part::Number(number) => {
-                let after = match make_room(sink, outgoing, written, NUMBER_ROOM) {
-                    Ok(after) => after,
-                    Err(fault) => return Err(fault),
-                };
-                outgoing.append_number(*number);
-                Ok(after)
-            }
-            Part::Digits(bytes) => HexDigits { bytes: *bytes }.print(sink, outgoing, written),
+            Part::Text(text) => out.put(text),
+            Part::Number(number) => out.put_number(*number),
+            Part::Digits(bytes) => out.put_digits(bytes),
         }
-    }
-}
-
-/// Bytes in pairs of hexadecimal digits.
-#[derive(Clone, Copy)]
-struct HexDigits<'a> {
-    bytes: &'a [u8],
-}
-
-/// A chunk of them at a time.
-impl Print for HexDigits<'_> {
-    ghost text = { λ digits. encode_lower digits.bytes.now };
-
-    #[inline(always)]
-    fn print<W: Sink>(&self, sink: &mut W, outgoing: &mut OutputBuffer, written: u64) -> Written {
-        let mut rest = self.bytes;
-        let mut after = written;
-        while rest.len() > CHUNK {
-            let (front, left) = rest.split_at(CHUNK);
-            match buffer_chunk(sink, outgoing, after, front) {
-                Ok(next) => after = next,
-                Err(fault) => return Err(fault),
-            }
-            rest = left;
-        }
-        buffer_chunk(sink, outgoing, after, rest)
     }
 }
 
@@ -133,16 +83,12 @@ impl Print for HexDigits<'_> {
 impl Print for &[Part<'_>] {
     ghost text = { λ parts. parts_text parts.now };
 
-    fn print<W: Sink>(&self, sink: &mut W, outgoing: &mut OutputBuffer, written: u64) -> Written {
+    fn print<W: Sink>(&self, out: &mut Output<'_, W>) -> Result<(), ToolFault> {
         let parts = *self;
-        let mut after = written;
         for part in parts {
-            match part.print(sink, outgoing, after) {
-                Ok(count) => after = count,
-                Err(fault) => return Err(fault),
-            }
+            part.print(out)?;
         }
-        Ok(after)
+        Ok(())
     }
 }
 
@@ -159,14 +105,12 @@ impl Print for CountsLine {
     ghost text = { λ it. joined (it.word.now ∷ decimal it.count ∷ it.other_word.now ∷ decimal it.other_count
         ∷ codes "\n" ∷ []) };
 
-    fn print<W: Sink>(&self, sink: &mut W, outgoing: &mut OutputBuffer, written: u64) -> Written {
-        let parts = [
-            Part::Text(self.word),
-            Part::Number(self.count),
-            Part::Text(self.other_word),
-            Part::Number(self.other_count),
-            Part::Text(b"\n"),
-        ];
-        parts.as_slice().print(sink, outgoing, written)
+    #[tactic(auto, using(crate::proofs::OutputLaws::put_on, crate::proofs::OutputLaws::breaks_on))]
+    fn print<W: Sink>(&self, out: &mut Output<'_, W>) -> Result<(), ToolFault> {
+        out.put(self.word)?;
+        out.put_number(self.count)?;
+        out.put(self.other_word)?;
+        out.put_number(self.other_count)?;
+        out.put(b"\n")
     }
 }

@@ -24,8 +24,8 @@ pub fn safe_both_ways_late()
 {}
 
 /// Each of these ENQ needs such a rule: some session is not safe if either rule is kept for those of starts alone
-/// (`waits`), for those after a wait alone (`starts`), or for all but those after NAK (`nak`): what came as NAK may have
-/// been the other side's ENQ.
+/// (`waits`), for those after a wait alone (`starts`), or for all but those after NAK (`nak`): what came as NAK may
+/// have been the other side's ENQ.
 pub fn unsafe_on_old_lines()
     ensures waits { UnsafeFor on_each_start 240 }
     ensures starts { UnsafeFor on_each_wait 240 }

@@ -2,7 +2,9 @@
 use Rattle.std.proofs.Common.{◌≡◌, ℕ, ◌+◌, ◌<◌, ◌≤◌, ◌^◌, Bool, true, false, List, [], ◌∷◌, ◌++◌, Option}
 use Rattle.std.proofs.Common.{None, Some, length, refl}
 use Rattle.std.proofs.Common.{sym, ◌∙◌, ap, arith, append-nil, append_assoc, length-append, nat_lt}
-use Rattle.std.proofs.Common.{not, ◌&&◌, if◌then◌else◌}
+use Rattle.std.proofs.Common.{not, ◌&&◌, if◌then◌else◌, subst}
+use Rattle.std.specs.Prelude.{IfOk}
+use Rattle.std.specs.declared.result.Result.{Result}
 use Rattle.std.proofs.lemmas.Grind.{flat_map-append}
 use Rattle.std.specs.List.{flat_map}
 use Rattle.std.specs.Option.{option_to_list}
@@ -20,13 +22,16 @@ use Rattle.lis_tree.specs.Tree.{MessageTree, flatten}
 use Rattle.lis_report.specs.Codes.{refused_line}
 use Rattle.lis_report.specs.declared.refused.Refused.{Refused}
 use Rattle.lis_report.specs.Answers.{Report}
+use Rattle.lis_engine.specs.Output.{IsPut, Out}
 use Rattle.lis_engine.specs.Parts.{text_if_any}
-use Rattle.lis_record_commands.specs.Check.{check_writes, finding_count, finding_line, message_line, record_line}
-use Rattle.lis_record_commands.specs.Check.{record_lines, sums_line}
+use Rattle.lis_engine.specs.Steps.{LineSteps}
+use Rattle.lis_engine.specs.declared.fault.ToolFault.{ToolFault}
+use Rattle.lis_record_commands.specs.Check.{check_message, check_writes, finding_count, finding_line, message_line}
+use Rattle.lis_record_commands.specs.Check.{record_line, record_lines, sums_line}
 use Rattle.lis_record_commands.specs.inside.Check.{IsChecking}
 use Rattle.lis_record_commands.specs.Messages.{record_count, report_after, whole_begun, with_record}
 use Rattle.lis_record_values.specs.declared.faults.MessageFault.{MessageFault}
-use Rattle.lis_record_commands.proofs.MessageLaws.{record_count-append}
+use Rattle.lis_record_commands.proofs.MessageLaws.{messages_few, put_steps, record_count-append}
 
 one_at_most : (b : Bool) (f : Finding) → length (let fs : List Finding = if b then f ∷ [] else [] in fs) ≤ 1
 one_at_most true f = omega arith
@@ -112,15 +117,24 @@ checking_on records findings numbering next found reported messages left entry p
     }
 
 -- what waits of a whole message is its text
-pub check_text :
-    (records findings : List ℕ) (numbering : Numbering) (found reported before : ℕ) (messages : List MessageTree)
-    (m : MessageTree)
-    → IsChecking records findings numbering found reported messages (whole_begun m)
-    → message_line before ++ records ++ findings
-    ≡ message_line before ++ record_lines 1 (flatten m) ++ flat_map finding_line (findings_of m)
-check_text records findings numbering found reported before messages m is =
-    ap (λ (l : List ℕ). message_line before ++ l ++ findings) is.record_lines_are
-    ∙ ap (λ (l : List ℕ). message_line before ++ record_lines 1 (flatten m) ++ l) is.finding_lines_are
+pub check_put :
+    {records findings : List ℕ} {numbering : Numbering} {found reported : ℕ} (messages : List MessageTree)
+    (m : MessageTree) (before number : ℕ) (P : Type 0) (a b : Out) (result : Result Unit ToolFault)
+    → IsChecking records findings numbering found reported messages (whole_begun m) → before ≡ length messages
+    → record_count (messages ++ m ∷ []) < 2 ^ 44 → (before < 2 ^ 44 → number ≡ before + 1)
+    → IsPut a b result (message_line number ++ records ++ findings) → IfOk result (λ done. P)
+    → LineSteps false P a b (check_message (length messages) m) result
+check_put {records} {findings} messages m before number P a b result is counted few adds put represented =
+    let short : before < 2 ^ 44 =
+    omega (arith, counted, few, messages_few (messages ++ m ∷ []), length-append messages (m ∷ [])) in
+    let number_is : number ≡ length messages + 1 = adds short ∙ ap (λ (n : ℕ). n + 1) counted in
+    put_steps P a b (check_message (length messages) m) result
+    (subst (λ (t : List ℕ). IsPut a b result t)
+    (ap (λ (n : ℕ). message_line n ++ records ++ findings) number_is
+    ∙ ap (λ (l : List ℕ). message_line (length messages + 1) ++ l ++ findings) is.record_lines_are
+    ∙ ap (λ (l : List ℕ). message_line (length messages + 1) ++ record_lines 1 (flatten m) ++ l) is.finding_lines_are)
+    put)
+    represented
 
 -- the line of what a report rejects, and the sums after it, are the last lines
 pub check_last :

@@ -2,6 +2,7 @@
 use Rattle.std.proofs.Common.{◌≡◌, ℕ, ◌+◌, ◌≤◌, Bool, true, false, List, [], ◌∷◌, ◌++◌, Option, None, Some, Ok, Err}
 use Rattle.std.proofs.Common.{length, refl, sym, ◌∙◌, ap, subst, inl, inr, arith, append-nil, append_assoc}
 use Rattle.std.proofs.Common.{length-append}
+use Rattle.std.specs.Prelude.{IfOk}
 use Rattle.std.specs.declared.result.Result.{Result}
 use Rattle.std.specs.List.{AllZip, flat_map}
 use Rattle.lis_record_values.specs.Delimiters.{DelimiterBytes}
@@ -15,10 +16,10 @@ use Rattle.lis_message.specs.Feeding.{answer_at_end, StopsReading}
 use Rattle.lis_message.specs.Stream.{IsSplit, IsRefused, AreLeft, AreMessage, ended}
 use Rattle.lis_message.specs.Taking.{records_of}
 use Rattle.lis_engine.specs.declared.fault.ToolFault.{ToolFault}
-use Rattle.lis_report.specs.inside.Answers.{Halt}
-use Rattle.lis_engine.specs.Steps.{LineEnds, Halts, IsEarly, Puts, Ends}
-use Rattle.lis_engine.specs.Output.{IsBuffered, Out}
-use Rattle.lis_engine.proofs.BufferLaws.{buffered_then}
+use Rattle.lis_engine.specs.declared.fault.ToolFault.TheVariants.{CaptureLine, Read, Write, OutOfMemory, TooManyReads}
+use Rattle.lis_engine.specs.Output.{IsPut, Out}
+use Rattle.lis_engine.specs.Steps.{Ends, LineEnds, LineSteps}
+use Rattle.lis_report.specs.Answers.{Report}
 use Rattle.lis_record_commands.specs.Messages.{MessageWrites, messages_text, whole_outcome, record_count, report_after}
 use Rattle.lis_record_commands.specs.Messages.{RunGives}
 
@@ -108,63 +109,47 @@ pub is_refused : (stream : List ℕ) (messages : List MessageTree) (fault : Mess
 is_refused stream messages fault (inl starved) other = absurd (other starved.why)
 is_refused stream messages fault (inr stop) other = stop
 
+-- ---- what is put
+
+-- a text that was put, or could not be
+pub put_steps : (P : Type 0) (a b : Out) (text : List ℕ) (result : Result Unit ToolFault) → IsPut a b result text
+    → IfOk result (λ done. P) → LineSteps false P a b text result
+put_steps P a b text (Ok done) put is = (put, is)
+put_steps P a b text (Err (Write written)) broke is = broke
+put_steps P a b text (Err (CaptureLine line)) broke is = broke.part
+put_steps P a b text (Err OutOfMemory) broke is = absurd broke.part
+put_steps P a b text (Err Read) broke is = broke.part
+put_steps P a b text (Err TooManyReads) broke is = broke.part
+
 -- ---- the end
 
--- the command said about the end
+-- the command said so at the end
 pub ends_through :
-    (w : MessageWrites) (bytes : List ℕ) (at_end' : Bool) (a b c : Out) (before middle : ℕ) (start more : List ℕ)
-    (messages : List MessageTree) (fault : Option MessageFault)
-    (result : Result Halt ToolFault) → RunGives w bytes at_end' (whole_outcome w messages fault)
-    → start ++ more ≡ messages_text w 0 messages → IsBuffered a b before (Ok middle) more
-    → LineEnds (report_after w messages fault) b c middle (w.last messages fault) result
-    → Ends true (RunGives w bytes at_end') a c before start result
-ends_through w bytes at_end' a b c before middle start more messages fault (Ok halt) comes text_is put (halt_is, last) =
+    (w : MessageWrites) (bytes : List ℕ) (at_end' : Bool) (a b : Out) (text : List ℕ) (messages : List MessageTree)
+    (fault : Option MessageFault) (result : Result Report ToolFault)
+    → RunGives w bytes at_end' (whole_outcome w messages fault) → text ≡ messages_text w 0 messages
+    → LineEnds (report_after w messages fault) a b (w.last messages fault) result
+    → Ends true (RunGives w bytes at_end') a b text result
+ends_through w bytes at_end' a b text messages fault (Ok report) comes text_is (said, put) =
     record {
-      more = more ++ w.last messages fault;
-      put = buffered_then a b c before middle (Ok halt.written) more _ put last;
-      following = rw halt_is (
-        whole_outcome w messages fault,
-        comes,
-        refl,
-        ap (λ (t : List ℕ). t ++ w.last messages fault) (sym text_is) ∙ append_assoc start more _,
-      );
+      more = w.last messages fault;
+      put = put;
+      following = rw said
+          (whole_outcome w messages fault, comes, refl, ap (λ (t : List ℕ). t ++ w.last messages fault) (sym text_is));
     }
-ends_through w bytes at_end' a b c before middle start more messages fault (Err stop) comes text_is put last =
+ends_through w bytes at_end' a b text messages fault (Err (Write written)) comes text_is broke =
     record {
       outcome = whole_outcome w messages fault;
       meant = comes;
-      more = more ++ w.last messages fault;
+      more = w.last messages fault;
       rest = [];
-      joined =
-          ap (λ (t : List ℕ). t ++ w.last messages fault) (sym text_is) ∙ append_assoc start more _
-          ∙ sym (append-nil _);
-      put = buffered_then a b c before middle (Err stop) more _ put last;
+      joined = ap (λ (t : List ℕ). t ++ w.last messages fault) (sym text_is) ∙ sym (append-nil _);
+      broke = broke;
     }
-
--- the same of a rejected record
-pub refuses_through :
-    (w : MessageWrites) (bytes : List ℕ) (a b c : Out) (before middle : ℕ) (start more : List ℕ)
-    (messages : List MessageTree) (fault : MessageFault)
-    (halt : Halt) → RunGives w bytes false (whole_outcome w messages (Some fault))
-    → start ++ more ≡ messages_text w 0 messages
-    → IsBuffered a b before (Ok middle) more
-    → LineEnds (report_after w messages (Some fault)) b c middle (w.last messages (Some fault)) (Ok halt)
-    → Puts (λ all. Halts true (RunGives w bytes false) all halt.result × IsEarly true halt.result) a c before
-    halt.written start
-refuses_through w bytes a b c before middle start more messages fault halt comes text_is put (halt_is, last) =
-    record {
-      more = more ++ w.last messages (Some fault);
-      put = buffered_then a b c before middle (Ok halt.written) more _ put last;
-      following = rw halt_is (
-        (
-          whole_outcome w messages (Some fault),
-          comes,
-          refl,
-          ap (λ (t : List ℕ). t ++ w.last messages (Some fault)) (sym text_is) ∙ append_assoc start more _,
-        ),
-        refl,
-      );
-    }
+ends_through w bytes at_end' a b text messages fault (Err (CaptureLine line)) comes text_is broke = absurd broke.part
+ends_through w bytes at_end' a b text messages fault (Err OutOfMemory) comes text_is broke = absurd broke.part
+ends_through w bytes at_end' a b text messages fault (Err Read) comes text_is broke = absurd broke.part
+ends_through w bytes at_end' a b text messages fault (Err TooManyReads) comes text_is broke = absurd broke.part
 
 pub nothing_left : (left : Option Begun) (held : List ℕ) → answer_at_end left held ≡ Ok tt → (left ≡ None) × (held ≡ [])
 nothing_left None [] e = (refl, refl)

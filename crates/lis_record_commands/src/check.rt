@@ -1,18 +1,16 @@
 //! The command `check`: messages, their records and what is to be looked at in them (LIS02-A2).
 
-ghost use Rattle.std.specs.Prelude.{◌≡◌, ◌^◌, ◌<◌, ◌≤◌, ◌++◌, [], List, None, OnOk, true, false, is_err, length, IfOk};
+ghost use Rattle.std.specs.Prelude.{◌≡◌, ◌<◌, ◌≤◌, ◌++◌, [], None, OnOk, true, IfOk};
 ghost use Rattle.lis_engine.specs.Runs.{AreFresh, Stops, ports};
-ghost use Rattle.lis_record_commands.specs.Check.{check_writes, finding_count, finding_line, message_line, record_line};
+ghost use Rattle.lis_record_commands.specs.Check.{check_writes, finding_line, record_line};
 ghost use Rattle.lis_record_commands.specs.inside.Check.{IsChecking};
 ghost use Rattle.lis_record_commands.specs.MessageRuns.{MessagesRan};
-ghost use Rattle.lis_record_commands.specs.Messages.{report_after};
-ghost use Rattle.lis_tree.specs.Tree.{MessageTree};
 
 use crate::held_text::HeldText;
-use crate::messages::{Closing, MessageMachine, report_following, run_messages};
-use lis_engine::{CountsLine, OutputBuffer, Part, Print, SourceFor, Written};
+use crate::messages::{MessageMachine, report_following, run_messages};
+use lis_engine::{CountsLine, Output, Part, Print, ToolFault};
 use lis_message::{BorrowedRecord, MessageFault};
-use lis_port::Sink;
+use lis_port::{Sink, Source};
 use lis_record_values::Kind;
 use lis_report::Ended;
 use lis_tree::{Finding, Numbering};
@@ -23,7 +21,7 @@ use std::alloc::{AllocError, Global};
 /// place and the reason; and a last line with the sums. The status is 1 where there is a finding or a rejection.
 ///
 /// The source was never read, and neither it nor the sink has failed.
-pub fn run_check<R: SourceFor<W>, W: Sink>(
+pub fn run_check<R: Source, W: Sink>(
     alloc: Global,
     source: &mut R,
     sink: &mut W,
@@ -88,53 +86,38 @@ impl MessageMachine for Check {
     }
 
     #[inline(never)]
-    fn message<W: Sink>(
-        &mut self,
-        sink: &mut W,
-        outgoing: &mut OutputBuffer,
-        written: u64,
-        before: u64,
-    ) -> Written {
+    fn message<W: Sink>(&mut self, before: u64, out: &mut Output<'_, W>) -> Result<(), ToolFault> {
         let number = before.saturating_add(1);
+        let line = (
+            (Part::Text(b"message "), Part::Number(number)),
+            Part::Text(b"\n"),
+        );
         let records = Part::Text(self.records.as_slice());
         let findings = Part::Text(self.findings.as_slice());
-        let result = ((FirstLine { number }, records), findings).print(sink, outgoing, written);
+        ((line, records), findings).print(out)?;
         self.findings_reported = self.findings_reported.saturating_add(self.found);
         self.found = 0;
         self.records.clear();
         self.findings.clear();
         self.numbering = Numbering::new();
-        result
+        Ok(())
     }
 
-    fn closing(&self, before: u64, fault: Option<MessageFault>) -> Closing {
+    fn end<W: Sink>(
+        &self,
+        before: u64,
+        fault: Option<MessageFault>,
+        out: &mut Output<'_, W>,
+    ) -> Ended {
+        let report = report_following(before, self.findings_reported > 0, fault);
         let sums = CountsLine {
             word: b"messages ",
             count: before,
             other_word: b" findings ",
             other_count: self.findings_reported,
         };
-        let report = report_following(before, self.findings_reported > 0, fault);
-        Closing {
-            report,
-            lines: (report.refused, Some(sums)),
-        }
-    }
-}
-
-/// The first line of the message of this number.
-#[derive(Clone, Copy)]
-struct FirstLine {
-    number: u64,
-}
-
-impl Print for FirstLine {
-    ghost text = { λ line. message_line line.number };
-
-    #[inline(always)]
-    fn print<W: Sink>(&self, sink: &mut W, outgoing: &mut OutputBuffer, written: u64) -> Written {
-        let number = (Part::Number(self.number), Part::Text(b"\n"));
-        (Part::Text(b"message "), number).print(sink, outgoing, written)
+        (report.refused, sums).print(out)?;
+        Ok(report)
     }
 }
 

@@ -8,5 +8,5 @@ pub mod results;
 
 pub use check::run_check;
 pub use lis_engine::{Machine, SourceFor, ToolFault, status_of};
-pub use lis_report::{Ended, Halt, Refused, Report, Turn};
+pub use lis_report::{Ended, Refused, Report, Stop};
 pub use results::run_results;

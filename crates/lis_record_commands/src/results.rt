@@ -1,21 +1,19 @@
 //! The command `results`: the result records of messages, with the samples that their orders name (LIS02-A2).
 
-ghost use Rattle.std.specs.Prelude.{◌≡◌, ◌^◌, ◌<◌, ◌≤◌, ◌++◌, ◌∷◌, List, Option, None, OnOk, true, length, IfOk};
+ghost use Rattle.std.specs.Prelude.{◌≡◌, ◌≤◌, ◌++◌, Option, None, OnOk, true, IfOk};
 ghost use Rattle.lis_record_values.specs.declared.kinds.Kind.TheVariants as kinds;
 ghost use Rattle.lis_record_values.specs.Shape.{Repeats};
 ghost use Rattle.lis_engine.specs.Runs.{AreFresh, Stops, ports};
 ghost use Rattle.lis_record_commands.specs.MessageRuns.{MessagesRan};
-ghost use Rattle.lis_record_commands.specs.Messages.{report_after};
 ghost use Rattle.lis_record_commands.specs.Results.{field_text, fields_following, result_line, results_writes};
 ghost use Rattle.lis_record_commands.specs.Results.{printed_fields};
 ghost use Rattle.lis_record_commands.specs.inside.Results.{HoldsResults};
-ghost use Rattle.lis_tree.specs.Tree.{MessageTree};
 
 use crate::held_text::HeldText;
-use crate::messages::{Closing, MessageMachine, report_following, run_messages};
-use lis_engine::{OutputBuffer, Part, Print, SourceFor, Written};
+use crate::messages::{MessageMachine, report_following, run_messages};
+use lis_engine::{Output, ToolFault};
 use lis_message::{BorrowedRecord, MessageFault};
-use lis_port::Sink;
+use lis_port::{Sink, Source};
 use lis_record_values::Kind;
 use lis_report::Ended;
 use std::alloc::{AllocError, Global};
@@ -25,7 +23,7 @@ use std::alloc::{AllocError, Global};
 /// message; the lines of the whole messages before it are written.
 ///
 /// The source was never read, and neither it nor the sink has failed.
-pub fn run_results<R: SourceFor<W>, W: Sink>(
+pub fn run_results<R: Source, W: Sink>(
     alloc: Global,
     source: &mut R,
     sink: &mut W,
@@ -80,24 +78,20 @@ impl MessageMachine for Results {
     }
 
     #[inline(never)]
-    fn message<W: Sink>(
-        &mut self,
-        sink: &mut W,
-        outgoing: &mut OutputBuffer,
-        written: u64,
-        _before: u64,
-    ) -> Written {
-        let result = Part::Text(self.lines.as_slice()).print(sink, outgoing, written);
+    fn message<W: Sink>(&mut self, _before: u64, out: &mut Output<'_, W>) -> Result<(), ToolFault> {
+        out.put(self.lines.as_slice())?;
         self.lines.clear();
         self.sample.clear();
-        result
+        Ok(())
     }
 
-    fn closing(&self, before: u64, fault: Option<MessageFault>) -> Closing {
-        Closing {
-            report: report_following(before, false, fault),
-            lines: (None, None),
-        }
+    fn end<W: Sink>(
+        &self,
+        before: u64,
+        fault: Option<MessageFault>,
+        _out: &mut Output<'_, W>,
+    ) -> Ended {
+        Ok(report_following(before, false, fault))
     }
 }
 

@@ -4,4 +4,4 @@
 mod refused;
 
 pub use lis_engine::{ToolFault, status_of};
-pub use refused::{Closed, Ended, Fate, Halt, Refused, Report, Turn, printed_reason};
+pub use refused::{Ended, Refused, Report, Stop, printed_reason};

@@ -3,7 +3,7 @@
 ghost use Rattle.std.specs.Prelude.{◌≡◌};
 ghost use Rattle.lis_report.specs.Codes.{printed_reason, refused_line};
 
-use lis_engine::{OutputBuffer, Part, Print, Written};
+use lis_engine::{Output, Part, Print, ToolFault};
 use lis_port::Sink;
 use lis_record_values::{MessageFault, Reason, RecordFault};
 use std::fmt;
@@ -23,17 +23,8 @@ pub type Report = lis_engine::Report<Refused>;
 /// How a command's run ended: with its report, or by a fault.
 pub type Ended = lis_engine::Ended<Refused>;
 
-/// How a command's run halts.
-pub type Halt = lis_engine::Halt<Refused>;
-
-/// What becomes of a command's run after a step.
-pub type Turn = lis_engine::Turn<Refused>;
-
-/// What becomes of a command's run after a step, or why it stopped there.
-pub type Fate = lis_engine::Fate<Refused>;
-
-/// How a command's run halts at the end of its input, or why it stopped there.
-pub type Closed = lis_engine::Closed<Refused>;
+/// Why a command takes no more of its input.
+pub type Stop = lis_engine::Stop<Refused>;
 
 impl fmt::Display for Refused {
     fn fmt<W: fmt::Write>(&self, f: &mut fmt::Formatter<W>) -> fmt::Result {
@@ -46,7 +37,7 @@ impl fmt::Display for Refused {
 impl Print for Refused {
     ghost text = { λ it. refused_line it.message it.fault };
 
-    fn print<W: Sink>(&self, sink: &mut W, outgoing: &mut OutputBuffer, written: u64) -> Written {
+    fn print<W: Sink>(&self, out: &mut Output<'_, W>) -> Result<(), ToolFault> {
         let parts = [
             Part::Text(b"refused "),
             Part::Number(self.message),
@@ -56,7 +47,7 @@ impl Print for Refused {
             Part::Text(printed_reason(self.fault.reason).as_bytes()),
             Part::Text(b"\n"),
         ];
-        parts.as_slice().print(sink, outgoing, written)
+        parts.as_slice().print(out)
     }
 }
 

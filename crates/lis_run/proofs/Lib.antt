@@ -4,4 +4,5 @@ pub mod LineLaws
 pub mod PlayingLaws
 mod ReplayRows
 pub mod ShowLaws
+pub mod StepLaws
 mod UpgradeRows

@@ -1,9 +1,8 @@
 -- A capture that is taken line by line.
 use Rattle.std.proofs.Common.{◌≡◌, ℕ, ◌+◌, ◌≤◌, ◌<◌, ◌^◌, ◌==◌, min, Bool, true, false, List, [], ◌∷◌, ◌++◌, Option}
-use Rattle.std.proofs.Common.{None, Some, Ok, Err, is_err, length, take, drop, refl, sym, ◌∙◌, ap, subst, arith}
-use Rattle.std.proofs.Common.{append-nil, append_assoc, length-append, take_all, if◌then◌else◌}
+use Rattle.std.proofs.Common.{None, Some, Ok, Err, length, take, drop, refl, sym, ◌∙◌, ap, subst, arith}
+use Rattle.std.proofs.Common.{append-nil, append_assoc, length-append, if◌then◌else◌}
 use Rattle.std.proofs.lemmas.Bool.{eqb-true, ltb-true}
-use Rattle.std.specs.Prelude.{⊤}
 use Rattle.std.specs.declared.result.Result.{Result}
 use Rattle.lis_text.specs.Control.{LF}
 use Rattle.lis_frame.specs.Stream.{stream_with}
@@ -12,22 +11,20 @@ use Rattle.lis_capture.specs.declared.reader.LineFound.{LineFound}
 use Rattle.lis_capture.specs.declared.reader.LineFound.TheVariants as found
 use Rattle.lis_capture.specs.Line.{longest_line, line_of}
 use Rattle.lis_capture.specs.Capture.{Lines, begun, capture, counts, ended_lines, lines_of, lines_with_next, read_lines}
-use Rattle.lis_capture.specs.Capture.{version_of, with_said}
+use Rattle.lis_capture.specs.Capture.{number_of, version_of, with_said}
 use Rattle.lis_capture.specs.Reader.{HasRead, Known, Reading, found_lines, known_of}
 use Rattle.lis_capture.specs.inside.Reader.{is_long}
 use Rattle.lis_capture.proofs.CaptureLemmas.{capture-ended, capture-long, capture-refused, capture-within, has_end}
 use Rattle.lis_engine.specs.declared.fault.ToolFault.{ToolFault}
-use Rattle.lis_engine.specs.declared.fault.ToolFault.TheVariants.{CaptureLine}
-use Rattle.lis_report.specs.inside.Answers.{Halt}
+use Rattle.lis_engine.specs.declared.fault.ToolFault.TheVariants.{CaptureLine, Read, Write, OutOfMemory, TooManyReads}
 use Rattle.lis_report.specs.Answers.{Report, Outcome}
-use Rattle.lis_engine.specs.declared.machine.Turn.TheVariants.{Off}
 use Rattle.lis_run.specs.LineOutcome.{IsLined, Writes, capture_outcome, lines_outcome, lines_text}
-use Rattle.lis_engine.specs.Steps.{LineEnds, LineSteps, Ends, Fails, Halts, Puts}
+use Rattle.lis_engine.specs.Steps.{LineEnds, LineSteps, Ends, Puts}
 use Rattle.lis_engine.specs.Outcome.{whole}
-use Rattle.lis_engine.specs.Output.{IsBuffered, Out, most_counted, out}
-use Rattle.lis_engine.proofs.BufferLaws.{buffered_nothing, buffered_then}
+use Rattle.lis_engine.specs.Output.{IsWorking, Out, WentOn}
+use Rattle.lis_engine.proofs.OutputLaws.{nothing_put, put_on}
 use Rattle.lis_run.proofs.ShowLaws.{front_stream}
-use Rattle.lis_link.proofs.HearingLaws.{stream_with-append}
+use Rattle.lis_run.proofs.StepLaws.{broke_stops}
 
 -- ---- lines are no more than bytes
 
@@ -153,12 +150,6 @@ lines_longer w past (b ∷ bytes) =
     longer_then w (capture past false).lines (capture (b ∷ past) false).lines _ (byte_longer w b past)
     (lines_longer w (b ∷ past) bytes)
 
--- before its end an input has no closing lines
-unclosed : (w : Writes) (refused : Bool) (lines : List Line)
-    → whole (lines_outcome w refused false lines) ≡ lines_text w lines
-unclosed w true lines = append-nil (lines_text w lines)
-unclosed w false lines = append-nil (lines_text w lines)
-
 text_is-lines : (w : Writes) (refused ended : Bool) (lines : List Line)
     → (lines_outcome w refused ended lines).text ≡ lines_text w lines
 text_is-lines w true ended lines = refl
@@ -167,54 +158,53 @@ text_is-lines w false false lines = refl
 
 -- ---- while bytes are read
 
--- bytes were read up to the rest, and no line of them is rejected; their text is out
+-- bytes were read up to the rest, and no line of them is rejected; their text was put
 pub record IsAt
-    (w : Writes) (represents : List Line → Type 0) (reader : Reading) (old here : Out) (before after : ℕ)
-    (past text rest bytes : List ℕ) : Type 0 where
+    (w : Writes) (represents : List Line → Type 0) (reader : Reading) (old here : Out) (text rest all : List ℕ)
+    : Type 0 where
   pub read : List ℕ
   pub has_read : HasRead reader read
   pub fine : (capture read false).refused ≡ false
   pub represented : represents (capture read false).lines
-  pub joined : stream_with read rest ≡ stream_with [] (past ++ bytes)
+  pub joined : stream_with read rest ≡ all
   pub few : length read + length rest < 2 ^ 44
   pub more : List ℕ
-  pub put : IsBuffered old here before (Ok after) more
+  pub put : WentOn old here more
   pub text_is : text ++ more ≡ lines_text w (capture read false).lines
 
 pub at_start :
-    (w : Writes) (represents : List Line → Type 0) (reader : Reading) (old : Out) (before : ℕ)
-    (past text bytes : List ℕ)
-    → before ≤ most_counted → IsLined w represents reader past text → length past + length bytes < 2 ^ 44
-    → IsAt w represents reader old old before before past text bytes bytes
-at_start w represents reader old before past text bytes fits lined few =
+    {w : Writes} {represents : List Line → Type 0} {reader : Reading} {old : Out} {past text : List ℕ}
+    (bytes : List ℕ)
+    → IsWorking old → IsLined w represents reader past text → length past + length bytes < 2 ^ 44
+    → IsAt w represents reader old old text bytes (stream_with (stream_with [] past) bytes)
+at_start {old = old} {past} {text} bytes working lined few =
     record {
       read = stream_with [] past;
       has_read = lined.has_read;
       fine = lined.fine;
       represented = lined.represented;
-      joined = sym (stream_with-append past bytes []);
+      joined = refl;
       few = omega (arith, few, stream-length [] past);
       more = [];
-      put = buffered_nothing old before fits;
+      put = nothing_put old working;
       text_is = append-nil text ∙ lined.text_is;
     }
 
 -- the same, where nothing has changed
 pub kept :
-    {w : Writes} {S : Type 0} (represents : S → List Line → Type 0) {self now : S} {reader next : Reading} {old : Out}
-    {taken : Option (List ℕ)} {waits there : List ℕ} {before after : ℕ} {past text rest bytes : List ℕ}
-    → (now ≡ self) × (next ≡ reader) × (there ≡ waits)
-    → IsAt w (represents self) reader old (out taken waits) before after past text rest bytes
-    → IsAt w (represents now) next old (out taken there) before after past text rest bytes
-kept represents (self_is, reader_is, waits_is) at = rw (self_is, reader_is, waits_is) at
+    {w : Writes} {S : Type 0} (represents : S → List Line → Type 0) {self now : S} {reader next : Reading}
+    {old here there : Out} {text rest all : List ℕ}
+    → (now ≡ self) × (next ≡ reader) × (there ≡ here)
+    → IsAt w (represents self) reader old here text rest all → IsAt w (represents now) next old there text rest all
+kept represents (self_is, reader_is, out_is) at = rw (self_is, reader_is, out_is) at
 
 -- all was read
 pub at_end_of :
-    (w : Writes) (represents : List Line → Type 0) (reader : Reading) (old here : Out) (before after : ℕ)
-    (past text rest bytes : List ℕ)
-    → IsAt w represents reader old here before after past text rest bytes → length rest ≡ 0
-    → Puts (IsLined w represents reader (past ++ bytes)) old here before after text
-at_end_of w represents reader old here before after past text [] bytes at none =
+    {w : Writes} {represents : List Line → Type 0} {reader : Reading} {old here : Out} {text : List ℕ}
+    (rest given : List ℕ)
+    → IsAt w represents reader old here text rest (stream_with [] given) → length rest ≡ 0
+    → Puts (IsLined w represents reader given) old here text
+at_end_of {w} {represents} {reader} [] given at none =
     record {
       more = at.more;
       put = at.put;
@@ -225,23 +215,187 @@ at_end_of w represents reader old here before after past text [] bytes at none =
         text_is = at.text_is ∙ ap (λ (s : List ℕ). lines_text w (capture s false).lines) at.joined;
       };
     }
-at_end_of w represents reader old here before after past text (b ∷ rest) bytes at none = cc
+at_end_of (b ∷ rest) given at none = cc
+
+-- ---- a line is looked for
+
+-- It was looked for after lines whose text was put, and these are the lines now. The text of this outcome begins with
+-- theirs, and where the last is rejected it is all of it.
+pub record IsFound
+    (w : Writes) (represents : List Line → Type 0) (next : Known) (result : LineFound) (old here : Out)
+    (text : List ℕ) (before there : Lines) (o : Outcome) : Type 0 where
+  pub fine : before.refused ≡ false
+  pub represented : represents before.lines
+  pub more : List ℕ
+  pub put : WentOn old here more
+  pub text_is : text ++ more ≡ lines_text w before.lines
+  pub there_is : there ≡ found_lines before result next.line
+  pub known_is : next ≡ known_of there
+  pub few : length there.lines + one_refused there.refused < 2 ^ 44
+  pub tail : List ℕ
+  pub begins : o.text ≡ lines_text w there.lines ++ tail
+  pub rejects : there.refused ≡ true → o ≡ lines_outcome w true true there.lines
+
+-- the lines now were all taken, and their text was put
+pub record AreTaken (w : Writes) (represents : List Line → Type 0) (old here : Out) (text : List ℕ) (there : Lines)
+    : Type 0 where
+  pub lines : List Line
+  pub there_is : there ≡ record { lines = lines; refused = false }
+  pub few : length lines < 2 ^ 44
+  pub represented : represents lines
+  pub more : List ℕ
+  pub put : WentOn old here more
+  pub text_is : text ++ more ≡ lines_text w lines
 
 module _
-    {w : Writes} {represents : List Line → Type 0} {reader next : Reading} {old here : Out} {before after : ℕ}
-    {past text rest bytes : List ℕ} (at : IsAt w represents reader old here before after past text rest bytes)
-    (count : ℕ) (result : LineFound)
-    (reads : (read : List ℕ) → HasRead reader read → HasRead next (stream_with read (take count rest)))
-    (finds : (read : List ℕ) → HasRead reader read → capture (stream_with read (take count rest)) false
-    ≡ found_lines (capture read false) result next.known.line) where
-  has_read : HasRead next (stream_with at.read (take count rest))
-  has_read = reads at.read at.has_read
+    {w : Writes} {represents : List Line → Type 0} {next : Known} {result : LineFound} {old here : Out}
+    {text : List ℕ} {before there : Lines} {o : Outcome}
+    (f : IsFound w represents next result old here text before there o) where
+  found_as : {kind : LineFound} → result ≡ kind → there ≡ found_lines before kind next.line
+  found_as is = f.there_is ∙ ap (λ (k : LineFound). found_lines before k next.line) is
 
-  found_is : capture (stream_with at.read (take count rest)) false
-      ≡ found_lines (capture at.read false) result next.known.line
-  found_is = finds at.read at.has_read
+  few_are : (lines : List Line) (refused : Bool) → there ≡ record { lines = lines; refused = refused }
+      → length lines + one_refused refused < 2 ^ 44
+  few_are lines refused is = subst (λ (r : Lines). length r.lines + one_refused r.refused < 2 ^ 44) is f.few
 
-  all_is : stream_with (stream_with at.read (take count rest)) (drop count rest) ≡ stream_with [] (past ++ bytes)
+  number_is : (lines : List Line) (refused : Bool) → there ≡ record { lines = lines; refused = refused }
+      → next.number ≡ number_of (record { lines = lines; refused = refused })
+  number_is lines refused is =
+      by_refused refused (few_are lines refused is)
+      (ap (λ (k : Known). k.number) f.known_is ∙ ap (λ (r : Lines). (known_of r).number) is)
+    where
+      by_refused : (refused : Bool) → length lines + one_refused refused < 2 ^ 44
+          → next.number ≡ min (number_of (record { lines = lines; refused = refused })) 18446744073709551615
+          → next.number ≡ number_of (record { lines = lines; refused = refused })
+      by_refused true few known = omega (arith, few, known)
+      by_refused false few known = omega (arith, few, known)
+
+  -- it is rejected
+  pub line_rejected :
+      (memory : Bool) (fault : ToolFault) → result ≡ found.Refused → fault ≡ CaptureLine next.number
+      → Ends memory (λ x. x ≡ o) old here text (Err fault)
+  line_rejected memory fault is fault_is =
+      let outcome_is = f.rejects (ap (λ (r : Lines). r.refused) (found_as is)) in
+      let lines_are = ap (λ (r : Lines). r.lines) (found_as is) in
+      rw fault_is
+      (record {
+        more = f.more;
+        put = f.put;
+        following = (
+          o,
+          refl,
+          ap (λ (x : Outcome). x.halt) outcome_is
+              ∙ ap (λ (n : ℕ). let r : Option (Result Report ToolFault) = Some (Err (CaptureLine n)) in r)
+              (ap (λ (ls : List Line). length ls + 1) lines_are ∙ sym (number_is before.lines true (found_as is))),
+          ap (λ (x : Outcome). x.text) outcome_is ∙ ap (lines_text w) lines_are ∙ sym f.text_is,
+        );
+      })
+
+  -- there is none
+  pub nothing_found : result ≡ found.Nothing → AreTaken w represents old here text there
+  nothing_found is =
+      let there_is : there ≡ record { lines = before.lines; refused = false } =
+      found_as is ∙ ap (λ (b : Bool). let r : Lines = record { lines = before.lines; refused = b } in r) f.fine in
+      record {
+        lines = before.lines;
+        there_is = there_is;
+        few = omega (arith, few_are before.lines false there_is);
+        represented = f.represented;
+        more = f.more;
+        put = f.put;
+        text_is = f.text_is;
+      }
+
+  module _ (is : result ≡ found.Line) where
+    -- what is known of it by its number
+    by_number :
+        {P : List Line → Type 0} → ((lines : List Line) → represents lines → next.number ≡ length lines + 1
+        → next.number < 2 ^ 44 → P lines)
+        → P before.lines
+    by_number known =
+        let lines = next.line ∷ before.lines in
+        let number = number_is lines false (found_as is) in
+        let few = few_are lines false (found_as is) in
+        known before.lines f.represented (omega (arith, number)) (omega (arith, number, few))
+
+    -- it was taken
+    pub line_taken :
+        {now : List Line → Type 0} {c : Out}
+        → ((lines : List Line) → represents lines → next.number ≡ length lines + 1 → next.number < 2 ^ 44
+        → WentOn here c (w.line lines next.line) × now (next.line ∷ lines))
+        → AreTaken w now old c text there
+    line_taken {c = c} steps =
+        let line = w.line before.lines next.line in
+        record {
+          lines = next.line ∷ before.lines;
+          there_is = found_as is;
+          few = omega (arith, few_are (next.line ∷ before.lines) false (found_as is));
+          represented = (by_number steps).1;
+          more = f.more ++ line;
+          put = put_on old here c (Ok tt) f.more line f.put (by_number steps).0;
+          text_is = sym (append_assoc text f.more line) ∙ ap (λ (t : List ℕ). t ++ line) f.text_is;
+        }
+
+    text_there : o.text ≡ ((text ++ f.more) ++ w.line before.lines next.line) ++ f.tail
+    text_there =
+        f.begins
+        ∙ ap (λ (t : List ℕ). t ++ f.tail)
+        (ap (λ (r : Lines). lines_text w r.lines) (found_as is)
+        ∙ ap (λ (t : List ℕ). t ++ w.line before.lines next.line) (sym f.text_is))
+
+    line_ends :
+        (memory : Bool) (c : Out) (P : Type 0) (fault : ToolFault)
+        → LineSteps memory P here c (w.line before.lines next.line) (Err fault)
+        → Ends memory (λ x. x ≡ o) old c text (Err fault)
+    line_ends memory c P (Write written) broke = record {
+      outcome = o;
+      meant = refl;
+      more = f.more ++ w.line before.lines next.line;
+      rest = f.tail ++ o.closing;
+      joined =
+          ap (λ (t : List ℕ). t ++ o.closing) text_there
+          ∙ regroup text f.more (w.line before.lines next.line) f.tail o.closing;
+      broke = put_on old here c (Err (Write written)) f.more (w.line before.lines next.line) f.put broke;
+    }
+      where
+        regroup : (a b c d e : List ℕ) → (((a ++ b) ++ c) ++ d) ++ e ≡ a ++ (b ++ c) ++ (d ++ e)
+        regroup a b c d e = simp append_assoc
+    line_ends memory c P OutOfMemory (wants, more, rest, joined, went) = record {
+      more = f.more ++ more;
+      put = put_on old here c (Ok tt) f.more more f.put went;
+      following = (
+        o,
+        refl,
+        rest ++ f.tail,
+        text_there ∙ ap (λ (t : List ℕ). ((text ++ f.more) ++ t) ++ f.tail) joined
+            ∙ regroup text f.more more rest f.tail,
+        wants,
+      );
+    }
+      where
+        regroup : (a b c d e : List ℕ) → ((a ++ b) ++ (c ++ d)) ++ e ≡ (a ++ (b ++ c)) ++ (d ++ e)
+        regroup a b c d e = simp append_assoc
+    line_ends memory c P (CaptureLine line) steps = absurd steps
+    line_ends memory c P Read steps = absurd steps
+    line_ends memory c P TooManyReads steps = absurd steps
+
+    -- the run stops in it
+    pub line_stops :
+        (memory : Bool) (now : List Line → Type 0) (c : Out) (fault : ToolFault)
+        → ((lines : List Line) → represents lines → next.number ≡ length lines + 1 → next.number < 2 ^ 44
+        → LineSteps memory (now (next.line ∷ lines)) here c (w.line lines next.line) (Err fault))
+        → Ends memory (λ x. x ≡ o) old c text (Err fault)
+    line_stops memory now c fault steps =
+        line_ends memory c (now (next.line ∷ before.lines)) fault (by_number steps)
+
+-- ---- in further bytes
+
+module _
+    {w : Writes} {represents : List Line → Type 0} {reader : Reading} {old here : Out}
+    {text rest all : List ℕ} (at : IsAt w represents reader old here text rest all)
+    (next : Reading) (count : ℕ)
+    (reads : (read : List ℕ) → HasRead reader read → HasRead next (stream_with read (take count rest))) where
+  all_is : stream_with (stream_with at.read (take count rest)) (drop count rest) ≡ all
   all_is = front_stream count at.read rest ∙ at.joined
 
   few_there : length (stream_with at.read (take count rest)) + length (drop count rest) < 2 ^ 44
@@ -256,400 +410,133 @@ module _
             (drop count rest),
       )
 
-  -- the text of all bytes begins with that of the lines
-  begins :
-      (lines : List Line) → capture (stream_with at.read (take count rest)) false
-      ≡ record { lines = lines; refused = false }
-      → (tail : List ℕ) × (lines_text w (capture (stream_with [] (past ++ bytes)) false).lines ≡ lines_text w lines
-      ++ tail)
-  begins lines is =
-      let longer = lines_longer w (stream_with at.read (take count rest)) (drop count rest) in (
-        longer.tail,
-        ap (λ (s : List ℕ). lines_text w (capture s false).lines) (sym all_is) ∙ longer.joined
-            ∙ ap (λ (r : Lines). lines_text w r.lines ++ longer.tail) is,
-      )
+  -- a rejected line is the last
+  rejects_there : (capture (stream_with at.read (take count rest)) false).refused ≡ true
+      → capture_outcome w all false
+      ≡ lines_outcome w true true (capture (stream_with at.read (take count rest)) false).lines
+  rejects_there is =
+      let stays : capture all false ≡ capture (stream_with at.read (take count rest)) false =
+      ap (λ (s : List ℕ). capture s false) (sym all_is)
+      ∙ capture-refused (stream_with at.read (take count rest)) (drop count rest) false is in
+      ap (λ (r : Lines). lines_outcome w r.refused false r.lines) stays
+      ∙ ap (λ (b : Bool). lines_outcome w b false (capture (stream_with at.read (take count rest)) false).lines) is
 
-  -- nothing was found: all was read
-  pub nothing_found :
-      result ≡ found.Nothing → count ≡ length rest → Puts (IsLined w represents next (past ++ bytes)) old here before
-      after text
-  nothing_found nothing all =
-      let same : capture (stream_with at.read (take count rest)) false ≡ capture at.read false =
-      found_is ∙ ap (λ (f : LineFound). found_lines (capture at.read false) f next.known.line) nothing in
-      let whole_is : stream_with at.read (take count rest) ≡ stream_with [] (past ++ bytes) =
-      ap (stream_with at.read) (take_all count rest (omega (arith, all))) ∙ at.joined in
+  pub found_on :
+      (result : LineFound)
+      → ((read : List ℕ) → HasRead reader read → capture (stream_with read (take count rest)) false
+      ≡ found_lines (capture read false) result next.known.line)
+      → IsFound w represents next.known result old here text (capture at.read false)
+      (capture (stream_with at.read (take count rest)) false) (capture_outcome w all false)
+  found_on result finds =
+      let longer = lines_longer w (stream_with at.read (take count rest)) (drop count rest) in
       record {
+        fine = at.fine;
+        represented = at.represented;
         more = at.more;
         put = at.put;
-        following = record {
-          has_read = subst (HasRead next) whole_is has_read;
-          fine = subst (λ (s : List ℕ). (capture s false).refused ≡ false) whole_is
-              (ap (λ (r : Lines). r.refused) same ∙ at.fine);
-          represented =
-              subst (λ (s : List ℕ). represents (capture s false).lines) whole_is
-              (subst (λ (r : Lines). represents r.lines) (sym same) at.represented);
-          text_is =
-              at.text_is ∙ ap (λ (r : Lines). lines_text w r.lines) (sym same)
-              ∙ ap (λ (s : List ℕ). lines_text w (capture s false).lines) whole_is;
-        };
+        text_is = at.text_is;
+        there_is = finds at.read at.has_read;
+        known_is = (reads at.read at.has_read).known_is;
+        few = omega (arith, few_there, lines-few (stream_with at.read (take count rest)) false);
+        tail = longer.tail;
+        begins =
+            text_is-lines w (capture all false).refused false (capture all false).lines
+            ∙ ap (λ (s : List ℕ). lines_text w (capture s false).lines) (sym all_is) ∙ longer.joined;
+        rejects = rejects_there;
       }
 
-  -- a line was rejected
-  pub refused_found :
-      (memory : Bool) (halt : Halt) → result ≡ found.Refused → halt.written ≡ after
-      → halt.result ≡ Err (CaptureLine next.known.number)
-      → Puts (λ all. Halts memory (λ o. o ≡ capture_outcome w (stream_with [] (past ++ bytes)) false) all halt.result
-      × (is_err halt.result ≡ true))
-      old here before halt.written text
-  refused_found memory halt refused written_is result_is =
-      let lines = (capture at.read false).lines in
-      let here_is : capture (stream_with at.read (take count rest)) false ≡ record { lines = lines; refused = true } =
-      found_is ∙ ap (λ (f : LineFound). found_lines (capture at.read false) f next.known.line) refused in
-      let all : capture (stream_with [] (past ++ bytes)) false ≡ record { lines = lines; refused = true } =
-      ap (λ (s : List ℕ). capture s false) (sym all_is)
-      ∙ capture-refused (stream_with at.read (take count rest)) (drop count rest) false
-      (ap (λ (r : Lines). r.refused) here_is) ∙ here_is in
-      let outcome_is : capture_outcome w (stream_with [] (past ++ bytes)) false ≡ lines_outcome w true false lines =
-      ap (λ (r : Lines). lines_outcome w r.refused false r.lines) all in
-      let few : length lines + 1 < 2 ^ 44 =
-      omega (
-        arith,
-        few_there,
-        subst (λ (r : Lines). length r.lines + one_refused r.refused ≤ length (stream_with at.read (take count rest)))
-            here_is
-            (lines-few (stream_with at.read (take count rest)) false),
-      ) in
-      let known : next.known.number ≡ min (length lines + 1) 18446744073709551615 =
-      ap (λ (k : Known). k.number) has_read.known_is ∙ ap (λ (r : Lines). (known_of r).number) here_is in
-      let number : next.known.number ≡ length lines + 1 = omega (arith, known, few) in
-      let e : halt.result ≡ Err (CaptureLine (length lines + 1)) =
-      result_is ∙ ap (λ (n : ℕ). let r : Result Report ToolFault = Err (CaptureLine n) in r) number in
+  taken_on : {now : List Line → Type 0} {c : Out}
+      → AreTaken w now old c text (capture (stream_with at.read (take count rest)) false)
+      → IsAt w now next old c text (drop count rest) all
+  taken_on {now} taken =
       record {
-        more = at.more;
-        put = subst (λ (n : ℕ). IsBuffered old here before (Ok n) at.more) (sym written_is) at.put;
-        following =
-            subst
-            (λ (r : Result Report ToolFault).
-            Halts memory (λ o. o ≡ capture_outcome w (stream_with [] (past ++ bytes)) false) (text ++ at.more) r
-            × (is_err r ≡ true)) (sym e) (
-              (
-                capture_outcome w (stream_with [] (past ++ bytes)) false,
-                refl,
-                ap (λ (o : Outcome). o.halt) outcome_is,
-                ap (λ (o : Outcome). o.text) outcome_is ∙ sym at.text_is,
-              ),
-              refl,
-            );
+        read = stream_with at.read (take count rest);
+        has_read = reads at.read at.has_read;
+        fine = ap (λ (r : Lines). r.refused) taken.there_is;
+        represented = subst (λ (r : Lines). now r.lines) (sym taken.there_is) taken.represented;
+        joined = all_is;
+        few = few_there;
+        more = taken.more;
+        put = taken.put;
+        text_is = taken.text_is ∙ ap (λ (r : Lines). lines_text w r.lines) (sym taken.there_is);
       }
 
-  module _ (line_found : result ≡ found.Line) where
-    said_there : capture (stream_with at.read (take count rest)) false
-        ≡ record { lines = next.known.line ∷ (capture at.read false).lines; refused = false }
-    said_there = found_is ∙ ap (λ (f : LineFound). found_lines (capture at.read false) f next.known.line) line_found
+  module _
+      (result : LineFound)
+      (finds : (read : List ℕ) → HasRead reader read → capture (stream_with read (take count rest)) false
+      ≡ found_lines (capture read false) result next.known.line) where
+    pub nothing_on : result ≡ found.Nothing → IsAt w represents next old here text (drop count rest) all
+    nothing_on is = taken_on (nothing_found (found_on result finds) is)
 
-    line_number : (next.known.number ≡ length (capture at.read false).lines + 1) × (next.known.number < 2 ^ 44)
-    line_number =
-        let few : length (capture at.read false).lines + 1 < 2 ^ 44 =
-        omega (
-          arith,
-          few_there,
-          subst (λ (r : Lines). length r.lines + one_refused r.refused
-              ≤ length (stream_with at.read (take count rest))) said_there
-              (lines-few (stream_with at.read (take count rest)) false),
-        ) in
-        let known : next.known.number ≡ min (length (next.known.line ∷ (capture at.read false).lines))
-        18446744073709551615 =
-        ap (λ (k : Known). k.number) has_read.known_is ∙ ap (λ (r : Lines). (known_of r).number) said_there in
-        (omega (arith, known, few), omega (arith, known, few))
-
-    -- what is known of a line by its number
-    pub by_number :
-        {P : List Line → Type 0} → ((lines : List Line) → represents lines → next.known.number ≡ length lines + 1
-        → next.known.number < 2 ^ 44 → P lines)
-        → P (capture at.read false).lines
-    by_number known = known (capture at.read false).lines at.represented line_number.0 line_number.1
-
-    module _ {c : Out} where
-      -- the line was taken
-      pub line_taken :
-          {now : List Line → Type 0} {last : ℕ} → IsBuffered here c after (Ok last)
-          (w.line (capture at.read false).lines next.known.line)
-          → now (next.known.line ∷ (capture at.read false).lines)
-          → IsAt w now next old c before last past text (drop count rest) bytes
-      line_taken {now} {last} put represented =
-          record {
-            read = stream_with at.read (take count rest);
-            has_read = has_read;
-            fine = ap (λ (r : Lines). r.refused) said_there;
-            represented = subst (λ (r : Lines). now r.lines) (sym said_there) represented;
-            joined = all_is;
-            few = few_there;
-            more = at.more ++ w.line (capture at.read false).lines next.known.line;
-            put = buffered_then old here c before after (Ok last) at.more _ at.put put;
-            text_is =
-                sym (append_assoc text at.more (w.line (capture at.read false).lines next.known.line))
-                ∙ ap (λ (t : List ℕ). t ++ w.line (capture at.read false).lines next.known.line) at.text_is
-                ∙ ap (λ (r : Lines). lines_text w r.lines) (sym said_there);
-          }
-
-      -- memory ran out in the line
-      pub line_starved :
-          {memory : Bool} (halt : Halt)
-          → LineSteps memory ⊤ here c after (w.line (capture at.read false).lines next.known.line) (Ok (Off halt))
-          → Puts (λ all. Halts memory (λ o. o ≡ capture_outcome w (stream_with [] (past ++ bytes)) false) all
-          halt.result × (is_err halt.result ≡ true))
-          old c before halt.written text
-      line_starved {memory} halt (result_is, wants, more, left, joined, put) =
-          let tail = begins (next.known.line ∷ (capture at.read false).lines) said_there in
-          let r = capture (stream_with [] (past ++ bytes)) false in
-          record {
-            more = at.more ++ more;
-            put = buffered_then old here c before after (Ok halt.written) at.more more at.put put;
-            following =
-                subst
-                (λ (r : Result Report ToolFault).
-                Halts memory (λ o. o ≡ capture_outcome w (stream_with [] (past ++ bytes)) false)
-                (text ++ (at.more ++ more)) r × (is_err r ≡ true)) (sym result_is) (
-                  (
-                    capture_outcome w (stream_with [] (past ++ bytes)) false,
-                    refl,
-                    left ++ tail.0,
-                    text_is-lines w r.refused false r.lines ∙ tail.1
-                        ∙ ap (λ (t : List ℕ). lines_text w (capture at.read false).lines ++ t ++ tail.0) joined
-                        ∙ ap (λ (t : List ℕ). t ++ (more ++ left) ++ tail.0) (sym at.text_is)
-                        ∙ regroup text at.more more left tail.0,
-                    wants,
-                  ),
-                  refl,
-                );
-          }
-        where
-          regroup : (a b c d e : List ℕ) → (a ++ b) ++ (c ++ d) ++ e ≡ (a ++ (b ++ c)) ++ (d ++ e)
-          regroup a b c d e = simp append_assoc
-
-      -- the sink failed in the line
-      pub line_failed :
-          (fault : ToolFault) → IsBuffered here c after (Err fault)
-          (w.line (capture at.read false).lines next.known.line)
-          → Fails (λ o. o ≡ capture_outcome w (stream_with [] (past ++ bytes)) false) old c before text fault
-      line_failed fault put =
-          let tail = begins (next.known.line ∷ (capture at.read false).lines) said_there in
-          let r = capture (stream_with [] (past ++ bytes)) false in
-          let text_of_line = w.line (capture at.read false).lines next.known.line in
-          record {
-            outcome = capture_outcome w (stream_with [] (past ++ bytes)) false;
-            meant = refl;
-            more = at.more ++ text_of_line;
-            rest = tail.0;
-            joined =
-                unclosed w r.refused r.lines ∙ tail.1
-                ∙ ap (λ (t : List ℕ). t ++ text_of_line ++ tail.0) (sym at.text_is)
-                ∙ regroup text at.more text_of_line tail.0;
-            put = buffered_then old here c before after (Err fault) at.more text_of_line at.put put;
-          }
-        where
-          regroup : (a b c d : List ℕ) → (a ++ b) ++ c ++ d ≡ a ++ (b ++ c) ++ d
-          regroup a b c d = simp append_assoc
+    pub line_on :
+        {now : List Line → Type 0} {c : Out} → result ≡ found.Line
+        → ((lines : List Line) → represents lines → next.known.number ≡ length lines + 1 → next.known.number < 2 ^ 44
+        → WentOn here c (w.line lines next.known.line) × now (next.known.line ∷ lines))
+        → IsAt w now next old c text (drop count rest) all
+    line_on is steps = taken_on (line_taken (found_on result finds) is steps)
 
 -- ---- at the end of the input
 
-module _
-    {w : Writes} {represents : List Line → Type 0} {reader : Reading} {past text : List ℕ}
-    (lined : IsLined w represents reader past text) (few : length past < 2 ^ 44) (next : Reading) (result : LineFound)
-    (knows : (read : List ℕ) → HasRead reader read → next.known ≡ known_of (capture read true))
-    (finds : (read : List ℕ) → HasRead reader read
-    → capture read true ≡ found_lines (capture read false) result next.known.line) where
-  known_is : next.known ≡ known_of (capture (stream_with [] past) true)
-  known_is = knows (stream_with [] past) lined.has_read
+pub found_last :
+    {w : Writes} {represents : List Line → Type 0} {reader : Reading} {old here : Out} {text all : List ℕ}
+    (at : IsAt w represents reader old here text [] all) (next : Reading) (result : LineFound)
+    → ((read : List ℕ) → HasRead reader read → next.known ≡ known_of (capture read true))
+    → ((read : List ℕ) → HasRead reader read
+    → capture read true ≡ found_lines (capture read false) result next.known.line)
+    → IsFound w represents next.known result old here text (capture at.read false) (capture all true)
+    (capture_outcome w all true)
+found_last {w} {all = all} at next result knows finds = record {
+  fine = at.fine;
+  represented = at.represented;
+  more = at.more;
+  put = at.put;
+  text_is = at.text_is;
+  there_is = ap (λ (s : List ℕ). capture s true) (sym at.joined) ∙ finds at.read at.has_read;
+  known_is = knows at.read at.has_read ∙ ap (λ (s : List ℕ). known_of (capture s true)) at.joined;
+  few = omega (arith, at.few, ap length at.joined, lines-few all true);
+  tail = [];
+  begins =
+      text_is-lines w (capture all true).refused true (capture all true).lines
+      ∙ sym (append-nil (lines_text w (capture all true).lines));
+  rejects = λ is. ap (λ (b : Bool). lines_outcome w b true (capture all true).lines) is;
+}
 
-  last_is : capture (stream_with [] past) true
-      ≡ found_lines (capture (stream_with [] past) false) result next.known.line
-  last_is = finds (stream_with [] past) lined.has_read
+-- the closing lines
+pub closes :
+    {w : Writes} {now : List Line → Type 0} {old here : Out} {text : List ℕ} (all : List ℕ) (memory : Bool) (c : Out)
+    (ended : Result Report ToolFault) → AreTaken w now old here text (capture all true)
+    → ((lines : List Line) → now lines → length lines < 2 ^ 44
+    → LineEnds (w.report lines) here c (w.last lines) ended)
+    → Ends memory (λ x. x ≡ capture_outcome w all true) old c text ended
+closes {w} {now} {old} {here} {text} all memory c ended taken ends =
+    by_result ended (ends taken.lines taken.represented taken.few)
+  where
+    outcome_is : capture_outcome w all true ≡ lines_outcome w false true taken.lines
+    outcome_is = ap (λ (r : Lines). lines_outcome w r.refused true r.lines) taken.there_is
 
-  few_lines : length (capture (stream_with [] past) true).lines
-      + one_refused (capture (stream_with [] past) true).refused < 2 ^ 44
-  few_lines = omega (arith, few, lines-few (stream_with [] past) true, stream-length [] past)
+    whole_is : whole (capture_outcome w all true) ≡ text ++ (taken.more ++ w.last taken.lines)
+    whole_is = ap whole outcome_is ∙ ap (λ (t : List ℕ). t ++ w.last taken.lines) (sym taken.text_is)
+        ∙ append_assoc text taken.more (w.last taken.lines)
 
-  few_before : length (capture (stream_with [] past) false).lines < 2 ^ 44
-  few_before = omega (arith, few, lines-few (stream_with [] past) false, stream-length [] past)
-
-  outcome_here : (read : Lines) → capture (stream_with [] past) true ≡ read
-      → capture_outcome w (stream_with [] past) true ≡ lines_outcome w read.refused true read.lines
-  outcome_here read is = ap (λ (r : Lines). lines_outcome w r.refused true r.lines) is
-
-  -- the closing lines after lines whose text is out
-  closes_after :
-      (memory : Bool) (lines : List Line) → capture (stream_with [] past) true
-      ≡ record { lines = lines; refused = false }
-      → (old here c : Out) (before after : ℕ) (more : List ℕ) → IsBuffered old here before (Ok after) more
-      → text ++ more ≡ lines_text w lines
-      → (ended : Result Halt ToolFault) → LineEnds (w.report lines) here c after (w.last lines) ended
-      → Ends memory (λ o. o ≡ capture_outcome w (stream_with [] past) true) old c before text ended
-  closes_after memory lines is old here c before after more put text_is (Ok halt) ends =
-      let outcome_is = outcome_here (record { lines = lines; refused = false }) is in
-      record {
-        more = more ++ w.last lines;
-        put = buffered_then old here c before after (Ok halt.written) more (w.last lines) put ends.1;
-        following =
-            subst (λ (r : Result Report ToolFault). Halts memory
-            (λ o. o ≡ capture_outcome w (stream_with [] past) true) (text ++ (more ++ w.last lines)) r)
-            (sym ends.0) (
-              capture_outcome w (stream_with [] past) true,
-              refl,
-              ap (λ (o : Outcome). o.halt) outcome_is,
-              ap whole outcome_is ∙ ap (λ (t : List ℕ). t ++ w.last lines) (sym text_is)
-                  ∙ append_assoc text more (w.last lines),
-            );
-      }
-  closes_after memory lines is old here c before after more put text_is (Err fault) ends =
-      let outcome_is = outcome_here (record { lines = lines; refused = false }) is in
-      record {
-        outcome = capture_outcome w (stream_with [] past) true;
-        meant = refl;
-        more = more ++ w.last lines;
-        rest = [];
-        joined =
-            ap whole outcome_is ∙ ap (λ (t : List ℕ). t ++ w.last lines) (sym text_is)
-            ∙ append_assoc text more (w.last lines)
-            ∙ sym (append-nil (text ++ (more ++ w.last lines)));
-        put = buffered_then old here c before after (Err fault) more (w.last lines) put ends;
-      }
-
-  -- no line was begun
-  pub nothing_ended :
-      (memory : Bool) (old c : Out) (before : ℕ) (ended : Result Halt ToolFault) → result ≡ found.Nothing
-      → before ≤ most_counted
-      → ((lines : List Line) → represents lines → length lines < 2 ^ 44
-      → LineEnds (w.report lines) old c before (w.last lines) ended)
-      → Ends memory (λ o. o ≡ capture_outcome w (stream_with [] past) true) old c before text ended
-  nothing_ended memory old c before ended nothing fits ends =
-      let read = capture (stream_with [] past) false in
-      let same : capture (stream_with [] past) true ≡ record { lines = read.lines; refused = false } =
-      last_is ∙ ap (λ (f : LineFound). found_lines read f next.known.line) nothing
-      ∙ ap (λ (b : Bool). let r : Lines = record { lines = read.lines; refused = b } in r) lined.fine in
-      closes_after memory read.lines same old old c before before [] (buffered_nothing old before fits)
-      (append-nil text ∙ lined.text_is) ended (ends read.lines lined.represented few_before)
-
-  -- the last line is rejected
-  pub refused_ended :
-      (memory : Bool) {old : Out} {before : ℕ} (halt : Halt) → result ≡ found.Refused → before ≤ most_counted
-      → halt.written ≡ before
-      → halt.result ≡ Err (CaptureLine next.known.number)
-      → Puts (λ all. Halts memory (λ o. o ≡ capture_outcome w (stream_with [] past) true) all halt.result) old old
-      before halt.written text
-  refused_ended memory {old} {before} halt refused fits written_is result_is =
-      let lines = (capture (stream_with [] past) false).lines in
-      let is : capture (stream_with [] past) true ≡ record { lines = lines; refused = true } =
-      last_is ∙ ap (λ (f : LineFound). found_lines (capture (stream_with [] past) false) f next.known.line) refused in
-      let outcome_is = outcome_here (record { lines = lines; refused = true }) is in
-      let small : length lines + 1 < 2 ^ 44 = subst (λ (r : Lines). length r.lines + one_refused r.refused < 2 ^ 44)
-      is few_lines in
-      let known : next.known.number ≡ min (length lines + 1) 18446744073709551615 =
-      ap (λ (k : Known). k.number) known_is ∙ ap (λ (r : Lines). (known_of r).number) is in
-      let number : next.known.number ≡ length lines + 1 = omega (arith, known, small) in
-      let e : halt.result ≡ Err (CaptureLine (length lines + 1)) =
-      result_is ∙ ap (λ (n : ℕ). let r : Result Report ToolFault = Err (CaptureLine n) in r) number in
-      record {
-        more = [];
-        put = subst (λ (n : ℕ). IsBuffered old old before (Ok n) []) (sym written_is)
-            (buffered_nothing old before fits);
-        following =
-            subst (λ (r : Result Report ToolFault). Halts memory
-            (λ o. o ≡ capture_outcome w (stream_with [] past) true) (text ++ []) r) (sym e) (
-              capture_outcome w (stream_with [] past) true,
-              refl,
-              ap (λ (o : Outcome). o.halt) outcome_is,
-              ap (λ (o : Outcome). o.text) outcome_is ∙ sym lined.text_is ∙ sym (append-nil text),
-            );
-      }
-
-  module _ (line_found : result ≡ found.Line) where
-    said_last : capture (stream_with [] past) true
-        ≡ record { lines = next.known.line ∷ (capture (stream_with [] past) false).lines; refused = false }
-    said_last = last_is ∙ ap (λ (f : LineFound). found_lines (capture (stream_with [] past) false) f next.known.line)
-        line_found
-
-    last_number : (next.known.number ≡ length (capture (stream_with [] past) false).lines + 1)
-        × (next.known.number < 2 ^ 44)
-    last_number =
-        let small : length (next.known.line ∷ (capture (stream_with [] past) false).lines) + 0 < 2 ^ 44 =
-        subst (λ (r : Lines). length r.lines + one_refused r.refused < 2 ^ 44) said_last few_lines in
-        let known : next.known.number ≡ min (length (next.known.line ∷ (capture (stream_with [] past) false).lines))
-        18446744073709551615 =
-        ap (λ (k : Known). k.number) known_is ∙ ap (λ (r : Lines). (known_of r).number) said_last in
-        (omega (arith, known, small), omega (arith, known, small))
-
-    -- what is known of it by its number
-    pub by_last_number :
-        {P : List Line → Type 0} → ((lines : List Line) → represents lines → next.known.number ≡ length lines + 1
-        → next.known.number < 2 ^ 44 → P lines)
-        → P (capture (stream_with [] past) false).lines
-    by_last_number known = known (capture (stream_with [] past) false).lines lined.represented last_number.0
-        last_number.1
-
-    text_with : text ++ w.line (capture (stream_with [] past) false).lines next.known.line
-        ≡ lines_text w (next.known.line ∷ (capture (stream_with [] past) false).lines)
-    text_with = ap (λ (t : List ℕ). t ++ w.line (capture (stream_with [] past) false).lines next.known.line)
-        lined.text_is
-
-    -- it was taken
-    pub last_taken :
-        {now : List Line → Type 0} (memory : Bool) (old here c : Out) (before after : ℕ)
-        (ended : Result Halt ToolFault)
-        → ((lines : List Line) → now lines → length lines < 2 ^ 44
-        → LineEnds (w.report lines) here c after (w.last lines) ended)
-        → IsBuffered old here before (Ok after) (w.line (capture (stream_with [] past) false).lines next.known.line)
-        × now (next.known.line ∷ (capture (stream_with [] past) false).lines)
-        → Ends memory (λ o. o ≡ capture_outcome w (stream_with [] past) true) old c before text ended
-    last_taken memory old here c before after ended ends (put, represented) =
-        let lines = next.known.line ∷ (capture (stream_with [] past) false).lines in
-        closes_after memory lines said_last old here c before after
-        (w.line (capture (stream_with [] past) false).lines next.known.line) put text_with ended
-        (ends lines represented (omega (arith, last_number.0, last_number.1)))
-
-    whole_with :
-        (capture_outcome w (stream_with [] past) true).text
-        ≡ text ++ w.line (capture (stream_with [] past) false).lines next.known.line
-    whole_with =
-        ap (λ (o : Outcome). o.text)
-        (outcome_here
-        (record { lines = next.known.line ∷ (capture (stream_with [] past) false).lines; refused = false })
-        said_last)
-        ∙ sym text_with
-
-    -- memory ran out in it
-    pub last_starved :
-        {memory : Bool} {old here : Out} {before : ℕ} (halt : Halt)
-        → LineSteps memory ⊤ old here before (w.line (capture (stream_with [] past) false).lines next.known.line)
-        (Ok (Off halt))
-        → Puts (λ all. Halts memory (λ o. o ≡ capture_outcome w (stream_with [] past) true) all halt.result) old here
-        before halt.written text
-    last_starved {memory} {old = old} {here} {before} halt (result_is, wants, more, left, joined, put) =
-        record {
-          more = more;
-          put = put;
-          following =
-              subst (λ (r : Result Report ToolFault). Halts memory
-              (λ o. o ≡ capture_outcome w (stream_with [] past) true) (text ++ more) r) (sym result_is) (
-                capture_outcome w (stream_with [] past) true,
-                refl,
-                left,
-                whole_with ∙ ap (λ (t : List ℕ). text ++ t) joined ∙ sym (append_assoc text more left),
-                wants,
-              );
-        }
-
-    -- the sink failed in it
-    pub last_failed :
-        {old here : Out} {before : ℕ} (fault : ToolFault)
-        → IsBuffered old here before (Err fault) (w.line (capture (stream_with [] past) false).lines next.known.line)
-        → Fails (λ o. o ≡ capture_outcome w (stream_with [] past) true) old here before text fault
-    last_failed fault put =
-        record {
-          outcome = capture_outcome w (stream_with [] past) true;
+    by_result : (ended : Result Report ToolFault) → LineEnds (w.report taken.lines) here c (w.last taken.lines) ended
+        → Ends memory (λ x. x ≡ capture_outcome w all true) old c text ended
+    by_result (Ok report) (report_is, went) = record {
+      more = taken.more ++ w.last taken.lines;
+      put = put_on old here c (Ok tt) taken.more (w.last taken.lines) taken.put went;
+      following = (
+        capture_outcome w all true,
+        refl,
+        ap (λ (o : Outcome). o.halt) outcome_is
+            ∙ ap (λ (r : Report). let h : Option (Result Report ToolFault) = Some (Ok r) in h) (sym report_is),
+        whole_is,
+      );
+    }
+    by_result (Err fault) broke =
+        broke_stops memory fault (record {
+          outcome = capture_outcome w all true;
           meant = refl;
-          more = w.line (capture (stream_with [] past) false).lines next.known.line;
-          rest = (capture_outcome w (stream_with [] past) true).closing;
-          joined = ap (λ (t : List ℕ). t ++ (capture_outcome w (stream_with [] past) true).closing) whole_with;
-          put = put;
-        }
+          more = taken.more ++ w.last taken.lines;
+          rest = [];
+          joined = whole_is ∙ sym (append-nil (text ++ (taken.more ++ w.last taken.lines)));
+          broke = put_on old here c (Err fault) taken.more (w.last taken.lines) taken.put broke;
+        })

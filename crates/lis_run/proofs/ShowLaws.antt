@@ -1,11 +1,13 @@
 -- The lines of signals, one after the other.
 use Rattle.std.proofs.Common.{◌≡◌, ℕ, Bool, true, false, List, [], ◌∷◌, ◌++◌, Option, None, Some, Ok, Err, IfOk, refl}
 use Rattle.std.proofs.Common.{ap, sym, subst, ◌∙◌, append-nil, append_assoc, length, take, drop, take-append-drop}
+use Rattle.std.proofs.Common.{codes}
 use Rattle.lis_frame.specs.declared.scanner.SignalOf.{SignalOf}
-use Rattle.lis_frame.specs.Stream.{signal_after, with_signal, signals_after, stream_with}
+use Rattle.lis_frame.specs.Stream.{signals_after, stream_with}
 use Rattle.lis_frame.proofs.StreamLaws.{signals_after-append}
 use Rattle.lis_frame.specs.Frame.{FrameContent}
 use Rattle.lis_frame.specs.Scanner.{borrowed_signals}
+use Rattle.hex.specs.Hex.{encode_lower}
 use Rattle.std.specs.declared.result.Result.{Result}
 use Rattle.std.specs.Io.KnownBytes.{Appends}
 use Rattle.lis_engine.specs.declared.fault.ToolFault.{ToolFault}
@@ -14,19 +16,11 @@ use Rattle.lis_report.specs.Answers.{Report}
 use Rattle.lis_engine.specs.Outcome.{at_end, whole}
 use Rattle.lis_report.specs.Answers.{Outcome}
 use Rattle.lis_engine.specs.Parts.{text_if_any}
-use Rattle.lis_engine.specs.Output.{IsBuffered, Out, WentOut}
-use Rattle.lis_engine.proofs.BufferLaws.{buffered_stops}
+use Rattle.lis_engine.specs.Output.{Broke, IsWorking, Out, WentOn, WentOut}
+use Rattle.lis_engine.proofs.OutputLaws.{breaks_on, nothing_put, put_on}
 use Rattle.lis_engine.specs.Runs.{HasRun, KnownPorts, Ran, Shown, WroteOutcome, WroteText}
-use Rattle.lis_run.specs.Show.{Shows, clean, frame_line, show, signal_line, signal_lines}
+use Rattle.lis_run.specs.Show.{Shows, clean, digits_part, frame_line, show, signal_line, signal_lines}
 use Rattle.lis_link.proofs.HearingLaws.{stream_with-append}
-
--- the line of a byte's signal, and then the lines of what follows
-pub signal_lines-with :
-    {limit : ℕ} (o : Option (SignalOf limit)) (rest : List (SignalOf limit)) →
-    signal_lines (with_signal o rest) ≡ signal_lines (with_signal o []) ++ signal_lines rest
-signal_lines-with None rest = refl
-signal_lines-with (Some signal) rest = ap (λ (l : List ℕ). l ++ signal_lines rest)
-    (sym (append-nil (signal_line signal)))
 
 pub signal_lines-append :
     {limit : ℕ} (xs ys : List (SignalOf limit)) → signal_lines (xs ++ ys) ≡ signal_lines xs ++ signal_lines ys
@@ -43,50 +37,86 @@ pub lines-append :
 lines-append limit past xs ys = ap signal_lines (signals_after-append limit xs ys past)
     ∙ signal_lines-append (signals_after limit past xs) _
 
-pub no_lines : (limit : ℕ) (past bytes : List ℕ) → length bytes ≡ 0
-    → length (signal_lines (signals_after limit past bytes)) ≡ 0
-no_lines limit past [] none = refl
-no_lines limit past (b ∷ bytes) none = cc
+-- the line of a frame that was read at the front
+pub frame_lines :
+    (limit : ℕ) (past bytes : List ℕ) (o : Option FrameContent) → signals_after limit past bytes ≡ borrowed_signals o
+    → text_if_any frame_line o ≡ signal_lines (signals_after limit past bytes)
+frame_lines limit past bytes None is = ap signal_lines (sym is)
+frame_lines limit past bytes (Some frame) is = sym (append-nil (frame_line frame)) ∙ ap signal_lines (sym is)
 
-borrowed-lines : (limit : ℕ) (o : Option FrameContent)
-    → signal_lines (borrowed_signals {limit = limit} o) ≡ text_if_any frame_line o
-borrowed-lines limit None = refl
-borrowed-lines limit (Some frame) = append-nil (frame_line frame)
-
--- the line of a frame that was read at the front, and then the lines of what follows
-pub front_lines :
-    (limit n : ℕ) (past bytes : List ℕ) (o : Option FrameContent)
-    → signals_after limit past (take n bytes) ≡ borrowed_signals o →
-    signal_lines (signals_after limit past bytes) ≡ text_if_any frame_line o
-    ++ signal_lines (signals_after limit (stream_with past (take n bytes)) (drop n bytes))
-front_lines limit n past bytes o is =
-    let both = rw (take-append-drop n bytes) at (lines-append limit past (take n bytes) (drop n bytes)) in
-    both ∙ ap (λ (l : List ℕ). l ++ signal_lines (signals_after limit (stream_with past (take n bytes))
-    (drop n bytes))) (ap signal_lines is ∙ borrowed-lines limit o)
-
--- the sink failed in the line of the first byte, or of the frame at the front
-pub byte_stops :
-    (limit : ℕ) (past : List ℕ) (byte : ℕ) (left : List ℕ) (a b : Out) (before : ℕ) (fault : ToolFault)
-    → IsBuffered a b before (Err fault) (signal_lines (with_signal (signal_after limit past byte) []))
-    → IsBuffered a b before (Err fault) (signal_lines (signals_after limit past (byte ∷ left)))
-byte_stops limit past byte left a b before fault buffered =
-    rw (signal_lines-with (signal_after limit past byte) (signals_after limit (byte ∷ past) left))
-    (buffered_stops a b before fault (signal_lines (with_signal (signal_after limit past byte) []))
-    (signal_lines (signals_after limit (byte ∷ past) left)) buffered)
-
-pub front_stops :
-    (limit n : ℕ) (past bytes : List ℕ) (o : Option FrameContent) (a b : Out) (before : ℕ) (fault : ToolFault)
-    → signals_after limit past (take n bytes) ≡ borrowed_signals o
-    → IsBuffered a b before (Err fault) (text_if_any frame_line o)
-    → IsBuffered a b before (Err fault) (signal_lines (signals_after limit past bytes))
-front_stops limit n past bytes o a b before fault is buffered =
-    rw (front_lines limit n past bytes o is) (buffered_stops a b before fault (text_if_any frame_line o)
-    (signal_lines (signals_after limit (stream_with past (take n bytes)) (drop n bytes))) buffered)
+pub digits_here : (bytes : List ℕ) → (length bytes ≡ 0 → ⊥) → digits_part bytes ≡ codes " " ++ encode_lower bytes
+digits_here [] some = absurd (some refl)
+digits_here (b ∷ bytes) some = refl
 
 pub front_stream : (n : ℕ) (past bytes : List ℕ)
     → stream_with (stream_with past (take n bytes)) (drop n bytes) ≡ stream_with past bytes
 front_stream n past bytes = sym (stream_with-append (take n bytes) (drop n bytes) past)
     ∙ ap (stream_with past) (take-append-drop n bytes)
+
+-- ---- while bytes are read
+
+-- the lines of the bytes before the rest were put
+pub record IsShown (limit : ℕ) (represents : List ℕ → Type 0) (old here : Out) (past bytes rest : List ℕ) : Type 0 where
+  pub read : List ℕ
+  pub represented : represents read
+  pub same : stream_with read rest ≡ stream_with past bytes
+  pub more : List ℕ
+  pub put : WentOn old here more
+  pub joined : more ++ signal_lines (signals_after limit read rest) ≡ signal_lines (signals_after limit past bytes)
+
+pub nothing_shown : (limit : ℕ) {represents : List ℕ → Type 0} {out : Out} {past bytes : List ℕ} → represents past
+    → IsWorking out → IsShown limit represents out out past bytes bytes
+nothing_shown limit {out = out} {past} represents working = record {
+  read = past;
+  represented = represents;
+  same = refl;
+  more = [];
+  put = nothing_put out working;
+  joined = refl;
+}
+
+pub all_shown :
+    {limit : ℕ} {represents : List ℕ → Type 0} {old here : Out} {past bytes rest : List ℕ}
+    → IsShown limit represents old here past bytes rest → length rest ≡ 0
+    → WentOn old here (signal_lines (signals_after limit past bytes)) × represents (stream_with past bytes)
+all_shown {limit} {represents} {old} {here} {rest = []} s none = (
+  subst (λ (t : List ℕ). WentOn old here t) (sym (append-nil s.more) ∙ s.joined) s.put,
+  subst represents s.same s.represented,
+)
+all_shown {rest = b ∷ rest} s none = cc
+
+-- so many bytes more
+module _
+    {limit : ℕ} {represents : List ℕ → Type 0} {old here : Out} {past bytes rest : List ℕ} (n : ℕ)
+    (s : IsShown limit represents old here past bytes rest) where
+  joined_now : (s.more ++ signal_lines (signals_after limit s.read (take n rest)))
+      ++ signal_lines (signals_after limit (stream_with s.read (take n rest)) (drop n rest))
+      ≡ signal_lines (signals_after limit past bytes)
+  joined_now =
+      let both = rw (take-append-drop n rest) at (lines-append limit s.read (take n rest) (drop n rest)) in
+      append_assoc s.more _ _ ∙ ap (λ (t : List ℕ). s.more ++ t) (sym both) ∙ s.joined
+
+  pub shown_on :
+      {now : List ℕ → Type 0} {next : Out} → now (stream_with s.read (take n rest))
+      → WentOn here next (signal_lines (signals_after limit s.read (take n rest)))
+      → IsShown limit now old next past bytes (drop n rest)
+  shown_on {next = next} represented_now put = record {
+    read = stream_with s.read (take n rest);
+    represented = represented_now;
+    same = front_stream n s.read rest ∙ s.same;
+    more = s.more ++ signal_lines (signals_after limit s.read (take n rest));
+    put = put_on old here next (Ok tt) s.more (signal_lines (signals_after limit s.read (take n rest))) s.put put;
+    joined = joined_now;
+  }
+
+  pub show_stops :
+      {next : Out} (fault : ToolFault)
+      → Broke here next fault (signal_lines (signals_after limit s.read (take n rest)))
+      → Broke old next fault (signal_lines (signals_after limit past bytes))
+  show_stops {next} fault broke =
+      subst (λ (t : List ℕ). Broke old next fault t) joined_now
+      (breaks_on old next fault (s.more ++ signal_lines (signals_after limit s.read (take n rest))) _
+      (put_on old here next (Err fault) s.more (signal_lines (signals_after limit s.read (take n rest))) s.put broke))
 
 -- ---- a run
 

@@ -1,6 +1,6 @@
 -- What `replay` and `texts` write of a capture: a new receiver hears what the analyzer sent, what it replies is
 -- compared with what the computer sent, and the texts that it delivers are reported.
-use Rattle.std.specs.Prelude.{ℕ, ◌+◌, nat_lt, not, Bool, true, false, List, [], ◌∷◌, ◌++◌, length, codes, decimal, None}
+use Rattle.std.specs.Prelude.{ℕ, ◌+◌, nat_lt, Bool, true, List, [], ◌∷◌, ◌++◌, length, codes, decimal, None}
 use Rattle.std.specs.Prelude.{if◌then◌else◌}
 use Rattle.std.specs.List.{flat_map}
 use Rattle.std.specs.Option.{option_to_list}
@@ -60,10 +60,10 @@ abbrev pub texts_at : ℕ → Line → Played → List (List ℕ)
 texts_at limit (FromAnalyzer bytes) p = delivered limit p.receiver bytes
 texts_at limit line p = []
 
--- whether a line from the computer differs from the replies collected
-abbrev pub differs_at : Line → Played → Bool
-differs_at (FromComputer bytes) p = not (bytes_eq bytes p.replies)
-differs_at line p = false
+-- whether a line has no difference: only one from the computer may differ from the replies collected
+abbrev pub agrees_at : Line → Played → Bool
+agrees_at (FromComputer bytes) p = bytes_eq bytes p.replies
+agrees_at line p = true
 
 -- ---- replay
 
@@ -82,14 +82,14 @@ difference_line place want got =
     joined (codes "difference " ∷ place ∷ codes " " ∷ digits_or_dash want ∷ codes " " ∷ digits_or_dash got
     ∷ codes "\n" ∷ [])
 
--- the computer's bytes next to the replies
-abbrev pub compared_line : ℕ → List ℕ → List ℕ → List ℕ
-compared_line number want got = if bytes_eq want got then [] else difference_line (decimal number) want got
+-- that of the computer's bytes next to the replies, where they differ
+abbrev pub compared_line : List ℕ → List ℕ → List ℕ → List ℕ
+compared_line place want got = if bytes_eq want got then [] else difference_line place want got
 
 -- what a line of this number writes, after what was played
 abbrev pub replay_line : ℕ → ℕ → Line → Played → List ℕ
 replay_line limit number (FromAnalyzer bytes) p = flat_map (text_line number) (delivered limit p.receiver bytes)
-replay_line limit number (FromComputer bytes) p = compared_line number bytes p.replies
+replay_line limit number (FromComputer bytes) p = compared_line (decimal number) bytes p.replies
 replay_line limit number line p = []
 
 -- how many texts were delivered
@@ -101,26 +101,17 @@ text_count limit (line ∷ lines) = text_count limit lines + length (texts_at li
 abbrev pub difference_count : ℕ → List Line → ℕ
 difference_count limit [] = 0
 difference_count limit (line ∷ lines) =
-    if differs_at line (played limit lines) then difference_count limit lines + 1 else difference_count limit lines
-
--- replies that are left at the end differ from none
-abbrev pub left_line : List ℕ → List ℕ
-left_line [] = []
-left_line (b ∷ left) = difference_line (codes "end") [] (b ∷ left)
-
--- the count with that difference
-abbrev pub count_with : List ℕ → ℕ → ℕ
-count_with [] count = count
-count_with (b ∷ left) count = count + 1
+    if agrees_at line (played limit lines) then difference_count limit lines else difference_count limit lines + 1
 
 -- `texts N differences D`
 abbrev pub counts_line : ℕ → ℕ → List ℕ
 counts_line texts differences = joined (codes "texts " ∷ decimal texts ∷ codes " differences " ∷ decimal differences
     ∷ codes "\n" ∷ [])
 
--- how many differences there are, with that at the end
+-- how many differences there are, with that at the end: replies that are left there differ from none
 abbrev pub all_differences : ℕ → List Line → ℕ
-all_differences limit lines = count_with (played limit lines).replies (difference_count limit lines)
+all_differences limit lines =
+    if bytes_eq [] (played limit lines).replies then difference_count limit lines else difference_count limit lines + 1
 
 -- 1 where there is a difference
 abbrev pub status_of : ℕ → Report
@@ -131,7 +122,7 @@ abbrev pub replay_writes_from : (first : ℕ) → ℕ → Writes
 replay_writes_from first limit =
     record {
       line = λ lines line. replay_line limit (length lines + first) line (played limit lines);
-      last = λ lines. left_line (played limit lines).replies
+      last = λ lines. compared_line (codes "end") [] (played limit lines).replies
           ++ counts_line (text_count limit lines) (all_differences limit lines);
       report = λ lines. status_of (all_differences limit lines);
     }

@@ -10,7 +10,7 @@ mod upgrade;
 
 pub use lines::{LineMachine, Lines};
 pub use lis_engine::{Machine, SourceFor, ToolFault, status_of};
-pub use lis_report::{Closed, Ended, Fate, Halt, Refused, Report, Turn};
+pub use lis_report::{Ended, Refused, Report, Stop};
 pub use replay::{run_replay, run_replay_of};
 pub use show::{run_show, run_show_of};
 pub use texts::{run_texts, run_texts_of};

@@ -1,6 +1,6 @@
 //! Commands that take a capture line by line.
 
-ghost use Rattle.std.specs.Prelude.{◌≡◌, ◌+◌, ◌∷◌, ◌++◌, [], ◌^◌, ◌<◌, ℕ, Bool, true, false, List, length, is_err};
+ghost use Rattle.std.specs.Prelude.{◌≡◌, ◌+◌, ◌∷◌, ◌++◌, [], ◌^◌, ◌<◌, ℕ, Bool, true, false, List, length};
 ghost use Rattle.std.specs.Prelude.{IfNone, IfSome};
 ghost use Rattle.lis_frame.specs.Stream.{stream_with};
 ghost use Rattle.lis_capture.specs.declared.line.Line.{Line as LineContent};
@@ -10,14 +10,14 @@ ghost use Rattle.lis_run.specs.CaptureRuns.{CaptureRan};
 ghost use Rattle.lis_run.specs.LineOutcome.{IsLined, Writes, capture_outcome, lines_outcome};
 ghost use Rattle.lis_engine.specs.Steps.{LineEnds, LineSteps};
 ghost use Rattle.lis_engine.specs.Outcome.{going};
-ghost use Rattle.lis_engine.specs.Output.{out};
+ghost use Rattle.lis_engine.specs.Output.{IsLeft, IsWorking};
 ghost use Rattle.lis_engine.specs.Runs.{AreFresh, Stops, ports};
 ghost use Rattle.std.proofs.Common.{ap, sym, ◌∙◌};
 
 use lis_capture::{Line, LineFound, LineReader, MOST_BYTES};
-use lis_engine::{Machine, OutputBuffer, SourceFor, ToolFault};
+use lis_engine::{Machine, Output, SourceFor, ToolFault};
 use lis_port::Sink;
-use lis_report::{Closed, Ended, Fate, Halt, Refused, Turn};
+use lis_report::{Ended, Refused, Stop};
 
 /// A command that takes a capture line by line. Contracts see the lines newest first.
 pub trait LineMachine: Drop {
@@ -34,53 +34,50 @@ pub trait LineMachine: Drop {
     fn reader() -> LineReader
         ensures { HasRead result [] };
 
-    /// Takes the next line of these bytes and puts what it gives after the output buffer, where the command can do both
-    /// at once; answers how many bytes the line has. Else nothing is taken.
+    /// Takes the next line of these bytes and puts what it gives, where there is room and the command can do both at
+    /// once; answers how many bytes the line has. Else nothing is taken.
     #[inline(always)]
-    fn copy_line(
+    fn copy_line<W: Sink>(
         &mut self,
         reader: &mut LineReader,
-        outgoing: &mut OutputBuffer,
+        out: &mut Output<'_, W>,
         bytes: &[u8],
     ) -> Option<usize>
         ensures read { IfSome result (λ count. CopiesLine reader.old reader.new bytes.now count) }
         ensures represented { IfSome result (λ count. (lines : List LineContent) → represents self.old lines →
             represents self.new (reader.new.known.line ∷ lines)) }
+        ensures kept { out.new ≡ record out.old { waits = out.new.waits } }
         ensures written { IfSome result (λ count. (lines : List LineContent) → represents self.old lines →
-            outgoing.new ≡ outgoing.old ++ writes.line lines reader.new.known.line) }
-        ensures none { IfNone result ((self.new ≡ self.old) × (reader.new ≡ reader.old)
-            × (outgoing.new ≡ outgoing.old)) }
+            out.new.waits ≡ out.old.waits ++ writes.line lines reader.new.known.line) }
+        ensures none { IfNone result ((self.new ≡ self.old) × (reader.new ≡ reader.old) × (out.new ≡ out.old)) }
     {
         None
     }
 
-    /// Takes the line of this number, after `written` bytes of the run; there is room for its bytes where their digits
-    /// are kept. It halts the run only if memory runs out.
+    /// Takes the line of this number; there is room for its bytes where their digits are kept. Apart from the sink's
+    /// faults, it stops the run only if memory runs out.
     fn line<'a, W: Sink>(
         &mut self,
-        sink: &mut W,
-        outgoing: &mut OutputBuffer,
-        written: u64,
         number: u64,
         line: &Line<'a>,
         room: &'a mut [u8; MOST_BYTES],
-    ) -> Fate
-        requires { W.failed sink.old ≡ false }
+        out: &mut Output<'_, W>,
+    ) -> Result<(), ToolFault>
+        requires { IsWorking out.old }
         ensures steps { (lines : List LineContent) → represents self.old lines → number ≡ length lines + 1
             → number < 2 ^ 44 →
-            LineSteps takes_memory (represents self.new (line.now ∷ lines)) (out (W.taken sink.old) outgoing.old)
-            (out (W.taken sink.new) outgoing.new) written
+            LineSteps takes_memory (represents self.new (line.now ∷ lines)) out.old out.new
             (writes.line lines line.now) result }
-        ensures failed { W.failed sink.new ≡ is_err result };
+        ensures left { IsLeft result out.new }
+        ensures same { out.new.sink ≡ out.old.sink };
 
     /// Takes the end of the input.
-    fn end<W: Sink>(self, sink: &mut W, outgoing: &mut OutputBuffer, written: u64) -> Closed
-        requires { W.failed sink.old ≡ false }
+    fn end<W: Sink>(self, out: &mut Output<'_, W>) -> Ended
+        requires { IsWorking out.old }
         ensures ends { (lines : List LineContent) → represents self lines → length lines < 2 ^ 44 →
-            LineEnds (writes.report lines) (out (W.taken sink.old) outgoing.old) (out (W.taken sink.new) outgoing.new)
-            written
-            (writes.last lines) result }
-        ensures failed { W.failed sink.new ≡ is_err result };
+            LineEnds (writes.report lines) out.old out.new (writes.last lines) result }
+        ensures left { IsLeft result out.new }
+        ensures same { out.new.sink ≡ out.old.sink };
 }
 
 /// Runs a command over a capture: it takes the lines of what the source gives, by at most `reads` calls of read.
@@ -125,33 +122,29 @@ impl<C: LineMachine> Lines<C> {
 
     /// The command takes the line that was read last.
     #[inline(always)]
-    fn take<W: Sink>(&mut self, sink: &mut W, outgoing: &mut OutputBuffer, written: u64) -> Fate
-        requires { W.failed sink.old ≡ false }
+    fn take<W: Sink>(&mut self, out: &mut Output<'_, W>) -> Result<(), ToolFault>
+        requires { IsWorking out.old }
         ensures steps { (lines : List LineContent) → C.represents self.old.command lines
             → self.old.reader.known.number ≡ length lines + 1 →
             self.old.reader.known.number < 2 ^ 44 →
             LineSteps C.takes_memory (C.represents self.new.command (self.old.reader.known.line ∷ lines))
-            (out (W.taken sink.old) outgoing.old) (out (W.taken sink.new) outgoing.new) written
+            out.old out.new
             (C.writes.line lines self.old.reader.known.line) result }
         ensures reader { self.new.reader ≡ self.old.reader }
-        ensures failed { W.failed sink.new ≡ is_err result }
+        ensures left { IsLeft result out.new }
+        ensures same { out.new.sink ≡ out.old.sink }
     {
         let number = self.reader.number();
         let line = self.reader.line();
-        self.command
-            .line(sink, outgoing, written, number, &line, &mut self.room)
+        self.command.line(number, &line, &mut self.room, out)
     }
 
-    /// How a run halts whose last line is rejected.
-    fn refused(&self, written: u64) -> Halt
-        ensures written { result.written ≡ written }
-        ensures result { result.result ≡ Err (ToolFault.CaptureLine self.now.reader.known.number) }
+    /// The fault of the last line, which is rejected.
+    fn rejected(&self) -> ToolFault
+        ensures { result ≡ ToolFault.CaptureLine self.now.reader.known.number }
     {
-        Halt {
-            written,
-            result: Err(ToolFault::CaptureLine {
-                line: self.reader.number(),
-            }),
+        ToolFault::CaptureLine {
+            line: self.reader.number(),
         }
     }
 }
@@ -172,49 +165,39 @@ impl<C: LineMachine> Machine<Refused> for Lines<C> {
         ∙ sym (ap (λ (refused : Bool). lines_outcome C.writes refused false
         (capture (stream_with [] bytes) false).lines) lined.fine) };
 
-    fn feed<W: Sink>(
-        &mut self,
-        sink: &mut W,
-        outgoing: &mut OutputBuffer,
-        written: u64,
-        bytes: &[u8],
-    ) -> Fate {
+    fn feed<W: Sink>(&mut self, bytes: &[u8], out: &mut Output<'_, W>) -> Result<(), Stop> {
         let mut rest = bytes;
-        let mut after = written;
         while !rest.is_empty() {
-            if let Some(count) = self.command.copy_line(&mut self.reader, outgoing, rest) {
+            if let Some(count) = self.command.copy_line(&mut self.reader, out, rest) {
                 let (_, following) = rest.split_at(count);
                 rest = following;
                 continue;
             }
             let (count, found) = self.reader.read(rest);
             match found {
-                LineFound::Nothing => return Ok(Turn::On(after)),
-                LineFound::Refused => return Ok(Turn::Off(self.refused(after))),
-                LineFound::Line => match self.take(sink, outgoing, after) {
-                    Ok(Turn::On(next)) => {
-                        after = next;
-                        let (_, left) = rest.split_at(count);
-                        rest = left;
+                LineFound::Nothing => return Ok(()),
+                LineFound::Refused => return Err(Stop::Fault(self.rejected())),
+                LineFound::Line => {
+                    if let Err(fault) = self.take(out) {
+                        return Err(Stop::Fault(fault));
                     }
-                    Ok(Turn::Off(halt)) => return Ok(Turn::Off(halt)),
-                    Err(fault) => return Err(fault),
-                },
+                }
             }
+            let (_, left) = rest.split_at(count);
+            rest = left;
         }
-        Ok(Turn::On(after))
+        Ok(())
     }
 
-    fn end<W: Sink>(self, sink: &mut W, outgoing: &mut OutputBuffer, written: u64) -> Closed {
+    fn end<W: Sink>(self, out: &mut Output<'_, W>) -> Ended {
         let mut lines = self;
         match lines.reader.finish() {
-            LineFound::Nothing => lines.command.end(sink, outgoing, written),
-            LineFound::Refused => Ok(lines.refused(written)),
-            LineFound::Line => match lines.take(sink, outgoing, written) {
-                Ok(Turn::On(after)) => lines.command.end(sink, outgoing, after),
-                Ok(Turn::Off(halt)) => Ok(halt),
-                Err(fault) => Err(fault),
-            },
+            LineFound::Nothing => lines.command.end(out),
+            LineFound::Refused => Err(lines.rejected()),
+            LineFound::Line => {
+                lines.take(out)?;
+                lines.command.end(out)
+            }
         }
     }
 

@@ -1,16 +1,16 @@
 //! The command `replay`: what a receiver answers to the analyzer's bytes of a capture, next to the computer's.
 
-ghost use Rattle.std.specs.Prelude.{◌≡◌, ◌≤◌, [], true, false, is_err, if◌then◌else◌, IfOk};
+ghost use Rattle.std.specs.Prelude.{◌≡◌, ◌≤◌, true, false, IfOk};
 ghost use Rattle.lis_frame.specs.Limit.{IsLimit};
 ghost use Rattle.lis_run.specs.CaptureRuns.{CaptureRan};
 ghost use Rattle.lis_engine.specs.Parts.{part_text};
-ghost use Rattle.lis_engine.specs.Output.{IsBuffered, out};
+ghost use Rattle.lis_engine.specs.Output.{IsPut, IsWorking};
 ghost use Rattle.lis_run.specs.Replay.{difference_line, digits_or_dash, replay_writes, text_line};
 ghost use Rattle.lis_engine.specs.Runs.{AreFresh, Stops, ports};
 
 use crate::lines::run_lines;
-use crate::playing::{InLines, Playing};
-use lis_engine::{OutputBuffer, Part, Print, SourceFor, Written, make_room};
+use crate::playing::Playing;
+use lis_engine::{Output, Part, Print, SourceFor, ToolFault};
 use lis_port::Sink;
 use lis_report::Ended;
 use std::alloc::Global;
@@ -39,8 +39,7 @@ pub fn run_replay_of<const N: usize, R: SourceFor<W>, W: Sink>(
         (ports R.left R.made R.ended R.failed W.taken W.sent W.failed source.new sink.new) reads result }
     ensures status { IfOk result (λ report. report.status ≤ 1) }
 {
-    let playing = Playing::<N, InLines>::new(alloc, InLines);
-    run_lines(playing, source, sink, reads)
+    run_lines(Playing::<N, true>::new(alloc), source, sink, reads)
 }
 
 /// The same with the usual limit of 240 bytes.
@@ -64,47 +63,34 @@ pub fn run_replay<R: SourceFor<W>, W: Sink>(
     run_replay_of::<240, R, W>(alloc, source, sink, reads)
 }
 
-/// The line of a text.
-#[derive(Clone, Copy)]
-pub(crate) struct TextLine<'a> {
-    pub(crate) number: u64,
-    pub(crate) text: &'a [u8],
+/// Puts the line of a text.
+pub(crate) fn put_text_line<W: Sink>(
+    number: u64,
+    text: &[u8],
+    out: &mut Output<'_, W>,
+) -> Result<(), ToolFault>
+    requires { IsWorking out.old }
+    ensures { IsPut out.old out.new result (text_line number text.now) }
+{
+    out.make_room(TEXT_LINE_ROOM)?;
+    out.append(b"text ");
+    out.append_number(number);
+    out.append(b" ");
+    out.append_number(text.len() as u64);
+    out.append(b"\n");
+    Ok(())
 }
 
-impl Print for TextLine<'_> {
-    ghost text = { λ line. text_line line.number line.text.now };
-
-    fn print<W: Sink>(&self, sink: &mut W, outgoing: &mut OutputBuffer, written: u64) -> Written {
-        let after = make_room(sink, outgoing, written, TEXT_LINE_ROOM)?;
-        outgoing.append(b"text ");
-        outgoing.append_number(self.number);
-        outgoing.append(b" ");
-        outgoing.append_number(self.text.len() as u64);
-        outgoing.append(b"\n");
-        Ok(after)
-    }
-}
-
-/// Buffers the line of a difference between what the computer sent and the replies; none where both are the same.
-#[inline(always)]
-pub(crate) fn buffer_difference<'x, W: Sink>(
-    sink: &mut W,
-    outgoing: &mut OutputBuffer,
-    written: u64,
+/// Puts the line of a difference between what the computer sent and the replies.
+pub(crate) fn put_difference<'x, W: Sink>(
     place: Part<'x>,
     want: &'x [u8],
     got: &'x [u8],
-    same: bool,
-) -> Written
-    requires { W.failed sink.old ≡ false }
-    ensures buffered { IsBuffered (out (W.taken sink.old) outgoing.old) (out (W.taken sink.new) outgoing.new) written
-        result
-        (if same then [] else difference_line (part_text place.entry) want.now got.now) }
-    ensures failed { W.failed sink.new ≡ is_err result }
+    out: &mut Output<'_, W>,
+) -> Result<(), ToolFault>
+    requires { IsWorking out.old }
+    ensures { IsPut out.old out.new result (difference_line (part_text place.entry) want.now got.now) }
 {
-    if same {
-        return Ok(written);
-    }
     let parts = [
         Part::Text(b"difference "),
         place,
@@ -114,7 +100,7 @@ pub(crate) fn buffer_difference<'x, W: Sink>(
         or_dash(got),
         Part::Text(b"\n"),
     ];
-    parts.as_slice().print(sink, outgoing, written)
+    parts.as_slice().print(out)
 }
 
 /// The digits of bytes, or a dash for no byte.

@@ -7,7 +7,7 @@ ghost use Rattle.lis_run.specs.Replay.{texts_writes};
 ghost use Rattle.lis_engine.specs.Runs.{AreFresh, Stops, ports};
 
 use crate::lines::run_lines;
-use crate::playing::{InTexts, Playing};
+use crate::playing::Playing;
 use lis_engine::SourceFor;
 use lis_port::Sink;
 use lis_report::Ended;
@@ -33,8 +33,7 @@ pub fn run_texts_of<const N: usize, R: SourceFor<W>, W: Sink>(
         (ports R.left R.made R.ended R.failed W.taken W.sent W.failed source.new sink.new) reads result }
     ensures status { IfOk result (λ report. report.status ≡ 0) }
 {
-    let playing = Playing::<N, InTexts>::new(alloc, InTexts);
-    run_lines(playing, source, sink, reads)
+    run_lines(Playing::<N, false>::new(alloc), source, sink, reads)
 }
 
 /// The same with the usual limit of 240 bytes.

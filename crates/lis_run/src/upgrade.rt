@@ -1,19 +1,19 @@
 //! The command `upgrade`: a capture as one of version 2.
 
-ghost use Rattle.std.specs.Prelude.{◌≡◌, ◌≤◌, ◌++◌, [], List, true, false, is_err, length, IfOk};
+ghost use Rattle.std.specs.Prelude.{◌≡◌, List, true, false, IfOk};
 ghost use Rattle.lis_capture.specs.declared.line.Line.{Line as LineContent};
 ghost use Rattle.lis_capture.specs.Encoding.{added_encoding};
-ghost use Rattle.lis_run.specs.CaptureRuns.{CaptureRan};
-ghost use Rattle.lis_engine.specs.Parts.{part_text, text_if_any};
+ghost use Rattle.lis_engine.specs.Output.{IsLeft, IsPut, IsWorking};
 ghost use Rattle.lis_engine.specs.Runs.{AreFresh, Stops, ports};
+ghost use Rattle.lis_run.specs.CaptureRuns.{CaptureRan};
 ghost use Rattle.lis_run.specs.Upgrade.{opening, upgrade_writes};
 ghost use Rattle.lis_run.specs.inside.Upgrade.{is_begun};
 
 use crate::lines::{LineMachine, run_lines};
 use lis_capture::{LONGEST_ENCODING, Line, LineReader, MOST_BYTES};
-use lis_engine::{OutputBuffer, Part, Print, SourceFor, Written, make_room};
+use lis_engine::{Output, SourceFor, ToolFault};
 use lis_port::Sink;
-use lis_report::{Closed, Ended, Fate, Halt, Report, Turn};
+use lis_report::{Ended, Report};
 
 /// Writes a capture as one of version 2: the line `capture 2`, and then each of its lines, with digits in
 /// lower case and without CR. Where a line is malformed, the lines before it are written. It takes no memory.
@@ -38,6 +38,26 @@ struct Upgrade {
     begun: bool,
 }
 
+impl Upgrade {
+    /// Puts the line of the version, where no line was read before.
+    #[inline(always)]
+    #[tactic(auto, using(crate::proofs::StepLaws::put_left, crate::proofs::StepLaws::put_same))]
+    fn open<W: Sink>(&mut self, out: &mut Output<'_, W>) -> Result<(), ToolFault>
+        requires { IsWorking out.old }
+        ensures put { (lines : List LineContent) → self.old.begun ≡ is_begun lines →
+            IsPut out.old out.new result (opening lines) }
+        ensures begun { self.new.begun ≡ true }
+        ensures left { IsLeft result out.new }
+        ensures same { out.new.sink ≡ out.old.sink }
+    {
+        if self.begun {
+            return Ok(());
+        }
+        self.begun = true;
+        out.put(b"capture 2\n")
+    }
+}
+
 impl LineMachine for Upgrade {
     ghost writes = { upgrade_writes };
 
@@ -50,69 +70,48 @@ impl LineMachine for Upgrade {
     }
 
     #[inline(always)]
-    fn copy_line(
+    fn copy_line<W: Sink>(
         &mut self,
         reader: &mut LineReader,
-        outgoing: &mut OutputBuffer,
+        out: &mut Output<'_, W>,
         bytes: &[u8],
     ) -> Option<usize> {
-        if !self.begun || outgoing.room() < LONGEST_ENCODING {
+        if !self.begun || out.room() < LONGEST_ENCODING {
             return None;
         }
-        reader.copy(bytes, outgoing)
+        reader.copy(bytes, out)
     }
 
     #[inline(always)]
+    #[tactic(auto, using(crate::proofs::StepLaws::put_left, crate::proofs::StepLaws::put_same))]
     fn line<'a, W: Sink>(
         &mut self,
-        sink: &mut W,
-        outgoing: &mut OutputBuffer,
-        written: u64,
         _number: u64,
         line: &Line<'a>,
         _room: &'a mut [u8; MOST_BYTES],
-    ) -> Fate {
-        let opening = opening_after(self.begun);
-        self.begun = true;
-        let after = (opening, AddedLine(line)).print(sink, outgoing, written)?;
-        Ok(Turn::On(after))
+        out: &mut Output<'_, W>,
+    ) -> Result<(), ToolFault> {
+        self.open(out)?;
+        put_added(line, out)
     }
 
-    fn end<W: Sink>(self, sink: &mut W, outgoing: &mut OutputBuffer, written: u64) -> Closed {
-        let written = opening_after(self.begun).print(sink, outgoing, written)?;
-        Ok(Halt {
-            written,
-            result: Ok(Report::of(false)),
-        })
+    fn end<W: Sink>(self, out: &mut Output<'_, W>) -> Ended {
+        let mut upgrade = self;
+        upgrade.open(out)?;
+        Ok(Report::of(false))
     }
 }
 
-/// The line of the version, where no line was read before.
+/// Puts a line, but not that of the version, which is in front alone.
 #[inline(always)]
-fn opening_after(begun: bool) -> Option<Part<'static>>
-    ensures { (lines : List LineContent) → begun ≡ is_begun lines → text_if_any part_text result ≡ opening lines }
+fn put_added<W: Sink>(line: &Line<'_>, out: &mut Output<'_, W>) -> Result<(), ToolFault>
+    requires { IsWorking out.old }
+    ensures { IsPut out.old out.new result (added_encoding line.now) }
 {
-    if begun {
-        return None;
+    if let Line::Version = line {
+        return Ok(());
     }
-    Some(Part::Text(b"capture 2\n"))
-}
-
-/// A line as it is written; the version is in front alone.
-#[derive(Clone, Copy)]
-struct AddedLine<'a, 'b>(&'b Line<'a>);
-
-impl Print for AddedLine<'_, '_> {
-    ghost text = { λ added. added_encoding added.0.now };
-
-    #[inline(always)]
-    fn print<W: Sink>(&self, sink: &mut W, outgoing: &mut OutputBuffer, written: u64) -> Written {
-        let AddedLine(line) = self;
-        if let Line::Version = line {
-            return Ok(written);
-        }
-        let after = make_room(sink, outgoing, written, LONGEST_ENCODING)?;
-        line.append_to(outgoing);
-        Ok(after)
-    }
+    out.make_room(LONGEST_ENCODING)?;
+    line.append_to(out);
+    Ok(())
 }

@@ -7,6 +7,7 @@ use Rattle.lis_capture.specs.declared.reader.LineFound.{LineFound}
 use Rattle.lis_capture.specs.declared.reader.LineFound.TheVariants as found
 use Rattle.lis_capture.specs.declared.line.CaptureVersion.{CaptureVersion}
 use Rattle.lis_capture.specs.declared.line.Line.TheVariants.{Empty}
+use Rattle.lis_engine.specs.Output.{Out}
 use Rattle.lis_capture.specs.Encoding.{added_encoding}
 use Rattle.lis_capture.specs.Line.{line_of, longest_line, version_after}
 use Rattle.lis_capture.specs.Reader.{Known, Reading}
@@ -34,7 +35,7 @@ abbrev pub found_holding : List ℕ → LineFound
 found_holding text = if is_long text then found.Refused else found.Nothing
 
 -- a text that says this line in either version, which leaves the version as an empty line does, was put out
-pub record IsCopied (text : List ℕ) (line : Line) (old new : List ℕ) : Type 0 where
+pub record IsCopied (text : List ℕ) (line : Line) (old new : Out) : Type 0 where
   pub is_said : (version : CaptureVersion) → line_of version text ≡ Some line
   pub version_is : (version : CaptureVersion) → version_after version line ≡ version_after version Empty
-  pub written : new ≡ old ++ added_encoding line
+  pub written : new ≡ record old { waits = old.waits ++ added_encoding line }

@@ -1,17 +1,15 @@
 -- What a command over messages keeps and answers while the records come.
-use Rattle.std.specs.Prelude.{◌≡◌, ℕ, ◌<◌, Bool, true, false, List, [], ◌++◌, ◌⊎◌, length, Option, None, Some, Ok, Err}
-use Rattle.std.specs.Prelude.{refl, ⊤}
+use Rattle.std.specs.Prelude.{◌≡◌, ℕ, ◌+◌, ◌<◌, ◌^◌, true, false, List, ◌++◌, length, Option, Ok, Err, refl}
 use Rattle.std.proofs.Common.{ap, inl}
 use Rattle.std.specs.declared.result.Result.{Result}
-use Rattle.lis_message.specs.Kept.{RecordsState}
 use Rattle.lis_engine.specs.declared.fault.ToolFault.{ToolFault}
-use Rattle.lis_engine.specs.declared.fault.ToolFault.TheVariants.{OutOfMemory}
-use Rattle.lis_report.specs.inside.Answers.{Halt, Turn}
-use Rattle.lis_engine.specs.declared.machine.Turn.TheVariants.{On, Off}
+use Rattle.lis_engine.specs.declared.machine.Stop.TheVariants.{Fault, Refused}
+use Rattle.lis_message.specs.Kept.{RecordsState}
 use Rattle.lis_engine.specs.Outcome.{going}
-use Rattle.lis_report.specs.Answers.{Outcome}
 use Rattle.lis_engine.specs.Output.{Out}
-use Rattle.lis_engine.specs.Steps.{Fails, Halts, IsEarly, Puts, Steps}
+use Rattle.lis_engine.specs.Steps.{Puts, Steps}
+use Rattle.lis_report.specs.Answers.{Report}
+use Rattle.lis_report.specs.inside.Answers.{Stop}
 use Rattle.lis_tree.specs.Begun.{Begun}
 use Rattle.lis_tree.specs.Tree.{MessageTree}
 use Rattle.lis_record_commands.specs.Messages.{MessageWrites, IsReadingMessages, RunGives, goes_on}
@@ -24,29 +22,24 @@ abbrev pub reads_on :
 reads_on {reader = reader} reading =
     inl (goes_on reading.messages reading.left reader.held reading.split refl (ap going reading.text_is))
 
--- The run halts at a rejected record, after the text for these bytes.
-abbrev pub RefusesBy : MessageWrites → List ℕ → Out → Out → ℕ → List ℕ → Result Halt ToolFault → Type 0
-RefusesBy w bytes old new before text (Ok halt) =
-    Puts (λ all. Halts true (RunGives w bytes false) all halt.result × IsEarly true halt.result) old new before
-    halt.written text
-RefusesBy w bytes old new before text (Err fault) = Fails (RunGives w bytes false) old new before text fault
+-- Whatever was read before: of these bytes all but those that follow are read, and what they give was put.
+pub record Advances (before after : List ℕ → List ℕ → Type 0) (bytes following : List ℕ) (old new : Out) : Type 0 where
+  pub reads :
+      (past text : List ℕ) → before past text → length past + length bytes < 2 ^ 44
+      → (front : List ℕ) × (bytes ≡ front ++ following) × Puts (after (past ++ front)) old new text
 
--- what becomes of the run where a record was taken: it goes on, or memory ran out, or the sink failed
-abbrev pub turn_after : ℕ → Result (Option ℕ) ToolFault → Result Turn ToolFault
-turn_after written (Ok (Some after)) = Ok (On after)
-turn_after written (Ok None) = Ok (Off (record { written = written; result = Err OutOfMemory }))
-turn_after written (Err fault) = Err fault
+-- why a run takes no more of its input that ended so
+abbrev pub stop_by : Result Report ToolFault → Stop
+stop_by (Ok report) = Refused report
+stop_by (Err fault) = Fault fault
 
--- a step over a prefix of bytes that follow these
-abbrev pub StepsThrough :
-    (w : MessageWrites) (represents : List ℕ → List ℕ → Type 0) (past bytes following : List ℕ) → Out → Out → ℕ → List ℕ
-    → Result Turn ToolFault → Type 0
-StepsThrough w represents past bytes following old new before text result =
-    (front : List ℕ) × (bytes ≡ front ++ following)
-    × Steps true true (represents (past ++ front)) (RunGives w (past ++ bytes) false) old new before text result
+-- the run ends in these bytes, after this text
+abbrev pub StopsAt : MessageWrites → List ℕ → Out → Out → List ℕ → Stop → Type 0
+StopsAt w bytes old new text stop = Steps true true (λ all. ⊥) (RunGives w bytes false) old new text (Err stop)
 
--- where the run goes on, the bytes after are fewer
-abbrev pub IsShorter : Result Turn ToolFault → (following bytes : List ℕ) → Type 0
-IsShorter (Ok (On after)) following bytes = length following < length bytes
-IsShorter (Ok (Off halt)) following bytes = ⊤
-IsShorter (Err fault) following bytes = ⊤
+-- whatever was read before, the run ends in these bytes
+pub record StopsIn (w : MessageWrites) (before : List ℕ → List ℕ → Type 0) (bytes : List ℕ) (old new : Out)
+    (stop : Stop) : Type 0 where
+  pub stops :
+      (past text : List ℕ) → before past text → length past + length bytes < 2 ^ 44
+      → StopsAt w (past ++ bytes) old new text stop

@@ -1,10 +1,6 @@
--- The engine's words for the program's commands, whose runs end early only for a record that is rejected.
-use Rattle.lis_engine.specs.declared.machine.Halt.{Halt as HaltOf}
-use Rattle.lis_engine.specs.declared.machine.Turn.{Turn as TurnOf}
+-- Why a command of the program takes no more of its input.
+use Rattle.lis_engine.specs.declared.machine.Stop.{Stop as StopOf}
 use Rattle.lis_report.specs.declared.refused.Refused.{Refused}
 
-abbrev pub Halt : Type 0
-Halt = HaltOf Refused
-
-abbrev pub Turn : Type 0
-Turn = TurnOf Refused
+abbrev pub Stop : Type 0
+Stop = StopOf Refused

@@ -5,7 +5,7 @@ use Rattle.lis_capture.proofs.ReaderLemmas.{copies_line}
 use Rattle.lis_capture.proofs.reader.LineReader.copy.Goals as goal
 
 pub returns-clause-some : goal.returns-clause-some
-returns-clause-some c =
+returns-clause-some g c =
     let fine : c.args.self.now.known.refused ≡ false =
     rw (← c.self.view_is, ← c.self-inside.view_is) c.if-self.false in
     let none : length c.args.self.now.held ≡ 0 =

@@ -1,36 +1,34 @@
-use Rattle.std.proofs.Common.{Ok, Err, ap, ◌∙◌}
-use Rattle.lis_engine.specs.Output.{out}
-use Rattle.lis_run.specs.Replay.{all_differences, counts_line, left_line, played, status_of, text_count}
-use Rattle.lis_engine.proofs.BufferLaws.{buffered_stops}
-use Rattle.lis_run.proofs.PlayingLaws.{closed, is_left, left_buffered}
+use Rattle.std.proofs.Common.{[], Ok, Err, ap, codes, ◌∙◌}
+use Rattle.std.proofs.lemmas.Result.{err_from_is_err_and}
+use Rattle.lis_engine.proofs.OutputLaws.{breaks_on, put_on}
+use Rattle.lis_run.specs.Replay.{all_differences, compared_line, counts_line, played, status_of, text_count}
+use Rattle.lis_run.proofs.PlayingLaws.{counted}
 use Rattle.lis_run.proofs.playing.Playing.close.Goals as goal
 
-pub returns-in-Err-clause-ends : goal.returns-in-Err-clause-ends
-returns-in-Err-clause-ends g c = λ lines playing few.
-    let left_is = c.as_slice-left.ensures.value ∙ playing.hearing.replies_are c.requires.lines in
-    let here = out (g.W.Sink.taken c.args.sink.now) c.args.outgoing.now in
-    let there = out (g.W.Sink.taken c.buffer_difference.new.sink) c.buffer_difference.new.outgoing in
-    buffered_stops here there c.args.written c.in-Err.fault (left_line (played g.row.N lines).replies)
+pub returns-in_err-differences-clause-ends : goal.returns-in_err-differences-clause-ends
+returns-in_err-differences-clause-ends g c = λ lines playing few.
+    let e = err_from_is_err_and c.from_residual.result c.from_residual.ensures.1 in
+    rw (e.1, e.2)
+    (breaks_on _ _ c.in_err-differences.field-0.0 (compared_line (codes "end") [] (played g.row.N lines).replies)
     (counts_line (text_count g.row.N lines) (all_differences g.row.N lines))
-    (left_buffered here there c.args.written (Err c.in-Err.fault) _ _ left_is
-    (rw c.is_empty-same.ensures at c.in-Err.ensures.buffered))
+    (rw (playing.replies_are c.requires.lines) at c.in_err-differences.ensures))
 
-pub returns-in-Ok-print-clause-ends : goal.returns-in-Ok-print-clause-ends
-returns-in-Ok-print-clause-ends g c = λ lines playing few.
-    let left = is_left playing c.requires.lines few c.as_slice-left.ensures.value
-    (rw c.is_empty-same.ensures at c.counted-differences.ensures) in (
-      ap (λ x. Ok x) (c.of.ensures ∙ ap status_of left.counted_is),
-      closed g.row.N lines (out (g.W.Sink.taken c.args.sink.now) c.args.outgoing.now)
-          (out (g.W.Sink.taken c.print.new.sink) c.print.new.outgoing) (Ok c.in-Ok-print.written) left.left_is
-          (rw c.is_empty-same.ensures at c.in-Ok.ensures.buffered)
-          (rw (left.counted_is, playing.hearing.texts_are) at c.in-Ok-print.ensures.buffered),
+pub returns-in_err-print-clause-ends : goal.returns-in_err-print-clause-ends
+returns-in_err-print-clause-ends g c = λ lines playing few.
+    let e = err_from_is_err_and c.from_residual-in_err-print.result c.from_residual-in_err-print.ensures.1 in
+    let compared = c.in_ok-differences.ensures in
+    let all = counted playing [] c.requires.lines few compared.1 in
+    rw (e.1, e.2)
+    (put_on _ _ _ (Err c.in_err-print.field-0.0) (compared_line (codes "end") [] (played g.row.N lines).replies) _
+    (rw (playing.replies_are c.requires.lines) at compared.0)
+    (rw (playing.texts_are, all) at c.in_err-print.ensures))
+
+pub returns-clause-ends : goal.returns-clause-ends
+returns-clause-ends g c = λ lines playing few.
+    let compared = c.in_ok-differences.ensures in
+    let all = counted playing [] c.requires.lines few compared.1 in (
+      c.of.ensures ∙ ap status_of all,
+      put_on _ _ _ (Ok tt) (compared_line (codes "end") [] (played g.row.N lines).replies) _
+          (rw (playing.replies_are c.requires.lines) at compared.0)
+          (rw (playing.texts_are, all) at c.in_ok-print.ensures),
     )
-
-pub returns-in-Err-print-clause-ends : goal.returns-in-Err-print-clause-ends
-returns-in-Err-print-clause-ends g c = λ lines playing few.
-    let left = is_left playing c.requires.lines few c.as_slice-left.ensures.value
-    (rw c.is_empty-same.ensures at c.counted-differences.ensures) in
-    closed g.row.N lines (out (g.W.Sink.taken c.args.sink.now) c.args.outgoing.now)
-    (out (g.W.Sink.taken c.print.new.sink) c.print.new.outgoing) (Err c.in-Err-print.fault) left.left_is
-    (rw c.is_empty-same.ensures at c.in-Ok.ensures.buffered)
-    (rw (left.counted_is, playing.hearing.texts_are) at c.in-Err-print.ensures.buffered)

@@ -1,22 +1,20 @@
-use Rattle.std.proofs.Common.{◌≡◌, ◌+◌, ◌^◌, ◌≤◌, ℕ, List, false, length}
-use Rattle.lis_link.specs.Receiver.{ReceiverState}
-use Rattle.lis_engine.specs.Output.{out}
-use Rattle.lis_run.specs.inside.Playing.{IsHearing}
+use Rattle.std.proofs.Common.{◌≡◌, ◌+◌, ◌^◌, ◌<◌, List, length, not, nat_eq}
+use Rattle.lis_capture.specs.declared.line.Line.{Line}
+use Rattle.lis_engine.specs.Output.{IsWorking}
+use Rattle.lis_run.specs.inside.Playing.{IsPlaying}
 use Rattle.lis_run.proofs.HearingLaws.{IsHearingOn}
 use Rattle.lis_run.proofs.playing.Playing.hear.Given as goal
 
 abbrev pub invariant-loop-rest : goal.invariant-loop-rest
-invariant-loop-rest g l = record {
-  working : g.W.Sink.failed l.sink ≡ false;
-  differences : l.self.differences ≡ l.fn.self.differences;
-  goes_on :
-      (r : ReceiverState) (collected : List ℕ) (count : ℕ) →
-      IsHearing g.T.Teller.account g.row.N l.fn.self.receiver l.fn.self.replies.items l.fn.self.texts r collected
-      count → count + length l.bytes ≤ 2 ^ 63 →
-      IsHearingOn g.T.Teller.account g.row.N l.number l.self.receiver l.self.replies.items l.self.texts
-      (out (g.W.Sink.taken l.fn.sink) l.fn.outgoing) (out (g.W.Sink.taken l.sink) l.outgoing)
-      l.written l.after r collected count l.rest l.bytes;
-}
+invariant-loop-rest g l =
+    let in_lines = not (nat_eq g.row.IN_LINES 0) in
+    record {
+      working : IsWorking l.out;
+      same : l.out.sink ≡ l.fn.out.sink;
+      goes_on :
+          (lines : List Line) → IsPlaying in_lines g.row.N l.fn.self lines → l.number ≡ length lines + 1
+          → l.number < 2 ^ 44 → IsHearingOn in_lines g.row.N l.number l.self l.fn.out l.out lines l.rest l.bytes;
+    }
 
 abbrev pub decreases-loop-rest : goal.decreases-loop-rest
 decreases-loop-rest g l = length l.rest

@@ -1,8 +1,9 @@
-use Rattle.std.proofs.Common.{[], ◌++◌, refl, ap, sym}
+use Rattle.std.proofs.Common.{[], ◌++◌, refl, ap, sym, false}
 use Rattle.lis_frame.specs.Stream.{signals_after, stream_with}
 use Rattle.lis_engine.specs.Outcome.{going}
 use Rattle.lis_run.specs.Show.{show, signal_lines}
 use Rattle.lis_run.proofs.ShowLaws.{shown_more}
+use Rattle.lis_run.proofs.StepLaws.{broke_stops}
 use Rattle.lis_link.proofs.HearingLaws.{stream_with-append}
 use Rattle.lis_run.proofs.show.ShowMachineRefused.feed.Goals as goal
 
@@ -11,7 +12,7 @@ returns-in-Ok-clause-steps g c = λ past text represented few.
     let bytes = c.args.bytes.now in
     record {
       more = signal_lines (signals_after g.row.N (stream_with [] past) bytes);
-      put = c.in-Ok.ensures.buffered (stream_with [] past) represented.1;
+      put = c.in-Ok.ensures.put (stream_with [] past) represented.1;
       following = (
         shown_more g.row.N past bytes text represented.0,
         rw (stream_with-append past bytes []) (c.in-Ok.ensures.represents (stream_with [] past) represented.1),
@@ -21,11 +22,12 @@ returns-in-Ok-clause-steps g c = λ past text represented few.
 pub returns-in-Err-clause-steps : goal.returns-in-Err-clause-steps
 returns-in-Err-clause-steps g c = λ past text represented few.
     let bytes = c.args.bytes.now in
-    record {
+    broke_stops false c.in-Err.fault
+    (record {
       outcome = going (show g.row.N (past ++ bytes));
       meant = refl;
       more = signal_lines (signals_after g.row.N (stream_with [] past) bytes);
       rest = [];
       joined = ap (λ l. l ++ []) (sym (shown_more g.row.N past bytes text represented.0));
-      put = c.in-Err.ensures.buffered (stream_with [] past) represented.1;
-    }
+      broke = c.in-Err.ensures.put (stream_with [] past) represented.1;
+    })
