@@ -684,6 +684,35 @@ size_t lis_reader_records(lis_reader *s, const uint8_t *bytes, size_t bytes_len,
  * the reader stays as it is. */
 lis_status lis_reader_finish(lis_reader *s, lis_found *out);
 
+/* ---- A message as places in its text: no handle, no copy, no memory but the array. ---- */
+
+/* Where a record of a message is, and the record that it is under: a result's is its order, an order's its patient, a
+ * comment's the record before it that is no comment, manufacturer's or scientific record. */
+typedef struct lis_record_place {
+    size_t start;      /* where it begins in the text */
+    size_t parent;     /* the place in the array of the record that it is under; 0, the header's, is its own */
+    uint32_t len;      /* how many bytes it has, without its CR */
+    uint8_t letter;    /* its letter in upper case */
+} lis_record_place;
+
+/* The message that a text begins with. */
+typedef struct lis_message {
+    size_t count;                 /* how many records it has */
+    size_t len;                   /* how many bytes they have, each with its CR: the next message begins there */
+    lis_delimiters delimiters;    /* the delimiters that they are read under */
+} lis_message;
+
+/* Puts the places of the records of the message that a text begins with to the front of `out`, in their order. Give a
+ * record's bytes to lis_header_part or lis_record_part, or to lis_header_parts or lis_record_parts for all of them.
+ *
+ * LIS_STATUS_TOO_SHORT: then as many are written as `out` has room for (`message->count` is how many there are; an
+ * array of half as many as the text has bytes is never too short). LIS_STATUS_NO_RECORD if the text is empty.
+ * LIS_STATUS_UNFINISHED if it doesn't begin with a whole message: `found` has why, with the number of the record, and
+ * the records before that one are written. `message` and `found` are always written, as 0 where there is no message or
+ * no fault; what is past the records in `out` stays as it was. */
+lis_status lis_message_places(const uint8_t *text, size_t text_len, lis_record_place *out, size_t out_len,
+                              lis_message *message, lis_found *found);
+
 /* ---- Writer: records by their fields in, link texts out. Delimiters in a field's bytes are escaped. ---- */
 
 /* A handle of a writer. */

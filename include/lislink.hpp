@@ -34,27 +34,54 @@
 namespace lislink {
 
 #if defined(__cpp_exceptions)
-// Why a call failed: the status, and which text, field or byte is at fault (0 if none is).
+// What an error has the place of.
+enum class at_fault { nothing, byte, text, field };
+
+// Why a call failed: the status, and which text, field or byte is at fault (0 if none is). what() is the status in
+// words, with the place if the call has one.
 class error : public std::runtime_error {
     lis_status status_;
     std::size_t index_, place_;
 
+    static std::string words(lis_status status, std::size_t index, std::size_t place, at_fault at) {
+        std::string out = lis_status_text(status);
+        if (at == at_fault::field && index > 0)
+            out += ", field " + std::to_string(index);
+        if (at == at_fault::text && (status == LIS_STATUS_FORBIDDEN || status == LIS_STATUS_TOO_LONG))
+            out += ", text " + std::to_string(index) + (status == LIS_STATUS_TOO_LONG ? " from 0" : "");
+        if ((at == at_fault::text || at == at_fault::byte) && status == LIS_STATUS_FORBIDDEN)
+            out += ", byte " + std::to_string(place) + " from 0";
+        return out;
+    }
+
 public:
-    // The error of a status; what() is its words.
-    explicit error(lis_status status, std::size_t index = 0, std::size_t place = 0)
-        : std::runtime_error(lis_status_text(status)), status_(status), index_(index), place_(place) {}
+    // The error of a status.
+    explicit error(lis_status status, std::size_t index = 0, std::size_t place = 0, at_fault at = at_fault::nothing)
+        : std::runtime_error(words(status, index, place, at)), status_(status), index_(index), place_(place) {}
     lis_status status() const noexcept { return status_; }    // what the C call returned
     std::size_t index() const noexcept { return index_; }     // the text of a session, from 0, or the field of a record
     std::size_t place() const noexcept { return place_; }     // the byte of the text that no text may hold, from 0
 };
 
-// Why a record of a stream can't be read, as lis_found has it.
+// Why a record of a stream can't be read, as lis_found has it. what() is its number, the reason in words and, of a text
+// that is no record, why.
 class message_error : public std::runtime_error {
     lis_found found_;
 
+    static std::string words(const lis_found &found) {
+        std::string out = "record " + std::to_string(found.number) + ": " + lis_reason_text(found.reason);
+        if (found.reason == LIS_REASON_BAD_RECORD)
+            out += std::string(": ") + lis_status_text(static_cast<lis_status>(found.detail));
+        if (found.reason == LIS_REASON_BAD_RECORD && found.detail == LIS_STATUS_FORBIDDEN)
+            out += ", byte " + std::to_string(found.place) + " from 0";
+        if (found.reason == LIS_REASON_NO_PARENT)
+            out += std::string(", ") + static_cast<char>(found.detail);
+        return out;
+    }
+
 public:
-    // The error of what a reader found; what() is the reason's words.
-    explicit message_error(const lis_found &found) : std::runtime_error(lis_reason_text(found.reason)), found_(found) {}
+    // The error of what a reader found.
+    explicit message_error(const lis_found &found) : std::runtime_error(words(found)), found_(found) {}
     lis_reason reason() const noexcept { return found_.reason; }        // what is wrong with it
     std::uint64_t number() const noexcept { return found_.number; }     // its number in its message, 1 for a header
     std::size_t place() const noexcept { return found_.place; }         // the byte that no text may hold
@@ -77,11 +104,11 @@ inline std::string_view view(const std::uint8_t *bytes, std::size_t len) noexcep
 }
 
 #if defined(__cpp_exceptions)
-inline void check(lis_status status, std::size_t index = 0, std::size_t place = 0) {
+inline void check(lis_status status, std::size_t index = 0, std::size_t place = 0, at_fault at = at_fault::nothing) {
     if (status == LIS_STATUS_OUT_OF_MEMORY)
         throw std::bad_alloc();
     if (status != LIS_STATUS_OK)
-        throw error(status, index, place);
+        throw error(status, index, place, at);
 }
 #endif
 
@@ -232,7 +259,7 @@ inline std::string frame(std::uint8_t number, bool last, std::string_view text) 
     std::string out;
     std::size_t place = 0;
     lis_status status = try_frame(number, last, text, out, place);
-    detail::check(status, 0, place);
+    detail::check(status, 0, place, at_fault::byte);
     return out;
 }
 
@@ -241,7 +268,7 @@ inline std::string long_frame(std::uint8_t number, bool last, std::string_view t
     std::string out;
     std::size_t place = 0;
     lis_status status = try_long_frame(number, last, text, out, place);
-    detail::check(status, 0, place);
+    detail::check(status, 0, place, at_fault::byte);
     return out;
 }
 #endif
@@ -297,7 +324,7 @@ public:
     std::string_view start() {
         std::string_view enq;
         lis_status status = try_start(enq);
-        detail::check(status, fault_.index, fault_.place);
+        detail::check(status, fault_.index, fault_.place, at_fault::text);
         return enq;
     }
 #endif
@@ -686,6 +713,75 @@ public:
     }
 };
 
+// A message as places in its text: its records, each with the one that it is under. No byte is copied: the text stays
+// while the message is used.
+class message {
+    std::string_view text_;
+    std::vector<lis_record_place> places_;
+    lis_message told_{};
+    lis_found found_{};
+
+public:
+    // Reads the message that a text begins with, and takes it from the front of the text; false where the text is empty
+    // or doesn't begin with a whole message: then `refused` has why. The message is the one that was read last.
+    bool try_read(std::string_view &text) {
+        auto read = [&](std::size_t room) {
+            places_.resize(room);
+            return lis_message_places(detail::at(text), text.size(), places_.data(), room, &told_, &found_);
+        };
+        lis_status status = read(std::max<std::size_t>(places_.capacity(), 16));
+        if (status == LIS_STATUS_TOO_SHORT)
+            status = read(told_.count);
+        places_.resize(told_.count);
+        text_ = text.substr(0, told_.len);
+        text.remove_prefix(told_.len);
+        return status == LIS_STATUS_OK;
+    }
+#if defined(__cpp_exceptions)
+    // As try_read; a text that doesn't begin with a whole message throws message_error, and false is for an empty one.
+    bool read(std::string_view &text) {
+        bool has = try_read(text);
+        if (found_.kind == LIS_FOUND_REFUSED)
+            throw message_error(found_);
+        return has;
+    }
+#endif
+    // The record that can't come next, or where the text ended too early.
+    std::optional<lis_found> refused() const noexcept {
+        return found_.kind == LIS_FOUND_REFUSED ? std::optional(found_) : std::nullopt;
+    }
+
+    std::size_t size() const noexcept { return places_.size(); }                           // how many records it has
+    std::string_view text() const noexcept { return text_; }                               // with the CR of each
+    const lis_delimiters &delimiters() const noexcept { return told_.delimiters; }         // those that it is read under
+    char letter(std::size_t i) const { return static_cast<char>(places_.at(i).letter); }   // of a record, in upper case
+    std::size_t parent(std::size_t i) const { return places_.at(i).parent; }    // the record that a record is under
+    // A record's text, without the CR.
+    std::string_view text(std::size_t i) const { return text_.substr(places_.at(i).start, places_[i].len); }
+    // What a component of a record means; none if there is no such part. Fields are counted as the standard does: the
+    // first after the letter is 2, after a header's delimiters 3; repeats and components from 0.
+    std::optional<std::string> part(std::size_t i, std::size_t field, std::size_t repeat = 0,
+                                    std::size_t component = 0) const {
+        std::string_view of = text(i);
+        std::string out(of);
+        std::size_t size = 0;
+        lis_status status = i == 0 ? lis_header_part(detail::at(of), of.size(), field, repeat, component,
+                                                     detail::at(out), out.size(), &size)
+                                   : lis_record_part(&told_.delimiters, detail::at(of), of.size(), field, repeat,
+                                                     component, detail::at(out), out.size(), &size);
+        if (status != LIS_STATUS_OK)
+            return std::nullopt;
+        out.resize(size);
+        return out;
+    }
+    // Calls each(patient, order, result) for each result, with the places of its patient, of its order, and its own.
+    template <class Each> void results(Each &&each) const {
+        for (std::size_t i = 0; i < size(); ++i)
+            if (letter(i) == 'R')
+                each(parent(parent(i)), parent(i), i);
+    }
+};
+
 // Writes records: writer.record('P').field("1").put(). Delimiters in a field are escaped. A field of two repeats is
 // repeat("first").field("second"); each may have components before its last one.
 class writer {
@@ -732,7 +828,7 @@ public:
     // As try_put; the error's index is the field at fault.
     writer &put() {
         lis_status status = try_put();
-        return detail::check(status, field_), *this;
+        return detail::check(status, field_, 0, at_fault::field), *this;
     }
 #endif
     std::size_t size() noexcept { return lis_writer_texts(get()); }    // how many records were put

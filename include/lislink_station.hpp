@@ -95,7 +95,7 @@ public:
     std::string_view start() {
         std::string_view enq;
         lis_status status = try_start(enq);
-        detail::check(status, fault_.index, fault_.place);
+        detail::check(status, fault_.index, fault_.place, at_fault::text);
         return enq;
     }
     void reserve(std::uint64_t bytes) { detail::check(try_reserve(bytes)); }    // as try_reserve

@@ -57,7 +57,7 @@ int main(int count, char **words) {
     try {
         run(line, sender);
     } catch (const lislink::error &fault) {    // no session started
-        return std::fprintf(stderr, "record %zu, byte %zu: %s\n", fault.index(), fault.place(), fault.what()), 1;
+        return std::fprintf(stderr, "quick_send: %s\n", fault.what()), 1;
     }
     std::printf("%s, frames: %d\n", lis_outcome_text(sender.outcome()), static_cast<int>(sender.acknowledged()));
     return sender.outcome() == LIS_OUTCOME_DONE ? 0 : 1;

@@ -16,8 +16,8 @@ WRONG = [
      "cut, which is no public function"),
     ("docs/promises.table", "`read_sent`: `sent`", "`read_sent`: `empty`", "empty, which is no clause"),
     ("docs/DEFINITIONS.md", "## `Steps`:", "## `LeadsTo`:", "LeadsTo, which no public contract cites"),
-    ("crates/lis_engine/src/print.rt", "use Rattle.lis_engine.specs.Output.{IsBuffered, out};",
-     "use Rattle.lis_engine.specs.Output.{IsBuffered, out};\nghost use Rattle.lis_run.specs.inside.Show.{heard_line};",
+    ("crates/lis_engine/src/print.rt", "use Rattle.lis_engine.specs.Output.{IsPut, IsWorking};",
+     "use Rattle.lis_engine.specs.Output.{IsPut, IsWorking};\nghost use Rattle.lis_run.specs.inside.Show.{heard_line};",
      "heard_line is cited by a public contract"),
     ("crates/lis_engine/src/print.rt", "    ghost text = { part_text };",
      "    ghost text = { λ part. heard_line part };", "heard_line is cited by a public contract"),
@@ -37,16 +37,16 @@ CODES = [
 # A call in show.rt, and others in its place: whether each is a function more on the way.
 WAY_CALL = "    scanner.take(byte);\n"
 WAYS = [
-    (WAY_CALL + "    crate::playing::starved(0);\n", 1),
+    (WAY_CALL + "    crate::playing::count_of(&None);\n", 1),
     ("", 1),
     (WAY_CALL + "    scanner.take(byte);\n", 0),
-    (WAY_CALL + "    // starved();\n", 0),
+    (WAY_CALL + "    // count_of(&None);\n", 0),
 ]
 # What changes nothing that is promised.
 HARMLESS = [
     ("docs/promises.table", "`lis_port`: `ok`, `err`", "`lis_port`: `err`, `ok`"),
-    ("crates/lis_run/src/show.rt", "    ghost text = { λ line. heard_line line.0.now };",
-     "    ghost text = { λ heard. heard_line heard.0.now };"),
+    ("crates/lis_report/src/refused.rt", "    ghost text = { λ it. refused_line it.message it.fault };",
+     "    ghost text = { λ one. refused_line one.message one.fault };"),
 ]
 
 

@@ -131,6 +131,16 @@ static void of_reader(void) {
     free(reader.at);
 }
 
+static void of_message(void) {
+    lis_message message;
+    lis_found found;
+    SAME(lis_message_places(NULL, 0, NULL, 0, &message, &found), LIS_STATUS_NO_RECORD);
+    SAME(message.count + message.len + found.kind, 0);
+    SAME(lis_message_places((const uint8_t *)"H|\\^&\rL|1\r", 10, NULL, 0, &message, &found), LIS_STATUS_TOO_SHORT);
+    SAME(message.count, 2);
+    SAME(message.len, 10);
+}
+
 static void of_writer(void) {
     lis_writer writer = {malloc(lis_writer_size())};
     uint8_t text[16];
@@ -153,6 +163,7 @@ int main(void) {
     of_receiver();
     of_records();
     of_reader();
+    of_message();
     of_writer();
     printf("%d compared\n", compared);
     return 0;

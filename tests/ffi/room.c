@@ -1,5 +1,5 @@
 /* The room of a text is used again: once two texts of a length were delivered, a receiver takes no more memory for texts
- * that are no longer. Counts the calls of the heap. */
+ * that are no longer. A message is read as places without any. Counts the calls of the heap. */
 #include "../../examples/c/refusing_heap.h"
 #include <stdio.h>
 #include <string.h>
@@ -35,6 +35,20 @@ static unsigned hears(lis_receiver *receiver, unsigned from, unsigned to) {
     return texts;
 }
 
+/* How many records a message of 1,000 results has, read as places. */
+static size_t records(void) {
+    static char text[32000];
+    static lis_record_place places[2000];
+    size_t len = (size_t)snprintf(text, sizeof text, "H|\\^&\rP|1\rO|1\r");
+    for (int number = 1; number <= 1000; number++)
+        len += (size_t)snprintf(text + len, sizeof text - len, "R|%d|^^^GLU|5.4\r", number);
+    len += (size_t)snprintf(text + len, sizeof text - len, "L|1\r");
+    lis_message message;
+    lis_found found;
+    bool good = lis_message_places((uint8_t *)text, len, places, 2000, &message, &found) == LIS_STATUS_OK;
+    return good && message.len == len ? message.count : 0;
+}
+
 int main(void) {
     void *at = aligned_alloc(lis_receiver_align(), lis_receiver_size());
     const uint8_t enq = 5;
@@ -48,6 +62,9 @@ int main(void) {
     size_t before = calls;
     unsigned more = hears(&receiver, 3, 500);
     printf("%u texts, %zu calls of the heap for the last %u\n", first + more, calls - before, more);
+    before = calls;
+    size_t read = records();
+    printf("%zu records, %zu calls of the heap\n", read, calls - before);
     lis_receiver_end(receiver);
     free(at);
     return live != 0;

@@ -2,7 +2,7 @@
 the reader of a stream, and the writer. test_rows.py asks them, and says what is compared."""
 import re
 
-from lislink import LinkError, MessageError, Reader, Reason, Record, Status, Writer
+from lislink import LinkError, MessageError, Reader, Reason, Record, Status, Writer, message_places
 from model import bytes_of
 from tests.ffi.rows_link import Unknown
 
@@ -16,6 +16,7 @@ PUT_FAULTS = {"NotHeader": Status.PUT_NOT_HEADER, "NoParent": Status.PUT_NO_PARE
 PARENTS = {"H": "", "O": "HP", "R": "HPO"}
 MESSAGE = re.compile(r" message delimiters=\S+ records=(\d+) tree=(\S+) ")
 RECORD_OF_TREE = re.compile(r"[A-Z][^][*A-Z]*")
+STEP_OF_TREE = re.compile(r"[][*]|[A-Z][^][*A-Z]*")
 NOT_SAID = re.compile("[~+!]")
 
 
@@ -113,6 +114,39 @@ def are_told(told, error, wanted):
     if f"messages={len(told)}" != wanted.split(" ")[0] or counts != [len(message) for message in messages]:
         return False
     return told == messages and is_fault(error, re.search(r" fault=(\S+)", wanted)[1])
+
+
+def parents_of(tree):
+    """The place of the record that each record of a row's tree is under; the header's is its own."""
+    parents, above, last, is_note = [], [], 0, False
+    for step in STEP_OF_TREE.findall(tree):
+        if step == "[":
+            above.append(last)
+        elif step == "]":
+            last = above.pop()
+        elif step == "*":
+            is_note = True
+        else:
+            parents.append(last if is_note else above[-1] if above else 0)
+            last, is_note = last if is_note else len(parents) - 1, False
+    return parents
+
+
+def are_placed(data, wanted):
+    """Whether the records of a text's messages are where they are in the text, each under the record that a row's tree
+    has it under, and the fault is the row's."""
+    wanted_trees, placed, error = [tree for _, tree in MESSAGE.findall(wanted)], [], None
+    try:
+        placed.extend(message_places(data))
+    except MessageError as fault:
+        error = fault
+    if len(placed) != len(wanted_trees) or not is_fault(error, re.search(r" fault=(\S+)", wanted)[1]):
+        return False
+    if b"".join(one.text + b"\r" for message in placed for one in message) != data[:placed[-1].end if placed else 0]:
+        return False
+    return all([content(record) for record in RECORD_OF_TREE.findall(tree)] == [tuple(one.row) for one in message]
+               and parents_of(tree) == [one.parent.index for one in message]
+               for message, tree in zip(placed, wanted_trees))
 
 
 # Writing
@@ -218,7 +252,7 @@ class Records:
     def message_read(self, wanted, data):
         stream = Stream()
         told, error = stream.feed(bytes_of(data))
-        return are_told(told, error or stream.finish(), wanted)
+        return are_told(told, error or stream.finish(), wanted) and are_placed(bytes_of(data), wanted)
 
     def message_build(self, wanted, delimiters, *records):
         texts, fault = write(delimiters, records)

@@ -48,7 +48,8 @@ static std::vector<std::string> texts_of(lislink::writer &writer) {
         writer.record('R').field("1").field("a\nb").put();
         SAME(!"LF is refused");
     } catch (const lislink::error &refused) {
-        std::printf("refused: %s, field %zu\n", refused.what(), refused.index());
+        std::printf("refused: %s\n", refused.what());
+        SAME(refused.index() == 3);
     }
     writer.record('L').field("1").field("N").put();
     std::vector<std::string> texts;
@@ -101,6 +102,7 @@ static void throw_in_start(lislink::sender &sender) {
         SAME(!"LF is refused");
     } catch (const lislink::error &refused) {
         SAME(refused.status() == LIS_STATUS_FORBIDDEN && refused.index() == 1 && refused.place() == 3);
+        SAME(refused.what() == std::string("the text has a byte that no text may hold, text 1, byte 3 from 0"));
     }
     sender.clear();
 }
@@ -188,7 +190,8 @@ static void read_back(const std::string &stream) {
             SAME(record.letter() == 0);
         SAME(!"a result outside a message is refused");
     } catch (const lislink::message_error &refused) {
-        std::printf("refused: record %d: %s\n", static_cast<int>(refused.number()), refused.what());
+        std::printf("refused: %s\n", refused.what());
+        SAME(refused.number() == 1);
     }
     for (const auto &record : reader.try_feed("H|\\^&\r"))
         SAME(record.letter() == 0);
@@ -245,6 +248,39 @@ static void of_long_frames() {
     SAME(lislink::try_long_frame(1, true, std::string(63994, 'a'), out, place) == LIS_STATUS_TOO_LONG && out.empty());
 }
 
+// A message as places in its text.
+static void place_message() {
+    const std::string text = "H|\\^&\rP|1\rO|1|S7\rR|1|^^^GLU|5&F&\rC|1\rR|2\rL|1\rH|";
+    std::string_view rest = text;
+    lislink::message message;
+    SAME(message.read(rest) && rest == "H|" && message.size() == 7 && message.text() == text.substr(0, text.size() - 2));
+    std::string letters, results;
+    for (std::size_t i = 0; i < message.size(); i++)
+        letters += message.letter(i) + std::to_string(message.parent(i));
+    SAME(letters == "H0P0O1R2C3R2L0");
+    message.results([&](std::size_t patient, std::size_t order, std::size_t result) {
+        results += std::to_string(patient) + std::to_string(order) + std::to_string(result) + ' ';
+    });
+    SAME(results == "123 125 ");
+    SAME(message.text(1) == "P|1" && message.part(3, 3, 0, 3) == "GLU" && message.part(3, 4) == "5|");
+    SAME(!message.part(3, 9) && !message.part(0, 3) && message.delimiters().field == '|');
+    SAME(!message.try_read(rest) && rest == "H|" && message.refused()->number == 1 && message.size() == 0);
+    try {
+        message.read(rest);
+        SAME(!"a message that isn't ended is refused");
+    } catch (const lislink::message_error &refused) {
+        SAME(refused.reason() == LIS_REASON_UNFINISHED);
+    }
+    std::string_view none;
+    SAME(!message.read(none) && !message.refused());
+    std::string many = "H|\\^&\r";
+    for (int i = 0; i < 100; i++)
+        many += "P|1\r";
+    many += "L|1\r";
+    rest = many;
+    SAME(message.read(rest) && message.size() == 102 && rest.empty());
+}
+
 int main() {
     of_frames();
     of_long_frames();
@@ -263,5 +299,6 @@ int main() {
     carry(sender, receiver, [&](std::string_view text) { store += text; });
     SAME(sender.outcome() == LIS_OUTCOME_DONE && !sender.patience());
     read_back(store);
+    place_message();
     return 0;
 }

@@ -9,7 +9,8 @@ from tests import ROOT, kit
 from tests.ffi.c import HEADER, IN_C, IN_PYTHON, OURS, WARNINGS, compilers, families
 
 SOURCES = os.path.join(ROOT, "crates/lis_c/src")
-TABLE = os.path.join(ROOT, "crates/lis_table/src/table.rt")  # it has the struct of a part
+# They have the structs of a part and of a record's place.
+TABLES = [os.path.join(ROOT, "crates", name) for name in ("lis_table/src/table.rt", "lis_message_table/src/places.rt")]
 PAGES = ["docs/C.md", "docs/PYTHON.md", "docs/EMBEDDING.md"]
 NUMBERS = {"u8": "uint8_t", "u32": "uint32_t", "u64": "uint64_t", "usize": "size_t", "bool": "bool"}
 
@@ -38,7 +39,7 @@ def c_parameters(name, kind):
 
 
 def sources():
-    paths = [*(os.path.join(SOURCES, name) for name in sorted(os.listdir(SOURCES))), TABLE]
+    paths = [*(os.path.join(SOURCES, name) for name in sorted(os.listdir(SOURCES))), *TABLES]
     return re.sub(r"//.*", "", "\n".join(open(path).read() for path in paths))
 
 

@@ -8,14 +8,18 @@ from tests import ROOT, kit
 from tests.ffi.c import BARE, C11, IN_PYTHON, RESULTS, SANITIZERS, compilers, python_over, shared, source
 
 VALUES = "".join(" ".join(line.split(" ")[:2]) + " \n" for line in RESULTS.splitlines())
+#: The same with the patient and the specimen of the sample, by hand.
+WHOSE = "".join(f"{whose} {line.strip()}\n" for whose, line in zip([*["4711 S7"] * 3, "4712 S8"], VALUES.splitlines()))
 #: Each program: its files, those of this folder with their path, and the pattern of what it prints.
 PROGRAMS = {"values": (["values.c", "names.c", "pieces.c", "heap.c"], re.escape(VALUES)),
+            "patients": (["patients.c", "names.c", "heap.c"], re.escape(WHOSE)),
             "null": (["../../tests/ffi/null.c", "heap.c"], r"\d+ compared\n"),
             "long": (["../../tests/ffi/long.c"], r"\d+ compared\n"),
             "station": (["../../tests/ffi/station.c"], r"\d+ compared\n"),
             "parts": (["../../tests/ffi/parts.c", "heap.c"], r"\d+ compared\n"),
             "stack": (["../../tests/ffi/stack.c", "heap.c"], r"lis_long_frame_write: under 64 KiB\n"),
-            "room": (["../../tests/ffi/room.c"], r"499 texts, 0 calls of the heap for the last 497\n"),
+            "room": (["../../tests/ffi/room.c"],
+                     r"499 texts, 0 calls of the heap for the last 497\n1004 records, 0 calls of the heap\n"),
             "last": (["../../tests/ffi/last.c", "heap.c"], r"\d+ compared\n"),
             "serial": (["../../tests/ffi/serial.c", "serial.c"], r"in out\n"),
             "line": (["../../tests/ffi/line.c", "connection.c", "heap.c"], r"\d+ compared\n"),
@@ -51,7 +55,7 @@ class Programs(kit.Test):
         for name, (files, said) in PROGRAMS.items():
             paths = [source(file) for file in files]
             if self.runs([*C11, *SANITIZERS, *paths, self.archive, "-o", f"{work}/{name}"]):
-                with open(self.panel if name == "values" else f"{work}/link") as given:
+                with open(self.panel if name in ("values", "patients") else f"{work}/link") as given:
                     self.runs([f"{work}/{name}"], re.compile(said), stdin=given)
 
     def test_bare(self):

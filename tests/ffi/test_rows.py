@@ -16,7 +16,8 @@ Of these answers a part is compared:
 - Of delimiters that are rejected, by themselves or with their header, that they are; of an unknown kind not the byte. Of
   a component its bytes: not the marks of highlighting, nor whether a byte is a character or an escape.
 - Of messages that are read how many there are, of each the number of its records, and in the order of its tree their
-  letters and fields; the place and the reason of a fault. Not the delimiters, findings, texts and held bytes.
+  letters and fields; the place and the reason of a fault. Not the delimiters, findings, texts and held bytes. Of
+  'message.read' also the place of each record in the text, and the record that it is under.
 - Of a record that is written 'check' and 'whole', after the parents that it needs: not 'part' and 'then', which are of
   sinks. Of a message that is built that no record is rejected, how many there are, and the text of each one that a
   writer can get; or which is rejected and why.

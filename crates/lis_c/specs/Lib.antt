@@ -8,6 +8,7 @@ pub mod Long
 pub mod New
 pub mod Next
 pub mod Parts
+pub mod Places
 pub mod Reading
 pub mod Records
 pub mod Signals

@@ -10,6 +10,7 @@ mod handle_state;
 mod next;
 mod out;
 mod parts;
+mod places;
 mod reader;
 mod receiver;
 mod receiving;

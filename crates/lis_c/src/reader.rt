@@ -253,7 +253,7 @@ pub(crate) fn report(entry: &BorrowedRecord<'_>, out: &mut LisFound)
 }
 
 /// Reports why a record can't be read.
-fn refuse(fault: MessageFault, out: &mut LisFound)
+pub(crate) fn refuse(fault: MessageFault, out: &mut LisFound)
     requires { out.old ≡ nothing }
     ensures { out.new ≡ reported_fault fault }
 {

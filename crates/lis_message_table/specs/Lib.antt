@@ -1,4 +1,5 @@
 pub mod Parents
+pub mod Put
 pub mod Results
 pub mod Table
 pub mod inside

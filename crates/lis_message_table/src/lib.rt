@@ -5,6 +5,7 @@
 mod above;
 pub mod laws;
 mod places;
+mod putting;
 mod reading;
 mod table;
 
@@ -13,5 +14,6 @@ pub use lis_message::{
 };
 pub use lis_table::LisPart;
 pub use lis_tree::{Finding, Findings};
-pub use places::{RecordPlace, ResultIndexes};
+pub use places::{LisRecordPlace, Placed, RecordPlace, ResultIndexes};
+pub use putting::put_message;
 pub use table::MessageTable;

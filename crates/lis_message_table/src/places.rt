@@ -1,6 +1,9 @@
 //! Where the records of a message are, and which a result belongs to.
 
-use lis_record_values::Kind;
+ghost use Rattle.std.specs.Prelude.{◌≡◌};
+ghost use Rattle.lis_message_table.specs.Put.{placed_record};
+
+use lis_record_values::{Delimiters, Kind};
 use std::mem::size_of;
 
 /// A record of a message: where it is in the message's text, and the record that it is under.
@@ -27,4 +30,38 @@ pub struct ResultIndexes {
     pub order: usize,
     /// The result.
     pub entry: usize,
+}
+
+/// Where a record of a message is, as programs in C have it: the same as [`RecordPlace`], with the record's letter.
+#[repr(C)]
+#[derive(Clone, Copy)]
+pub struct LisRecordPlace {
+    pub start: usize,
+    pub parent: usize,
+    pub len: u32,
+    pub letter: u8,
+}
+
+impl LisRecordPlace {
+    /// A place as programs in C have it.
+    #[inline(always)]
+    pub fn of(place: &RecordPlace) -> Self
+        ensures { result ≡ placed_record place.now }
+    {
+        LisRecordPlace {
+            start: place.start,
+            parent: place.parent,
+            len: place.len,
+            letter: place.kind.letter(),
+        }
+    }
+}
+
+/// The message that a text begins with: how many records it has, the delimiters that they are read under, and the bytes
+/// after it.
+#[derive(Clone, Copy)]
+pub struct Placed<'a> {
+    pub count: usize,
+    pub delimiters: Delimiters,
+    pub following: &'a [u8],
 }

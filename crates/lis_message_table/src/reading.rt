@@ -1,7 +1,8 @@
 //! Reading the records of a message one after another, and where they are (LIS02-A2).
 
 ghost use Rattle.std.specs.Prelude.{◌≡◌, ◌≢◌, ◌<◌, ◌≤◌, ◌∷◌, ◌++◌, [], ℕ, List, IfErr, IfOk, IsFalse, IsTrue};
-ghost use Rattle.std.specs.Prelude.{None, Option, Some, length, vec_capacity};
+ghost use Rattle.std.specs.Prelude.{◌+◌, None, Option, Some, length, vec_capacity};
+ghost use Rattle.lis_text.specs.Capped.{capped};
 ghost use Rattle.lis_record_values.specs.declared.kinds.Kind.TheVariants as kinds;
 ghost use Rattle.lis_tree.specs.Begun.{Begun};
 ghost use Rattle.lis_message.specs.Feeding.{ReadsWhole};
@@ -59,45 +60,39 @@ fn fault_at(records: &mut RecordReader, bytes: &[u8]) -> MessageFault
     }
 }
 
-/// Reads the next record of the message that a text begins with, at the front of the bytes that are left of it, and
-/// adds its place to those of the records before it; answers its kind, its delimiters and the bytes after it.
+/// Reads the next record of the message that a text begins with, at the front of the bytes that are left of it, after
+/// so many records; answers where it is, its delimiters and the bytes after it.
 #[inline(always)]
-fn take_next<'a>(
+pub(crate) fn take_next<'a>(
     records: &mut RecordReader,
     above: &mut Above,
-    places: &mut Vec<RecordPlace>,
+    index: usize,
     text: &[u8],
     rest: &'a [u8],
-) -> Result<(Kind, Delimiters, &'a [u8]), MessageFault>
-    requires reads { IsReading records.old text.now places.old.items above.old rest.now }
+) -> Result<(RecordPlace, Delimiters, &'a [u8]), MessageFault>
+    requires reads { (places : List RecordPlace) × IsReading records.old text.now places above.old rest.now }
     requires some { 0 < length text.now }
-    ensures on { IfOk result (λ found. found.0 ≢ kinds.L
-        → IsReading records.new text.now places.new.items above.new found.2.now) }
-    ensures last { IfOk result (λ found. found.0 ≡ kinds.L
-        → HasRead found.1 text.now places.new.items found.2.now) }
+    ensures on { (places : List RecordPlace) → IsReading records.old text.now places above.old rest.now
+        → index ≡ length places → IfOk result (λ found. found.0.kind ≢ kinds.L
+        → IsReading records.new text.now (places ++ found.0 ∷ []) above.new found.2.now) }
+    ensures last { (places : List RecordPlace) → IsReading records.old text.now places above.old rest.now
+        → IfOk result (λ found. found.0.kind ≡ kinds.L
+        → HasRead found.1 text.now (places ++ found.0 ∷ []) found.2.now) }
     ensures shorter { IfOk result (λ found. length found.2.now < length rest.now) }
-    ensures err { IfErr result (λ fault. ReadsWhole text.now [] (Some fault)) }
-    ensures memory { IfErr result (λ fault. fault.place ≤ vec_capacity places.old → IsTextFault text.now fault) }
-    ensures room { vec_capacity places.old ≤ vec_capacity places.new }
+    ensures err { (places : List RecordPlace) → IsReading records.old text.now places above.old rest.now
+        → IfErr result (λ fault. IsTextFault text.now fault × (fault.place ≡ capped (length places + 1))) }
 {
     let Some((entry, following)) = records.read_whole(rest) else {
         return Err(fault_at(records, rest));
     };
     let kind = entry.kind();
-    let index = places.len();
     let place = RecordPlace {
         kind,
         start: text.len() - rest.len(),
         len: (rest.len() - following.len() - 1) as u32,
         parent: above.take(kind, index),
     };
-    match places.push(place) {
-        Ok(()) => Ok((kind, entry.delimiters(), following)),
-        Err(_) => Err(MessageFault {
-            place: (index as u64).saturating_add(1),
-            reason: Reason::OutOfMemory,
-        }),
-    }
+    Ok((place, entry.delimiters(), following))
 }
 
 /// Reads the message that a text begins with, by a reader that has read nothing, and puts the places of its records
@@ -118,11 +113,27 @@ fn take_all<'a>(
     let mut above = Above::nothing();
     let mut rest = text;
     loop {
-        match take_next(records, &mut above, places, text, rest) {
-            Ok((Kind::L, delimiters, following)) => return Ok((delimiters, following)),
-            Ok((_, _, following)) => rest = following,
+        let index = places.len();
+        let (place, delimiters, following) = match take_next(
+            records, &mut above, index, text, rest,
+        ) {
+            Ok(found) => found,
             Err(fault) => return Err(fault),
+        };
+        let kind = place.kind;
+        match places.push(place) {
+            Ok(()) => {}
+            Err(_) => {
+                return Err(MessageFault {
+                    place: (index as u64).saturating_add(1),
+                    reason: Reason::OutOfMemory,
+                });
+            }
         }
+        if kind == Kind::L {
+            return Ok((delimiters, following));
+        }
+        rest = following;
     }
 }
 

@@ -27,6 +27,7 @@ from .link import (
 from .message import Entry, Fault, Finding, Found, Message, read_all
 from .orders.order import Order, OrderError
 from .orders.order import texts_of as order_texts
+from .places import MessagePlaces, ResultView, View, message_places
 from .records import MessageError, Reader, Record, Writer, messages, records
 from .rows import Row
 from .station import Answer, Station
@@ -53,6 +54,7 @@ __all__ = [
     "LinkError",
     "Message",
     "MessageError",
+    "MessagePlaces",
     "Note",
     "Order",
     "OrderError",
@@ -63,6 +65,7 @@ __all__ = [
     "Reason",
     "Receiver",
     "Record",
+    "ResultView",
     "Role",
     "Row",
     "Scanner",
@@ -72,9 +75,11 @@ __all__ = [
     "Status",
     "Step",
     "Writer",
+    "View",
     "WrongThread",
     "__version__",
     "frame_bytes",
+    "message_places",
     "messages",
     "order_texts",
     "read_all",

@@ -75,6 +75,10 @@ class Table(ctypes.Structure):
     _fields_ = [("count", ctypes.c_size_t), ("len", ctypes.c_size_t), ("delimiters", Delimiters)]
 
 
+class MessageOut(ctypes.Structure):
+    _fields_ = [("count", ctypes.c_size_t), ("len", ctypes.c_size_t), ("delimiters", Delimiters)]
+
+
 class RecordOut(ctypes.Structure):
     _fields_ = [("letter", ctypes.c_uint8), ("fields", ctypes.c_size_t), ("place", ctypes.c_size_t)]
 
@@ -98,6 +102,7 @@ _CALLS: Dict[str, Any] = {
     "reader_parts": (_BYTE, _POINTER, _POINTER, _SIZE, _POINTER),
     "reader_text": (_BYTE, _POINTER, _POINTER, _SIZE, _POINTER),
     "reader_finish": (_BYTE, _POINTER, _POINTER),
+    "message_places": (_BYTE, _POINTER, _SIZE, _POINTER, _SIZE, _POINTER, _POINTER),
     "writer_start": (_BYTE, _POINTER, _POINTER),
     "writer_record": (_BYTE, _POINTER, _BYTE),
     "writer_component": (_BYTE, _POINTER, _POINTER, _SIZE),

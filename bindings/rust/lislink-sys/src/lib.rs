@@ -258,6 +258,23 @@ pub struct lis_entry {
 
 #[repr(C)]
 #[derive(Clone, Copy, Debug)]
+pub struct lis_record_place {
+    pub start: usize,
+    pub parent: usize,
+    pub len: u32,
+    pub letter: u8,
+}
+
+#[repr(C)]
+#[derive(Clone, Copy, Debug)]
+pub struct lis_message {
+    pub count: usize,
+    pub len: usize,
+    pub delimiters: lis_delimiters,
+}
+
+#[repr(C)]
+#[derive(Clone, Copy, Debug)]
 pub struct lis_writer {
     pub at: *mut c_void,
 }
@@ -527,6 +544,14 @@ extern "C" {
         count: *mut usize,
     ) -> usize;
     pub fn lis_reader_finish(s: *mut lis_reader, out: *mut lis_found) -> lis_status;
+    pub fn lis_message_places(
+        text: *const u8,
+        text_len: usize,
+        out: *mut lis_record_place,
+        out_len: usize,
+        message: *mut lis_message,
+        found: *mut lis_found,
+    ) -> lis_status;
     pub fn lis_writer_size() -> usize;
     pub fn lis_writer_align() -> usize;
     pub fn lis_writer_init(at: *mut c_void);

@@ -5,6 +5,7 @@
 //! - A [`Sender`] sends texts. A session starts only on a [`Connection`] on which no late reply can come.
 //! - A [`Station`] does both, on a line on which both sides send.
 //! - A [`Reader`] reads the records of a stream, a [`Writer`] writes them, a [`Scanner`] reads frames alone.
+//! - A [`Message`] has the records of a message where they are in its text, each with the one that it is under.
 //!
 //! Nothing here does input or output or has a clock: the caller moves the bytes and runs the timers.
 //!
@@ -14,6 +15,7 @@
 mod block;
 mod codes;
 mod frame;
+mod message;
 mod reader;
 mod receiver;
 mod sender;
@@ -22,6 +24,7 @@ mod writer;
 
 pub use codes::{Fault, Note, Outcome, Phase, Ready, Reason, Role, Status};
 pub use frame::{frame, long_frame, Bytes, FrameLimit, Scanner, Signal};
+pub use message::{Entry, Message, ResultEntry};
 pub use reader::{MessageError, Part, Reader, Record, Records};
 pub use receiver::{Answer, Heard, Receiver, Step};
 pub use sender::{Connection, Sender, Text};

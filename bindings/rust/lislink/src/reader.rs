@@ -217,11 +217,11 @@ fn no_delimiters() -> sys::lis_delimiters {
     sys::lis_delimiters { field: 0, repeat: 0, component: 0, escape: 0 }
 }
 
-fn nothing() -> sys::lis_found {
+pub(crate) fn nothing() -> sys::lis_found {
     sys::lis_found { kind: 0, letter: 0, reason: 0, detail: 0, fields: 0, place: 0, number: 0 }
 }
 
-fn fault_of(found: &sys::lis_found) -> MessageError {
+pub(crate) fn fault_of(found: &sys::lis_found) -> MessageError {
     MessageError {
         number: found.number,
         reason: Reason::of(found.reason),

@@ -1,7 +1,7 @@
 //! What the scripted session doesn't show: threads, texts that stay, panics, contention.
 use lislink::{
-    long_frame, Connection, FrameLimit, Heard, Note, Outcome, Phase, Reader, Ready, Receiver, Role,
-    Sender, Station, Status, Text, Writer,
+    long_frame, Connection, FrameLimit, Heard, Message, Note, Outcome, Phase, Reader, Ready,
+    Receiver, Role, Sender, Station, Status, Text, Writer,
 };
 use std::panic::{catch_unwind, AssertUnwindSafe};
 use std::thread;
@@ -52,6 +52,28 @@ fn a_record_that_cant_be_read_prints_its_number_and_why() {
     assert_eq!(refused(b"H|\\^&\rX|1\r"), format!("{words}{letter}"));
     assert_eq!(refused(b"H|\\^&\rR|1\r"), "record 2: the record has no parent in the message, R");
     assert_eq!(refused(b"P|1\r"), "record 1: outside a message a header comes first");
+}
+
+#[test]
+fn a_message_has_its_records_under_each_other() {
+    let text = b"H|\\^&\rP|1\rO|1|S7\rR|1|^^^GLU|5&F&\rC|1\rR|2\rL|1\rH|";
+    let (message, following) = Message::read(text).unwrap().unwrap();
+    assert_eq!((message.text(), following), (&text[..text.len() - 2], &b"H|"[..]));
+    assert_eq!(message.entries().map(|entry| entry.letter()).collect::<String>(), "HPORCRL");
+    let parents: Vec<usize> = message.entries().map(|entry| entry.parent().index()).collect();
+    assert_eq!(parents, [0, 0, 1, 2, 3, 2, 0]);
+    let results: Vec<_> = message.results().collect();
+    let first = &results[0];
+    assert_eq!((results.len(), first.patient.text(), first.order.index()), (2, &b"P|1"[..], 2));
+    assert_eq!(first.result.part(3, 0, 3).unwrap(), b"GLU");
+    assert_eq!(first.result.part(4, 0, 0).unwrap(), b"5|");
+    assert_eq!(first.result.part(9, 0, 0), None);
+    let below: Vec<usize> = first.order.below().map(|entry| entry.index()).collect();
+    assert_eq!(below, [3, 5]);
+    assert_eq!(said(Message::read(following)), "record 1: the message or the record isn't ended");
+    assert!(Message::read(b"").unwrap().is_none());
+    let many = [b"H|\\^&\r", b"P|1\r".repeat(100).as_slice(), b"L|1\r"].concat();
+    assert_eq!(Message::read(&many).unwrap().unwrap().0.entries().len(), 102);
 }
 
 #[test]
