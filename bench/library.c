@@ -166,6 +166,21 @@ static size_t read_pieces(lis_reader *reader, size_t piece) {
     return count;
 }
 
+/* The messages as places in the data: how many results have a patient. */
+static size_t read_messages(void) {
+    static lis_record_place places[ENTRIES];
+    size_t count = 0;
+    for (size_t at = 0; at < len;) {
+        lis_message message;
+        lis_found found;
+        check(lis_message_places(data + at, len - at, places, ENTRIES, &message, &found) == LIS_STATUS_OK, "a message");
+        for (size_t i = 0; i < message.count; i++)
+            count += places[i].letter == 'R' && places[places[places[i].parent].parent].letter == 'P';
+        at += message.len;
+    }
+    return count;
+}
+
 static size_t read_records(size_t piece, int how) {
     lis_reader reader = {malloc(lis_reader_size())};
     size_t count = 0;
@@ -181,6 +196,9 @@ static size_t read_records(size_t piece, int how) {
         break;
     case 4:
         count = read_alone();
+        break;
+    case 7:
+        count = read_messages();
         break;
     default:
         count = read_pieces(&reader, how == 5 ? piece : 16 * piece);
@@ -227,7 +245,8 @@ int main(int count, char **words) {
     static const char *const records[] = {"lis_reader_read, 4 KiB", "lis_reader_read, lis_reader_part, 4 KiB",
                                           "lis_reader_read, lis_reader_parts, 4 KiB",
                                           "lis_reader_read, lis_record_parts, 4 KiB", "lis_record_parts alone",
-                                          "lis_reader_records, 4 KiB", "the same, 64 KiB"};
+                                          "lis_reader_records, 4 KiB", "the same, 64 KiB",
+                                          "lis_message_places, a message a call"};
     rounds = count > 1 ? (size_t)atoi(words[1]) : 7;
     check(rounds > 0 && rounds <= MOST_ROUNDS, "rounds from 1 to 21");
     data = malloc(SIZE + 65536);
@@ -237,7 +256,7 @@ int main(int count, char **words) {
     make_link("R|%0237u\r");
     measure("full frames", link, 2, call_hear);
     make_records();
-    measure("results", records, 7, call_records);
+    measure("results", records, 8, call_records);
     make_delimiters();
     double begun = now();
     read_records(len, 4);
