@@ -9,9 +9,10 @@ import time
 from tests import ROOT, kit
 from tests.field.lab import lislab
 
-#: Each timer of the standard is so many times as long: a reply has three seconds, also on a machine that is busy. Where
-#: a play waits for a timer, or a fault is to be late, it is shorter.
-SCALE, SHORT = 0.2, 0.05
+#: Each timer of the standard is so many times as long: a reply of the plain host, which keeps nothing on a disk, has
+#: three seconds, and one of `lislab serve` the standard's fifteen, since a busy disk may take some of them to keep a
+#: text. Where a play waits for a timer, or a fault is to be late, it is shorter.
+SCALE, PATIENT, SHORT = 0.2, 1.0, 0.05
 PLAYS = os.path.join(ROOT, "samples", "plays")
 #: The plays of queries in which the host sends without being asked.
 UNASKED = ("worklist", "contention-won", "contention-lost")

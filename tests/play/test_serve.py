@@ -9,7 +9,7 @@ from lislink.orders.order import Order
 from tests import ROOT
 from tests.field.lab import lislab
 from tests.host.hosts import Found, Host, HostTest, lislab as run_lislab, process
-from tests.play.hosts import PLAYS, Restarts, SCALE, SHORT, UNASKED, play, scripts, short
+from tests.play.hosts import PATIENT, PLAYS, Restarts, SCALE, SHORT, UNASKED, play, read, scripts, short
 
 #: Logs of ten tools, whose captures are played.
 LOGS = ("docklight.txt", "pcap.pcap", "socat-x.txt", "strace.txt", "portmon.txt", "tshark-x.txt", "words-page.htm",
@@ -17,7 +17,7 @@ LOGS = ("docklight.txt", "pcap.pcap", "socat-x.txt", "strace.txt", "portmon.txt"
 
 
 class Serve(HostTest):
-    def host(self, store, scale=SCALE, **how):
+    def host(self, store, scale=PATIENT, **how):
         """A host with this store, and the words that play against it."""
         host = Host(store, scale=scale, **how)
         return host, ["--to", f"127.0.0.1:{host.port}", "--store", host.store]
@@ -26,7 +26,7 @@ class Serve(HostTest):
         """All plays of results, on each kind of store; what the store then has."""
         for name, store in (("SQLite", self.path("results.db")), ("spool", "spool:" + self.path("results"))):
             host, words = self.host(store)
-            ran = play(short(self), *words)
+            ran = play(short(self), *words, scale=PATIENT)
             self.same(f"{name}: status", (ran.status, ran.lines[-1].split(" steps")[0]), (0, "plays 16 failed 0"))
             self.check(not any(row.startswith("difference") for row in ran.lines), f"{name}: differences", ran.text)
             found = Found(host.store)
@@ -43,7 +43,7 @@ class Serve(HostTest):
     def test_faults(self):
         """A host that acknowledges a text before it has kept it is noticed."""
         host, words = self.host(self.path("early.db"), fault="early")
-        ran = play(short(self), *words)
+        ran = play(short(self), *words, scale=PATIENT)
         self.check(ran.status == 1 and 'kept:"L|1|N"*0' in ran.text, "a host that replies early", ran.text + ran.error)
         host.kill()
 
@@ -51,7 +51,8 @@ class Serve(HostTest):
         """A host that is killed after the last record was acknowledged."""
         host, words = self.host(self.path("restart.db"))
         path = os.path.join(PLAYS, "results", "restarted-host.play")
-        ran = play(path, *words, "--within", "20", "--restart", Restarts(self, host).command)
+        restarts = Restarts(self, host).command
+        ran = play(path, *words, "--within", "20", "--restart", restarts, scale=PATIENT)
         self.check(ran.status == 0, "what a kill hasn't lost", ran.text + ran.error)
 
     def test_captures(self):
@@ -61,7 +62,7 @@ class Serve(HostTest):
             path = self.path(f"{name}.capture")
             made = lislab("capture", os.path.join(ROOT, "samples", "logs", name), "-o", path)
             self.same(f"{name}: capture", made.status, 0)
-            ran = play(path, "--fast", *words)
+            ran = play(path, "--fast", *words, scale=PATIENT)
             self.check(ran.status == 0 and ran.text.endswith("differences 0\n"), name, ran.text + ran.error)
         self.same("whole messages", len(Found(host.store).whole), len(LOGS))
 
@@ -74,9 +75,10 @@ class Serve(HostTest):
             book.add(Order(sample, (test,)) for sample, test in (("S1", "GLU"), ("S2", "K"), ("S3", "NA")))
             book.close()
             way = "send" if name in UNASKED else "ask"
-            host = Host(store, "--listen", f"127.0.0.1:0,name=both,orders={way}", scale=SCALE, listen=False)
+            scale = SCALE if b"\nT" in read(path) else PATIENT  # a timer is waited for
+            host = Host(store, "--listen", f"127.0.0.1:0,name=both,orders={way}", scale=scale, listen=False)
             port = next(row.split()[1].rsplit(":", 1)[1] for row in host.rows if row.endswith(" both\n"))
-            ran = play(path, "--to", f"127.0.0.1:{port}", "--fast")
+            ran = play(path, "--to", f"127.0.0.1:{port}", "--fast", scale=scale)
             self.check(ran.status == 0 and ran.text.endswith(" differences 0\n"), name, ran.text + ran.error)
             host.kill()
 
