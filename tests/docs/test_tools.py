@@ -105,6 +105,31 @@ class Tools(kit.Test):
         good = "lis_c -> lis_station: one has it" in ran.stdout and ran.returncode == 1
         self.check(good, "a missing arrow", ran.stdout)
 
+    def test_crates_are_timed(self):
+        """The kit's processes are found by their words, and a run that fails writes nothing."""
+        with tempfile.TemporaryDirectory() as folder:
+            shutil.copytree(os.path.join(kit.ROOT, "tools"), f"{folder}/tools")
+            with open(f"{folder}/crates.txt", "w", encoding="utf-8") as file:
+                file.write("lis_port:\nlis_text: lis_port\nlis_frame: lis_text\n")
+            with open(f"{folder}/busy", "w", encoding="utf-8") as file:
+                file.write(BUSY)
+            os.mkdir(f"{folder}/docs")
+            os.mkdir(f"{folder}/rt-edit-1")
+            for status, run in ((1, "exit 1"), (0, " & ".join(BUSY_WORDS) + " & wait")):
+                words = [sys.executable, "tools/crates", "--time", "sh", "-c", run]
+                ran = subprocess.run(words, cwd=folder, capture_output=True, text=True)
+                self.same("the status of the run", ran.returncode, status)
+                self.same("whether times are kept", os.path.exists(f"{folder}/docs/crates.table"), status == 0)
+            with open(f"{folder}/docs/crates.table", encoding="utf-8") as file:
+                rows = [line.split() for line in file if not line.startswith("#")]
+            good = len(rows) == 1 and rows[0][0] == "lis_port" and min(map(int, rows[0][1:])) >= 1
+            self.check(good, "the seconds of a proof and of its edits", rows)
+            with open(f"{folder}/docs/crates.table", "w", encoding="utf-8") as file:
+                file.write("# seconds\nlis_port 50 10\nlis_text 100 20\n")
+            ran = subprocess.run([sys.executable, "tools/crates"], cwd=folder, capture_output=True, text=True)
+            said = [line.split(", ")[-1] for line in ran.stdout.splitlines()[:3]]
+            self.same("minutes of a crate and all above it", said, ["3 minutes", "2 minutes", "0 minutes"])
+
     def test_codes(self):
         self.counts("tools/codes")
 
@@ -141,6 +166,10 @@ class Tools(kit.Test):
         self.counts("tools/version")
 
 
+# A process that takes two seconds of a processor, as a proof, as the edits of a crate, and as something else.
+BUSY = "i=0; while [ $i -lt 600000 ]; do i=$((i+1)); done\n"
+BUSY_WORDS = ("sh busy build --crate-name lis_port", "(cd rt-edit-1; sh ../busy check --crate-name lis_port)",
+              "sh busy check lis_text")
 # A kit that proves in no time: its `rt ci` makes a program of the crates' names.
 RT = """#!/bin/sh
 [ "$1" = ci ] || { echo a kit; exit; }
