@@ -10,8 +10,8 @@ use Rattle.lis_frame.specs.declared.scanner.SignalOf.TheVariants.{Good}
 use Rattle.lis_frame.specs.Frame.{FrameContent, IsFrame}
 use Rattle.lis_frame.specs.Scanner.{Held, StandsFor}
 use Rattle.lis_frame.specs.Stream.{signal_after, signals_after, stream_with, with_signal}
-use Rattle.lis_frame.proofs.StreamLaws.{signals_after-append}
-use Rattle.lis_link.proofs.HearingLaws.{frame_ends, stream_with-append}
+use Rattle.lis_frame.proofs.StreamLaws.{signals_after-append, stream_with-append}
+use Rattle.lis_link.proofs.HearingLaws.{frame_ends}
 use Rattle.lis_c.specs.Feeding.{SignalsLast}
 
 -- one byte

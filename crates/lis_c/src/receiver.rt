@@ -8,7 +8,7 @@ ghost use Rattle.lis_c.specs.New.{IsNewReceiver, type_align};
 ghost use Rattle.lis_c.specs.Status.{BAD_NUMBER, OK, OUT_OF_MEMORY, ReserveStatus, copy_status};
 ghost use Rattle.lis_c.specs.Steps.{IsNotOutOfMemory, IsOutOfMemory, ReportsRefusedFrame, MakesStep};
 ghost use Rattle.lis_c.specs.contracts.handle_state.ReceiverHandleState.{the_row as handle_state_row};
-ghost use Rattle.lis_link.specs.declared.receiver.Readiness.{Readiness};
+ghost use Rattle.lis_text.specs.declared.readiness.Readiness.{Readiness};
 ghost use Rattle.lis_link.specs.Receiver.{ReceiverState, on_byte, on_bytes, on_receiver_timer, receiver_restarted};
 ghost use Rattle.lis_link.specs.Receiver.{held_length, with_heard, with_readiness, with_room};
 ghost use Rattle.lis_link.specs.Representation.{SpareAfter};

@@ -10,7 +10,7 @@ ghost use Rattle.lis_record_values.specs.Shape.{plain_component};
 ghost use Rattle.lis_tree.specs.Level.{misplaced};
 
 use crate::status;
-use lis_message::record_text;
+use lis_message_texts::record_text;
 use lis_record::{WriteFault, check_record};
 use lis_record_values::{Component, Delimiters, Field, Kind, Record, Repeat};
 use lis_text::{MOST_TEXTS, Texts};

@@ -13,7 +13,7 @@ use Rattle.lis_capture.specs.Line.{longest_line, line_of, said, without_return}
 use Rattle.lis_capture.specs.Capture.{Lines, begun, ended_lines, with_said, lines_with_next, read_lines, capture}
 use Rattle.lis_capture.specs.Capture.{version_of}
 use Rattle.lis_capture.specs.inside.Reader.{is_long}
-use Rattle.lis_link.proofs.HearingLaws.{stream_with-append}
+use Rattle.lis_frame.proofs.StreamLaws.{stream_with-append}
 
 -- ---- bytes that end no line
 

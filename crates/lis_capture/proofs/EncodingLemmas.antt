@@ -16,7 +16,7 @@ use Rattle.std.specs.declared.result.Result.TheVariants.{Ok, Err}
 use Rattle.hex.proofs.HexLemmas.{decode_of-encode_lower, decode_of-ok, length-encode_with}
 use Rattle.lis_text.specs.Control.{CR, LF}
 use Rattle.lis_frame.specs.Stream.{stream_with}
-use Rattle.lis_link.specs.declared.receiver.Readiness.TheVariants.{Ready, Busy, Contending}
+use Rattle.lis_text.specs.declared.readiness.Readiness.TheVariants.{Ready, Busy, Contending}
 use Rattle.lis_capture.specs.declared.line.CaptureVersion.{CaptureVersion}
 use Rattle.lis_capture.specs.declared.line.CaptureVersion.TheVariants.{Unsaid, First, Second}
 use Rattle.lis_capture.specs.declared.line.Line.{Line}
@@ -31,7 +31,7 @@ use Rattle.lis_capture.specs.Encoding.{added_encoding, line_encoding, line_text,
 use Rattle.lis_capture.specs.inside.Encoding.{lines_encoding}
 use Rattle.lis_capture.proofs.CaptureLemmas.{begun-within, ended_lines-within, has_end}
 use Rattle.lis_capture.proofs.LineLemmas.{without_return-length}
-use Rattle.lis_link.proofs.HearingLaws.{stream_with-append}
+use Rattle.lis_frame.proofs.StreamLaws.{stream_with-append}
 
 -- ---- texts of bytes that are neither CR nor LF
 

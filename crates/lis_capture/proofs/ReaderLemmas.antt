@@ -13,7 +13,7 @@ use Rattle.lis_capture.specs.declared.reader.LineFound.{LineFound}
 use Rattle.lis_capture.specs.declared.reader.LineFound.TheVariants as found
 use Rattle.lis_capture.specs.Line.{line_of, longest_line, version_after}
 use Rattle.lis_capture.specs.Capture.{Lines, begun, capture, number_of, version_of, with_said}
-use Rattle.lis_text.specs.Capped.{capped}
+use Rattle.lis_bytes.specs.Capped.{capped}
 use Rattle.lis_capture.specs.Reader.{CopiesLine, HasRead, Known, Reading, found_lines, known_of}
 use Rattle.lis_capture.specs.inside.Reader.{found_holding, found_of, holding_more, is_long, known_with}
 use Rattle.lis_capture.proofs.CaptureLemmas.{begun-ended, begun-within, capture-ended, capture-last, capture-long}

@@ -6,14 +6,15 @@ ghost use Rattle.hex.specs.Hex.{encode_lower};
 
 use crate::line::{Line, LineBytes};
 use lis_engine::{OUTPUT_ROOM, Output};
-use lis_link::Readiness;
 use lis_port::Sink;
+use lis_text::Readiness;
 
 /// The most bytes of a written line: a mark, a space, two digits for each byte, and LF.
 pub const LONGEST_ENCODING: usize = 4097;
 
 impl Line<'_> {
-    /// Puts the line: in version 2, with digits in lower case, without CR, and LF after it. There must be room for [`LONGEST_ENCODING`] bytes.
+    /// Puts the line: in version 2, with digits in lower case, without CR, and LF after it. There must be room for
+    /// [`LONGEST_ENCODING`] bytes.
     #[inline(always)]
     pub fn append_to<W: Sink>(&self, out: &mut Output<'_, W>)
         requires { length out.old.waits + LONGEST_ENCODING ≤ OUTPUT_ROOM }
@@ -39,7 +40,9 @@ impl LineBytes<'_> {
     fn append_marked<W: Sink>(&self, mark: &[u8], out: &mut Output<'_, W>)
         requires room { length out.old.waits + LONGEST_ENCODING ≤ OUTPUT_ROOM }
         requires mark { length mark.now ≤ 2 }
-        ensures { out.new ≡ record out.old { waits = out.old.waits ++ (mark.now ++ encode_lower self.now) ++ codes "\n" } }
+        ensures { out.new ≡ record out.old {
+          waits = out.old.waits ++ (mark.now ++ encode_lower self.now) ++ codes "\n";
+        } }
     {
         out.append(mark);
         self.append_to(out);

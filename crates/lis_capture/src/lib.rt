@@ -9,5 +9,5 @@ pub mod reader;
 
 pub use encoding::LONGEST_ENCODING;
 pub use line::{CaptureVersion, LONGEST_LINE, Line, LineBytes, MOST_BYTES};
-pub use lis_link::Readiness;
+pub use lis_text::Readiness;
 pub use reader::{LineFound, LineReader};

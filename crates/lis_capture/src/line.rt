@@ -17,9 +17,8 @@ ghost use Rattle.lis_capture.specs.inside.Reader.{IsCopied};
 use crate::digits::{decode, lower};
 use crate::encoding::LONGEST_ENCODING;
 use lis_engine::{OUTPUT_ROOM, Output};
-use lis_link::Readiness;
 use lis_port::Sink;
-use lis_text::CR;
+use lis_text::{CR, Readiness};
 use std::marker::Model;
 
 /// The most bytes of a line before its LF.
@@ -325,7 +324,9 @@ impl LastLine {
         requires room { length out.old.waits + LONGEST_ENCODING ≤ OUTPUT_ROOM }
         ensures read { result ≡ is_some (bytes_of digits.now) }
         ensures line { self.new ≡ unwrap_or (option_map (line_with kind) (bytes_of digits.now)) self.old }
-        ensures written { out.new ≡ record out.old { waits = out.old.waits ++ (if result then line_encoding self.new else []) } }
+        ensures written { out.new ≡ record out.old {
+          waits = out.old.waits ++ (if result then line_encoding self.new else []);
+        } }
     {
         if !self.read_digits(kind, digits) {
             return false;

@@ -13,12 +13,12 @@ ghost use Rattle.lis_capture.specs.inside.Reader.{found_holding, found_of, holdi
 use crate::encoding::LONGEST_ENCODING;
 use crate::line::{CaptureVersion, Keeping, LONGEST_LINE, LastLine, Line, version_after};
 use arrayvec::ArrayVec;
+use lis_bytes::bits_of;
 use lis_engine::{OUTPUT_ROOM, Output};
 use lis_port::Sink;
 use lis_text::LF;
 use memchr::memchr;
 use std::marker::Model;
-use std::simd::prelude::*;
 
 /// What reading on found.
 #[derive(Debug, Clone, Copy, PartialEq, Eq)]
@@ -125,14 +125,16 @@ impl LineReader {
         }
     }
 
-    /// Reads the next line, and puts it as [`Line::append_to`] does, where it is
-    /// whole in these bytes and reports bytes, as most do; answers how many bytes it read. Else it reads nothing. There
-    /// must be room for [`LONGEST_ENCODING`] bytes.
+    /// Reads the next line, and puts it as [`Line::append_to`] does, where it is whole in these bytes and reports
+    /// bytes, as most do; answers how many bytes it read. Else it reads nothing. There must be room for
+    /// [`LONGEST_ENCODING`] bytes.
     #[inline(always)]
     pub fn copy<W: Sink>(&mut self, bytes: &[u8], out: &mut Output<'_, W>) -> Option<usize>
         requires { length out.old.waits + LONGEST_ENCODING ≤ OUTPUT_ROOM }
         ensures some { IfSome result (λ count. CopiesLine self.old self.new bytes.now count) }
-        ensures written { IfSome result (λ count. out.new ≡ record out.old { waits = out.old.waits ++ added_encoding self.new.known.line }) }
+        ensures written { IfSome result (λ count. out.new ≡ record out.old {
+          waits = out.old.waits ++ added_encoding self.new.known.line;
+        }) }
         ensures none { IfNone result ((self.new ≡ self.old) × (out.new ≡ out.old)) }
         ensures other { IfNone result (self.old.known.refused ≡ false → self.old.held ≡ [] →
             EndsOther self.old.known.version bytes.now) }
@@ -225,9 +227,7 @@ fn first_line_feed(bytes: &[u8]) -> Option<usize>
     ensures { IsFirstByte (is_byte 10) bytes.now result }
 {
     if bytes.len() >= 16 {
-        let ends = u8x16::from_slice(bytes)
-            .simd_eq(u8x16::splat(LF))
-            .to_bitmask();
+        let ends = bits_of(bytes, LF);
         if ends != 0 {
             return Some(ends.trailing_zeros() as usize);
         }
@@ -243,7 +243,9 @@ impl Progress {
         requires { length out.old.waits + LONGEST_ENCODING ≤ OUTPUT_ROOM }
         ensures after { result ≡ true → self.new ≡ known_with self.old (line_of self.old.version text.now) }
         ensures found { result ≡ true → LineFound.Line ≡ found_of (line_of self.old.version text.now) }
-        ensures written { result ≡ true → out.new ≡ record out.old { waits = out.old.waits ++ added_encoding self.new.line } }
+        ensures written { result ≡ true → out.new ≡ record out.old {
+          waits = out.old.waits ++ added_encoding self.new.line;
+        } }
         ensures none { result ≡ false → (self.new ≡ self.old) × (out.new ≡ out.old) }
         ensures other { result ≡ false → reports_bytes (line_of self.old.version text.now) ≡ false }
     {

@@ -1,6 +1,6 @@
 -- Texts that are put one after the other.
 use Rattle.std.proofs.Common.{◌≡◌, List, [], ◌++◌, Ok, Err, sym, ◌∙◌, ap, subst, append-nil, append_assoc, refl, ℕ}
-use Rattle.std.proofs.Common.{arith, is_err, false, true}
+use Rattle.std.proofs.Common.{arith, is_err}
 use Rattle.std.specs.declared.result.Result.{Result}
 use Rattle.lis_engine.specs.declared.fault.ToolFault.{ToolFault}
 use Rattle.lis_engine.specs.Output.{Broke, FailedIn, IsPut, IsWorking, Out, WentOn}

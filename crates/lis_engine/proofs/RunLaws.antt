@@ -10,15 +10,15 @@ use Rattle.lis_engine.specs.declared.fault.ToolFault.{ToolFault}
 use Rattle.lis_engine.specs.declared.fault.ToolFault.TheVariants.{CaptureLine, Read, Write, OutOfMemory, TooManyReads}
 use Rattle.lis_engine.specs.declared.report.Report.{Report}
 use Rattle.lis_engine.specs.Outcome.{Outcome, whole, going}
-use Rattle.lis_engine.specs.Output.{Broke, FailedIn, IsPut, IsWorking, Out, WentOn, WentOut}
+use Rattle.lis_engine.specs.Output.{Broke, FailedIn, IsWorking, Out, WentOn, WentOut}
 use Rattle.lis_engine.specs.inside.Output.{IsUnused, PartWentOut, SentOn, Unsent}
 use Rattle.lis_engine.specs.Runs.{EachGave, IsFinished, WroteOutcome, Ran, StopsBy}
 use Rattle.lis_engine.specs.Steps.{Ends, Fails, Halts, Puts, Steps, ended_by}
-use Rattle.lis_engine.specs.inside.Steps.{IsEnded, IsHalted, had_failed, is_sent, is_unsent}
+use Rattle.lis_engine.specs.inside.Steps.{IsHalted, had_failed, is_sent, is_unsent}
 use Rattle.lis_engine.specs.declared.machine.Stop.{Stop}
 use Rattle.lis_engine.specs.declared.machine.Stop.TheVariants.{Fault, Refused}
 use Rattle.lis_engine.proofs.OutputLaws.{put_on}
-use Rattle.lis_engine.proofs.PutLaws.{part_then, put_stops}
+use Rattle.lis_engine.proofs.PutLaws.{part_then}
 
 pub consumes_none : (a : Option (List ℕ)) → Consumes a a []
 consumes_none None = tt

@@ -95,6 +95,7 @@ pub fn run<F: Copy, M: Machine<F>, R: Source, W: Sink>(
 {
     let mut out = Output::new(sink);
     let ended = run_to(machine, source, &mut out, reads);
+    // proof: the caller learns what became of the sink when it is handed back.
     let _sink = out.into_sink();
     ended
 }

@@ -1,8 +1,7 @@
 //! What a run writes: text is buffered, and goes out in large pieces, with a count of the bytes that went out.
 
 ghost use Rattle.std.specs.Prelude.{◌≡◌, ◌+◌, ◌*◌, ◌≤◌, ◌++◌, [], Ok, decimal, false, is_err, length};
-ghost use Rattle.std.specs.Prelude.{IfErr, OnOk};
-ghost use Rattle.std.specs.Io.KnownBytes.{Keeps};
+ghost use Rattle.std.specs.Prelude.{OnOk};
 ghost use Rattle.hex.specs.Hex.{encode_lower};
 ghost use Rattle.lis_engine.specs.declared.output_buffer.TheConstants.{NUMBER_ROOM, OUTPUT_ROOM};
 ghost use Rattle.lis_engine.specs.Output.{IsPut, IsWorking, most_counted};

@@ -1,6 +1,6 @@
 //! What has a text, and how it is put.
 
-ghost use Rattle.std.specs.Prelude.{◌≡◌, ◌++◌, ◌∷◌, [], ℕ, List, codes, decimal};
+ghost use Rattle.std.specs.Prelude.{◌++◌, ◌∷◌, [], ℕ, List, codes, decimal};
 ghost use Rattle.lis_engine.specs.Output.{IsPut, IsWorking};
 ghost use Rattle.lis_engine.specs.Parts.{joined, part_text, parts_text, text_if_any};
 

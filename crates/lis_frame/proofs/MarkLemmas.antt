@@ -7,7 +7,7 @@ use Rattle.std.specs.Simd.Lanes.{zip2, mask_l, top}
 use Rattle.std.proofs.lemmas.Simd.{zip2_splat, zip2_of_maps, map-map, mask_l-mod}
 use Rattle.std.proofs.lemmas.List.{length-map}
 use Rattle.lis_frame.specs.Stream.{is_mark}
-use Rattle.lis_text.proofs.SearchLemmas.{same_map}
+use Rattle.lis_bytes.proofs.SearchLemmas.{same_map}
 
 -- a lane of the tests for marks
 abbrev lane_of_mark : ℕ → ℕ

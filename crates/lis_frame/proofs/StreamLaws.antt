@@ -35,6 +35,10 @@ signals_after-append limit (b ∷ xs) ys past = by (signal_after limit past b)
     by None later = later
     by (Some signal) later = ap (λ rest. signal ∷ rest) later
 
+pub stream_with-append : (xs ys past : List ℕ) → stream_with past (xs ++ ys) ≡ stream_with (stream_with past xs) ys
+stream_with-append [] ys past = refl
+stream_with-append (x ∷ xs) ys past = stream_with-append xs ys (x ∷ past)
+
 -- a byte that is none of STX, EOT, ENQ and LF
 record IsPlain (b : ℕ) : Type 0 where
   no_start : (b == STX) ≡ false

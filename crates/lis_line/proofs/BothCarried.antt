@@ -7,7 +7,7 @@ use Rattle.std.proofs.lemmas.List.{length_push, map-append}
 use Rattle.lis_frame.specs.Limit.{IsLimit}
 use Rattle.lis_link.specs.declared.sender.Phase.TheVariants.{Neutral, Contention}
 use Rattle.lis_link.specs.declared.sender.StartFault.{StartFault}
-use Rattle.lis_link.specs.declared.receiver.Readiness.TheVariants.{Ready}
+use Rattle.lis_text.specs.declared.readiness.Readiness.TheVariants.{Ready}
 use Rattle.lis_link.specs.Sender.{SenderState, started, bad_texts, start_fault_in, on_sender_timer}
 use Rattle.lis_link.specs.Receiver.{ReceiverState}
 use Rattle.lis_world.specs.declared.event.Event.TheVariants.{Start}

@@ -17,8 +17,8 @@ use Rattle.lis_frame.specs.declared.scanner.SignalOf.TheVariants.{Enq, Eot, Good
 use Rattle.lis_link.specs.declared.receiver.Note.{Note}
 use Rattle.lis_link.specs.declared.receiver.Note.TheVariants.{Opened, Accepted, OutOfMemory}
 use Rattle.lis_link.specs.declared.receiver.Step.{Step}
-use Rattle.lis_link.specs.declared.receiver.Readiness.{Readiness}
-use Rattle.lis_link.specs.declared.receiver.Readiness.TheVariants.{Ready}
+use Rattle.lis_text.specs.declared.readiness.Readiness.{Readiness}
+use Rattle.lis_text.specs.declared.readiness.Readiness.TheVariants.{Ready}
 use Rattle.lis_link.specs.Receiver.{ReceiverStep, heard, heard_by, on_byte, on_classified, classified, answered_request}
 use Rattle.lis_link.specs.Sender.{on_sender_timer}
 use Rattle.lis_station.specs.Station.{StationState, routed, asking, timed_by, station_restarted, awaits_reply}

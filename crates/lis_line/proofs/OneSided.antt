@@ -16,8 +16,8 @@ use Rattle.lis_frame.specs.declared.scanner.SignalOf.{SignalOf}
 use Rattle.lis_frame.specs.declared.scanner.SignalOf.TheVariants.{Enq, Eot, Good, Bad}
 use Rattle.lis_link.specs.declared.receiver.Note.{Note}
 use Rattle.lis_link.specs.declared.receiver.Note.TheVariants.{Opened, Accepted}
-use Rattle.lis_link.specs.declared.receiver.Readiness.{Readiness}
-use Rattle.lis_link.specs.declared.receiver.Readiness.TheVariants as Readinesses
+use Rattle.lis_text.specs.declared.readiness.Readiness.{Readiness}
+use Rattle.lis_text.specs.declared.readiness.Readiness.TheVariants as Readinesses
 use Rattle.lis_link.specs.declared.sender.Phase.{Phase}
 use Rattle.lis_link.specs.declared.sender.Phase.TheVariants as Phases
 use Rattle.lis_link.specs.declared.sender.EmitOf.{EmitOf}

@@ -4,7 +4,7 @@ use Rattle.std.specs.Prelude.{◌≡◌, ℕ, ◌+◌, ◌≤◌, true, false, L
 use Rattle.std.specs.List.{flat_map}
 use Rattle.lis_text.specs.Control.{STX, LF}
 use Rattle.lis_link.specs.declared.sender.Phase.TheVariants.{Neutral}
-use Rattle.lis_link.specs.declared.receiver.Readiness.TheVariants.{Ready}
+use Rattle.lis_text.specs.declared.readiness.Readiness.TheVariants.{Ready}
 use Rattle.lis_world.specs.Session.{Session, session_at}
 use Rattle.lis_world.specs.Progress.{Round, undisturbed, without_room, bad_frame, bad_reply, AreEnough, done_session}
 use Rattle.lis_world.specs.Recovery.{AreTexts}

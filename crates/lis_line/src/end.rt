@@ -5,18 +5,18 @@ ghost use Rattle.lis_frame.specs.Limit.{IsLimit};
 ghost use Rattle.lis_frame.specs.Stream.{signal_after};
 ghost use Rattle.lis_link.specs.Receiver.{ReceiverState, new_receiver};
 ghost use Rattle.lis_link.specs.Representation.{IsIn};
-ghost use Rattle.lis_world.specs.Session.{changed, new_session, session_at};
+ghost use Rattle.lis_world.specs.Session.{changed, new_session, sends, session_at};
 ghost use Rattle.lis_world.specs.inside.Playing.{takes_frame};
 ghost use Rattle.lis_station.specs.Station.{new_station, on_station_byte, on_station_timer, station_restarted};
 ghost use Rattle.lis_station.specs.Representation.{station_at, IsStation, IsAnswer, IsOutOfMemory};
 ghost use Rattle.lis_station.specs.Line.{new_end};
-ghost use Rattle.lis_line.specs.inside.Kept.{end_at, good_frame, kept_following, sends};
+ghost use Rattle.lis_line.specs.inside.Kept.{end_at, good_frame, kept_following};
 
-use crate::session::SessionOf;
 use lis_frame::{FrameOf, Heard};
 use lis_link::Phase;
 use lis_station::{AnswerOf, Role, StationOf};
 use lis_text::{LinkText, List};
+use lis_world::SessionOf;
 use std::alloc::{AllocError, Global};
 use std::marker::Model;
 

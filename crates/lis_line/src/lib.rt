@@ -8,12 +8,10 @@ pub mod laws;
 mod line;
 mod noise;
 mod playing;
-mod session;
 
 pub use event::{LineEvent, LineEvents, StationEvent};
 pub use lis_frame::{FrameOf, FramesOf};
 pub use lis_link::Outcome;
 pub use lis_text::{LinkText, List, Texts};
-pub use lis_world::PlayFault;
+pub use lis_world::{PlayFault, Session, SessionOf};
 pub use playing::{BothHistories, BothHistoriesOf, HistoryOf, play_both, play_both_of};
-pub use session::{Session, SessionOf};

@@ -4,13 +4,13 @@ ghost use Rattle.std.specs.Prelude.{◌≡◌, ◌≢◌, ◌≤◌, ◌+◌, fa
 ghost use Rattle.lis_frame.specs.Frame.{frame_bytes};
 ghost use Rattle.lis_frame.specs.Limit.{IsLimit};
 ghost use Rattle.lis_link.specs.declared.receiver.Note.TheVariants as Notes;
-ghost use Rattle.lis_link.specs.Receiver.{ReceiverState, ReceiverStep};
-ghost use Rattle.lis_link.specs.Representation.{IsIn, IsStep};
+ghost use Rattle.lis_link.specs.Receiver.{ReceiverState};
+ghost use Rattle.lis_link.specs.Representation.{IsIn};
 ghost use Rattle.lis_station.specs.Representation.{station_at};
 ghost use Rattle.lis_station.specs.Station.{awaits_reply, on_station_byte, station_fault};
 ghost use Rattle.lis_station.specs.Line.{new_two_way, happens, after_line_event, begins_out, arrives, damaged_in};
 ghost use Rattle.lis_station.specs.Line.{lost_in, timed, waits_no_more, asks_anew, forgotten_out, comes, item_bytes};
-ghost use Rattle.lis_station.specs.Line.{steps, emitted_out, receiver_went, followed_by, left_line};
+ghost use Rattle.lis_station.specs.Line.{steps, emitted_out, followed_by};
 ghost use Rattle.lis_station.specs.Line.{turned, give_up, restart};
 ghost use Rattle.lis_line.specs.Events.{station_event, line_event};
 ghost use Rattle.lis_line.specs.inside.Kept.{line_at, IsLine, front_noise};
@@ -21,11 +21,11 @@ use crate::end::{EndOf, copy_of};
 use crate::event::{LineEvent, StationEvent};
 use crate::item::{CarriedOf, ItemOf, ItemsOf, count_units, without_replies};
 use crate::noise::is_noise_to_sender;
-use crate::session::SessionOf;
 use lis_frame::{ArrayVec, FrameOf, frame_bytes_of};
 use lis_link::{EmitOf, Note, Phase, Step};
 use lis_station::{AnswerOf, Role};
 use lis_text::{ENQ, EOT, LinkText, List, Texts};
+use lis_world::SessionOf;
 use std::alloc::{AllocError, Global};
 use std::collections::VecDeque;
 use std::marker::Model;
@@ -435,7 +435,7 @@ impl<const N: usize> LineOf<N> {
     }
 
     /// The sender has made a step: it is booked to its session, and what it emits goes on the line.
-    #[tactic(auto, unfolding(crate::specs::inside::Kept::sends))]
+    #[tactic(auto, unfolding(lis_world::specs::Session::sends))]
     fn emit(&mut self, emit: EmitOf<N>) -> Result<(), AllocError>
         ensures near { OnOk result (self.new.near.station ≡ self.old.near.station) }
         ensures far { OnOk result (self.new.far ≡ self.old.far) }

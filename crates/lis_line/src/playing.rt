@@ -8,9 +8,8 @@ ghost use Rattle.lis_line.specs.Events.{line_events};
 
 use crate::event::LineEvents;
 use crate::line::LineOf;
-use crate::session::SessionOf;
 use lis_text::List;
-use lis_world::PlayFault;
+use lis_world::{PlayFault, SessionOf};
 use std::alloc::Global;
 use std::collections::VecDeque;
 

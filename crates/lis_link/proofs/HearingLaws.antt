@@ -12,13 +12,13 @@ use Rattle.lis_frame.specs.Frame.{FrameContent, IsFrame, number_byte, end_byte, 
 use Rattle.lis_frame.specs.Scanner.{Held, StandsFor, held_of}
 use Rattle.lis_frame.specs.Stream.{open_body, signal_after, signals_after, with_signal, stream_with}
 use Rattle.lis_text.specs.LinkText.{longest_text}
-use Rattle.lis_frame.proofs.StreamLaws.{signals_after-append, clean_run}
+use Rattle.lis_frame.proofs.StreamLaws.{signals_after-append, clean_run, stream_with-append}
 use Rattle.lis_link.specs.declared.receiver.Hearing.{Hearing}
 use Rattle.lis_link.specs.declared.receiver.Note.{Note}
 use Rattle.lis_link.specs.declared.receiver.Note.TheVariants.{Quiet, Accepted, Duplicate, OutOfTurn, NoRoom, TooMany}
 use Rattle.lis_link.specs.declared.receiver.Note.TheVariants.{TooLong, OutOfMemory}
-use Rattle.lis_link.specs.declared.receiver.Readiness.{Readiness}
-use Rattle.lis_link.specs.declared.receiver.Readiness.TheVariants.{Ready, Busy, Contending}
+use Rattle.lis_text.specs.declared.readiness.Readiness.{Readiness}
+use Rattle.lis_text.specs.declared.readiness.Readiness.TheVariants.{Ready, Busy, Contending}
 use Rattle.lis_link.specs.declared.receiver.Step.{Step}
 use Rattle.lis_link.specs.Kept.{Kept, KeptLine, kept_of}
 use Rattle.lis_link.specs.Representation.{IsIn, IsStepMade, RefusesFrame, SpareAfter}
@@ -145,10 +145,6 @@ on_bytes-last limit b run following r silent =
     on_bytes-silent limit run (b ∷ following) r silent
     ∙ passed-heard_on (length run) 1 (on_byte limit b (with_heard run r)).note (on_byte limit b (with_heard run r))
     (on_bytes limit following (with_heard (b ∷ []) (with_heard run r)))
-
-pub stream_with-append : (xs ys past : List ℕ) → stream_with past (xs ++ ys) ≡ stream_with (stream_with past xs) ys
-stream_with-append [] ys past = refl
-stream_with-append (x ∷ xs) ys past = stream_with-append xs ys (x ∷ past)
 
 -- a byte that is none of ENQ, EOT and LF
 record IsSilent (b : ℕ) : Type 0 where

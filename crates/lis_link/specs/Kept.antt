@@ -1,7 +1,7 @@
 -- What a receiver of the program keeps, as its contracts see it.
 use Rattle.std.specs.Prelude.{ℕ, Bool, List}
 use Rattle.lis_frame.specs.Scanner.{Held}
-use Rattle.lis_link.specs.declared.receiver.Readiness.{Readiness}
+use Rattle.lis_text.specs.declared.readiness.Readiness.{Readiness}
 
 -- whether the line is open, the number of accepted frames, how it answers ENQ, the room, the held text, what the
 -- scanner holds, and by how many bytes the held text can grow without memory being taken

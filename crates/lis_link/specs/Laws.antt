@@ -2,7 +2,7 @@
 use Rattle.std.specs.Prelude.{◌≡◌, ℕ, true, Some}
 use Rattle.lis_text.specs.Control.{ENQ, ACK}
 use Rattle.lis_link.specs.declared.sender.Phase.TheVariants.{Neutral}
-use Rattle.lis_link.specs.declared.receiver.Readiness.TheVariants.{Ready}
+use Rattle.lis_text.specs.declared.readiness.Readiness.TheVariants.{Ready}
 use Rattle.lis_link.specs.Sender.{SenderState, on_sender_timer, sender_restarted}
 use Rattle.lis_link.specs.Receiver.{ReceiverState, on_byte}
 

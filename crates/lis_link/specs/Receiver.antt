@@ -6,8 +6,8 @@ use Rattle.lis_frame.specs.declared.scanner.SignalOf.{SignalOf}
 use Rattle.lis_frame.specs.declared.scanner.SignalOf.TheVariants.{Enq, Eot, Good, Bad}
 use Rattle.lis_frame.specs.Frame.{FrameContent}
 use Rattle.lis_frame.specs.Stream.{signal_after, stream_with}
-use Rattle.lis_link.specs.declared.receiver.Readiness.{Readiness}
-use Rattle.lis_link.specs.declared.receiver.Readiness.TheVariants.{Ready, Busy, Contending}
+use Rattle.lis_text.specs.declared.readiness.Readiness.{Readiness}
+use Rattle.lis_text.specs.declared.readiness.Readiness.TheVariants.{Ready, Busy, Contending}
 use Rattle.lis_link.specs.declared.receiver.Note.{Note}
 use Rattle.lis_link.specs.declared.receiver.Note.TheVariants.{Quiet, Opened, NotReady, Ended, Accepted, Duplicate}
 use Rattle.lis_link.specs.declared.receiver.Note.TheVariants.{OutOfTurn, Refused, NoRoom, TooLong, TooMany, TimedOut}

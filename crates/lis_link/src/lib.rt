@@ -8,10 +8,8 @@ mod sender;
 mod session_texts;
 
 pub use lis_frame::{FrameFault, FrameOf, ScannerOf};
-pub use lis_text::{LinkText, TextFault, Texts};
-pub use receiver::{
-    Hearing, MOST_FRAMES, Note, RECEIVER_SECONDS, Readiness, Receiver, ReceiverOf, Step,
-};
+pub use lis_text::{LinkText, Readiness, TextFault, Texts};
+pub use receiver::{Hearing, MOST_FRAMES, Note, RECEIVER_SECONDS, Receiver, ReceiverOf, Step};
 pub use sender::{
     BUSY_SECONDS, BorrowingSender, BorrowingSenderOf, CONTENTION_SECONDS, Emit, EmitOf, Outcome,
     Phase, REPLY_SECONDS, Sender, SenderOf, SenderOver, StartFault, StartRefused, StartRefusedOf,

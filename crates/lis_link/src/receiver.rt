@@ -12,23 +12,12 @@ ghost use Rattle.lis_link.specs.inside.Representation.{HearsFront};
 
 use crate::receiver::line::LineState;
 use lis_frame::{FrameFault, ScannerOf};
-use lis_text::LinkText;
+use lis_text::{LinkText, Readiness};
 use std::alloc::{AllocError, Global};
 use std::marker::Model;
 
 mod line;
 mod state;
-
-/// How the receiver answers an ENQ.
-#[derive(Debug, Clone, Copy, PartialEq, Eq)]
-pub enum Readiness {
-    /// ACK: the line is opened.
-    Ready,
-    /// NAK: not now.
-    Busy,
-    /// ENQ: the receiver's side asks for the line too, once.
-    Contending,
-}
 
 /// What a byte or an event meant to the receiver.
 #[derive(Debug, Clone, Copy, PartialEq, Eq)]

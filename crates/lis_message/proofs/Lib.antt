@@ -10,7 +10,6 @@ pub mod RecordLaws
 pub mod Refusals
 pub mod Stopping
 pub mod TakingLaws
-pub mod TextLaws
 pub mod Whole
 pub mod WholeRecords
 pub mod WritingLaws

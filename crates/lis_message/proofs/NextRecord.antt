@@ -10,7 +10,6 @@ use Rattle.lis_record_values.specs.Delimiters.{DelimiterBytes}
 use Rattle.lis_record_values.specs.Shape.{RecordContent}
 use Rattle.lis_message.specs.Feeding.{answer_at_end}
 use Rattle.lis_message.specs.Kept.{Opened, RecordsState, opened_of, opened_with}
-use Rattle.lis_message.specs.inside.Kept.{Holding}
 use Rattle.lis_message.specs.declared.records.RecordFound.{RecordFound}
 use Rattle.lis_message.specs.declared.records.RecordFound.TheVariants as found
 use Rattle.lis_message.specs.Records.{IsRecordRefusedFor, IsStopped, Reads, ReadsRecord}
@@ -30,7 +29,7 @@ use Rattle.lis_tree.specs.declared.position.Position.{Position}
 use Rattle.lis_tree.specs.declared.position.Position.TheVariants as standings
 use Rattle.lis_tree.specs.Begun.{Begun, level_of}
 use Rattle.lis_tree.specs.Level.{Level, closed, misplaced, next_level}
-use Rattle.lis_text.specs.Capped.{capped}
+use Rattle.lis_bytes.specs.Capped.{capped}
 use Rattle.lis_tree.specs.Position.{position_level}
 use Rattle.std.proofs.lemmas.List.{nil_from_length}
 

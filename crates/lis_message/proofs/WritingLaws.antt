@@ -16,7 +16,7 @@ use Rattle.lis_record_values.specs.Shape.{RecordContent}
 use Rattle.lis_record_write.specs.Encoding.{encoded, written}
 use Rattle.lis_record_write.specs.Writing.{Wrote, is_io}
 use Rattle.lis_message.specs.declared.fault.MessageWriteFault.{MessageWriteFault}
-use Rattle.lis_text.specs.Capped.{capped}
+use Rattle.lis_bytes.specs.Capped.{capped}
 use Rattle.lis_message.specs.Writing.{records_bytes, AreWritable, CanResume, refusal_from, first_bytes, first_length}
 use Rattle.lis_message.specs.Writing.{front_of, StoppedIn, WroteMessage, WroteRecords, write_refusal}
 

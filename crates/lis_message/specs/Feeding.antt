@@ -3,7 +3,7 @@ use Rattle.std.specs.Prelude.{◌≡◌, ℕ, List, [], ◌++◌, Option, Some, 
 use Rattle.lis_record_values.specs.declared.faults.MessageFault.{MessageFault}
 use Rattle.lis_record_values.specs.declared.faults.Reason.TheVariants as reasons
 use Rattle.lis_tree.specs.Begun.{Begun}
-use Rattle.lis_text.specs.Capped.{capped}
+use Rattle.lis_bytes.specs.Capped.{capped}
 use Rattle.lis_message.specs.Stream.{IsSplit, IsRefused, count_of}
 use Rattle.lis_tree.specs.Tree.{MessageTree}
 

@@ -6,7 +6,7 @@ use Rattle.lis_record.specs.Borrowed.{Borrowed}
 use Rattle.lis_record_values.specs.declared.faults.MessageFault.{MessageFault}
 use Rattle.lis_tree.specs.Begun.{Begun, level_of}
 use Rattle.lis_tree.specs.Level.{Level}
-use Rattle.lis_text.specs.Capped.{capped}
+use Rattle.lis_bytes.specs.Capped.{capped}
 
 -- of an open message: its delimiters, where the next record will be, and how many there are
 pub record Opened : Type 0 where

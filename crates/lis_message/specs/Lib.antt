@@ -3,6 +3,5 @@ pub mod Kept
 pub mod Records
 pub mod Stream
 pub mod Taking
-pub mod Texts
 pub mod Writing
 pub mod inside

@@ -14,7 +14,7 @@ use Rattle.lis_record_values.specs.declared.faults.Reason.{Reason}
 use Rattle.lis_record_values.specs.declared.faults.Reason.TheVariants as reasons
 use Rattle.lis_tree.specs.Begun.{Begun, level_of}
 use Rattle.lis_tree.specs.Level.{outside, closed, kinds_of, level_after, misplaced, AllowedFrom}
-use Rattle.lis_text.specs.Capped.{capped}
+use Rattle.lis_bytes.specs.Capped.{capped}
 use Rattle.lis_tree.specs.Tree.{MessageTree, IsTree, flatten}
 use Rattle.lis_record_values.specs.Text.{record_limit}
 

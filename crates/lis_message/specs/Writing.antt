@@ -11,7 +11,7 @@ use Rattle.lis_record_values.specs.Shape.{RecordContent}
 use Rattle.lis_record_write.specs.Encoding.{written}
 use Rattle.lis_record_write.specs.Writing.{is_io}
 use Rattle.lis_message.specs.declared.fault.MessageWriteFault.{MessageWriteFault}
-use Rattle.lis_text.specs.Capped.{capped}
+use Rattle.lis_bytes.specs.Capped.{capped}
 use Rattle.lis_tree.specs.Tree.{MessageTree, flatten}
 
 -- the records' encodings in order, CR after each

@@ -21,7 +21,7 @@ use std::marker::Model;
 use std::mem::{drop, replace};
 
 /// A list of messages.
-pub type Messages = lis_text::List<Message>;
+pub type Messages = lis_bytes::List<Message>;
 
 /// Closes the open message with a record that comes next, and adds it to the others.
 // Its locals are large: within its caller each record would pay for them.

@@ -1,7 +1,7 @@
 //! Reading records where they are, from a stream that comes in pieces (LIS02-A2, Delimiters). What is kept is the
 //! bytes of one record, and of the open message how its next record is read.
 
-ghost use Rattle.std.specs.Prelude.{◌≡◌, ◌≢◌, ℕ, true, false, ◌+◌, ◌<◌, ◌≤◌, ◌∷◌, [], ◌++◌, ◌⊎◌, ◌↔◌};
+ghost use Rattle.std.specs.Prelude.{◌≡◌, ℕ, true, false, ◌+◌, ◌<◌, ◌≤◌, ◌∷◌, [], ◌++◌, ◌⊎◌, ◌↔◌};
 ghost use Rattle.std.specs.Prelude.{List, Option, IfOk, IfErr, OnErr, OnOk, OnSome};
 ghost use Rattle.std.specs.Prelude.{IfSome, IfNone, IsTrue, None, Some, Ok, Err, is_some, length};
 ghost use Rattle.lis_message.specs.declared.records.RecordFound.TheVariants.{Record as IsFound, Refused as IsRefusal};

@@ -5,7 +5,7 @@ ghost use Rattle.lis_record_write.specs.Encoding.{written};
 ghost use Rattle.lis_message.specs.Stream.{IsMessage};
 ghost use Rattle.lis_tree.specs.Tree.{flatten};
 ghost use Rattle.lis_message.specs.Writing.{AreWritable, CanResume, WroteMessage, WroteRecords, first_length};
-ghost use Rattle.lis_message.specs.Writing.{is_sink_fault, message_bytes, refusal_from};
+ghost use Rattle.lis_message.specs.Writing.{is_sink_fault, message_bytes, refusal_from, write_refusal};
 
 use crate::fault::MessageWriteFault;
 use lis_port::Sink;
@@ -13,7 +13,7 @@ use lis_record::{Delimiters, check_record, write_record_from};
 use lis_tree::{Message, Walk};
 
 /// Tests the records that are left, the first of which has this place.
-pub(crate) fn check_records(delimiters: Delimiters, walk: Walk<'_>) -> Result<(), MessageWriteFault>
+fn check_records(delimiters: Delimiters, walk: Walk<'_>) -> Result<(), MessageWriteFault>
     ensures { MatchResult result
         (λ _. refusal_from delimiters 1 walk.entry ≡ None)
         (λ fault. refusal_from delimiters 1 walk.entry ≡ Some fault) }
@@ -27,6 +27,15 @@ pub(crate) fn check_records(delimiters: Delimiters, walk: Walk<'_>) -> Result<()
         place = place.saturating_add(1);
     }
     Ok(())
+}
+
+/// Whether each record of a message can be written; if not, the first that can't, and why. `Io` isn't among these.
+pub fn check_message(message: &Message) -> Result<(), MessageWriteFault>
+    ensures { MatchResult result
+        (λ _. write_refusal message.now ≡ None)
+        (λ fault. write_refusal message.now ≡ Some fault) }
+{
+    check_records(message.delimiters(), Walk::new(message))
 }
 
 /// The walk without so many records at its front.

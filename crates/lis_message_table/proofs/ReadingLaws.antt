@@ -17,7 +17,7 @@ use Rattle.lis_record_values.specs.Relation.{IsRecord}
 use Rattle.lis_record_values.specs.Shape.{RecordContent}
 use Rattle.lis_record_values.specs.Text.{record_limit}
 use Rattle.lis_record.specs.Borrowed.{Borrowed}
-use Rattle.lis_text.specs.Capped.{capped}
+use Rattle.lis_bytes.specs.Capped.{capped}
 use Rattle.lis_tree.specs.Begun.{Begun, level_of}
 use Rattle.lis_tree.specs.Level.{closed, kinds_of, misplaced, next_level, outside}
 use Rattle.lis_tree.specs.Tree.{MessageTree, flatten}

@@ -1,6 +1,6 @@
 -- The places of a message's records, put to the front of an array.
 use Rattle.std.specs.Prelude.{◌≡◌, ℕ, ◌+◌, List, ◌++◌, drop, length, map, take}
-use Rattle.lis_text.specs.Capped.{capped}
+use Rattle.lis_bytes.specs.Capped.{capped}
 use Rattle.lis_record_values.specs.Delimiters.{DelimiterBytes}
 use Rattle.lis_record_values.specs.Kinds.{letter_of}
 use Rattle.lis_record_values.specs.declared.faults.MessageFault.{MessageFault}

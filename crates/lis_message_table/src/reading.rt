@@ -2,7 +2,7 @@
 
 ghost use Rattle.std.specs.Prelude.{◌≡◌, ◌≢◌, ◌<◌, ◌≤◌, ◌∷◌, ◌++◌, [], ℕ, List, IfErr, IfOk, IsFalse, IsTrue};
 ghost use Rattle.std.specs.Prelude.{◌+◌, None, Option, Some, length, vec_capacity};
-ghost use Rattle.lis_text.specs.Capped.{capped};
+ghost use Rattle.lis_bytes.specs.Capped.{capped};
 ghost use Rattle.lis_record_values.specs.declared.kinds.Kind.TheVariants as kinds;
 ghost use Rattle.lis_tree.specs.Begun.{Begun};
 ghost use Rattle.lis_message.specs.Feeding.{ReadsWhole};

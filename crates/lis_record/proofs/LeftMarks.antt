@@ -11,14 +11,14 @@ use Rattle.std.proofs.lemmas.Iterator.Adapters.{position_from-zero}
 use Rattle.std.proofs.lemmas.List.{drop-drop, drop_more, length-drop, length-map, length-replicate}
 use Rattle.std.proofs.lemmas.Nat.{pow-add}
 use Rattle.std.proofs.lemmas.Simd.{trailing_mask_l}
-use Rattle.lis_text.proofs.SearchLemmas.{found-chunk, found-within}
-use Rattle.lis_record.specs.Marks.{AreMarks}
+use Rattle.lis_bytes.proofs.SearchLemmas.{found-chunk, found-within}
+use Rattle.lis_bytes.specs.Marks.{AreMarks}
 use Rattle.lis_record_values.specs.Text.{trailing_byte}
 use Rattle.lis_record_read.specs.FrontReading.{parts_following}
 use Rattle.lis_record.proofs.TakenFields.{Passed, passed_more, taken_parts}
 use Rattle.lis_record_read.proofs.FieldTexts.{part_following-mark, trailing-none}
-use Rattle.lis_record_read.proofs.LastBits.{mask_l-drop}
-use Rattle.lis_record.proofs.Marks.{front-following}
+use Rattle.lis_bytes.proofs.LastBits.{mask_l-drop}
+use Rattle.lis_bytes.proofs.MarkLemmas.{front-following}
 use Rattle.lis_record_read.proofs.Places.{parts_of-first}
 
 positive : (n : ℕ) → (n ≡ 0 → ⊥) → 0 < n

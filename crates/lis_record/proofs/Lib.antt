@@ -5,7 +5,6 @@ pub mod FaultlessTexts
 pub mod Grown
 pub mod LeftMarks
 pub mod BorrowedTexts
-pub mod Marks
 pub mod Opening
 pub mod PlainFields
 pub mod RecordTexts

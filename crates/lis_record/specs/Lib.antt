@@ -2,5 +2,4 @@ pub mod Faultless
 pub mod Faults
 pub mod Borrowing
 pub mod Borrowed
-pub mod Marks
 pub mod inside

@@ -15,10 +15,10 @@ ghost use Rattle.lis_record_write.specs.Writing.{WroteAny, is_io};
 
 use crate::borrowed_cursor::BorrowedCursor;
 use crate::known_parts::{first_marked, part_at, part_following, split_parts};
-use crate::places::front_marks;
 use crate::reencoding::{add_following, add_reencoded};
+use lis_bytes::{front_marks, place_of};
 use lis_port::{Sink, write_all};
-use lis_record_read::{BorrowedSymbols, count_parts, is_plain, place_of, read_field, read_fields};
+use lis_record_read::{BorrowedSymbols, count_parts, is_plain, read_field, read_fields};
 use lis_record_values::{Component, Delimiters, Field, Kind, Record, Repeat};
 use lis_record_write::{WriteFault, WriteResult, put_encoding};
 use std::alloc::{AllocError, Global};
@@ -246,7 +246,7 @@ pub struct BorrowedFields<'a> {
 impl<'a> Model for BorrowedFields<'a> {
     ghost use Rattle.lis_record_values.specs.Shape.{Fields};
     ghost use Rattle.lis_record_read.specs.FrontReading.{fields_of};
-    ghost use Rattle.lis_record.specs.Marks.{AreMarks};
+    ghost use Rattle.lis_bytes.specs.Marks.{AreMarks};
     ghost use Rattle.lis_record.specs.Borrowed.{Borrowed, borrowed};
 
     ghost Value = { Borrowed Fields };
@@ -303,8 +303,10 @@ impl<'a> BorrowedFields<'a> {
     }
 }
 
-// How many bytes are before a record's fields.
-fn front_length(kind: Kind) -> usize
+/// How many bytes are before a record's fields: a header's letter and its four delimiters, else the letter (LIS02-A2,
+/// Delimiters).
+#[inline(always)]
+pub fn front_length(kind: Kind) -> usize
     ensures { result ≡ front_length kind }
 {
     match kind {

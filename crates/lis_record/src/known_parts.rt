@@ -3,7 +3,7 @@
 ghost use Rattle.std.specs.Prelude.{◌≡◌, ◌<◌, ◌≤◌, ◌∷◌, ◌++◌, IfSome, MatchOption, None, length, slice_get};
 ghost use Rattle.std.specs.Option.{option_copied};
 ghost use Rattle.lis_record_values.specs.Text.{trailing_byte};
-ghost use Rattle.lis_record.specs.Marks.{AreMarks};
+ghost use Rattle.lis_bytes.specs.Marks.{AreMarks};
 ghost use Rattle.lis_record.specs.inside.Marks.{SplitsParts};
 ghost use Rattle.lis_record_read.specs.FrontReading.{parts_following, parts_of};
 

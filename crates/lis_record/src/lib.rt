@@ -5,13 +5,12 @@ mod borrowed;
 mod borrowed_cursor;
 mod known_parts;
 pub mod laws;
-mod places;
 mod reading;
 mod reencoding;
 
 pub use borrowed::{
     BorrowedComponent, BorrowedField, BorrowedFields, BorrowedPart, BorrowedParts, BorrowedRecord,
-    BorrowedRepeat,
+    BorrowedRepeat, front_length,
 };
 pub use lis_record_read::{BorrowedSymbols, first_bad_byte};
 pub use lis_record_values::{

@@ -8,7 +8,8 @@ ghost use Rattle.lis_record_write.specs.Encoding.{encoded_component};
 ghost use Rattle.lis_record_read.specs.FrontReading.{ArePairs, digit_symbols};
 ghost use Rattle.lis_record.specs.inside.Reencoding.{reencoded};
 
-use lis_record_read::{escape_meaning, first_pair, letter_symbol, place_of};
+use lis_bytes::place_of;
+use lis_record_read::{escape_meaning, first_pair, letter_symbol};
 use lis_record_values::{Delimiters, Sym};
 use lis_record_write::add_symbol;
 use std::alloc::AllocError;

@@ -17,7 +17,7 @@ use Rattle.lis_tree.specs.Begun.{Begun}
 use Rattle.lis_tree.specs.declared.numbering.Finding.{Finding}
 use Rattle.lis_tree.specs.Findings.{HasNumbered, finding_on, findings_from, findings_of}
 use Rattle.lis_tree.specs.Numbers.{expected_number, field_number, is_number, is_numbered}
-use Rattle.lis_text.specs.Capped.{capped}
+use Rattle.lis_bytes.specs.Capped.{capped}
 use Rattle.lis_tree.specs.Tree.{MessageTree, flatten}
 use Rattle.lis_report.specs.Codes.{refused_line}
 use Rattle.lis_report.specs.declared.refused.Refused.{Refused}

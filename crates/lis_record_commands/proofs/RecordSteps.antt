@@ -166,7 +166,8 @@ module _ (w : MessageWrites) (represents after : List MessageTree → Option Beg
         more = messages_text w (length reading.messages) (option_to_list found.0);
         text_is =
             ap (λ (t : List ℕ). t ++ messages_text w (length reading.messages) (option_to_list found.0)) reading.text_is
-            ∙ ap (λ (k : ℕ). messages_text w 0 reading.messages ++ messages_text w k (option_to_list found.0)) (omega arith)
+            ∙ ap (λ (k : ℕ). messages_text w 0 reading.messages ++ messages_text w k (option_to_list found.0))
+            (omega arith)
             ∙ sym (messages_text-append w 0 reading.messages (option_to_list found.0));
         steps =
             takes reading.messages reading.left found.0 (before.held ++ r.text) reading.represented reading.count_is

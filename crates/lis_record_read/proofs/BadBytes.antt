@@ -4,7 +4,7 @@ use Rattle.std.specs.List.{position_from}
 use Rattle.std.proofs.lemmas.Iterator.Adapters.{position_from-zero}
 use Rattle.lis_record_values.proofs.FirstFaults.{AllPass-position}
 use Rattle.lis_record_values.specs.Text.{IsRecordText, bad_byte_place, is_text_byte}
-use Rattle.lis_text.proofs.SearchLemmas.{clean-before}
+use Rattle.lis_bytes.proofs.SearchLemmas.{clean-before}
 
 none_before : (bytes : List ℕ) (place : ℕ) → Some place ≡ position_from (λ b. not (is_text_byte b)) 0 bytes
     → bad_byte_place (take place bytes) ≡ None

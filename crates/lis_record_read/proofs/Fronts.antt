@@ -17,7 +17,7 @@ use Rattle.lis_record_read.specs.inside.FrontReading.{BeginsWith, ComponentFront
 use Rattle.lis_record_read.proofs.FieldTexts.{plain_symbols, symbols_of-front, trailing-none, whole_part}
 use Rattle.lis_record_read.proofs.Places.{Lacks-position}
 use Rattle.lis_record_read.proofs.Stops.{NoStop, before, parts-marked}
-use Rattle.lis_text.proofs.SearchLemmas.{clean-before, found-chunk, passed-chunk}
+use Rattle.lis_bytes.proofs.SearchLemmas.{clean-before, found-chunk, passed-chunk}
 
 -- where bits say that a byte is nowhere among the first sixteen, or not before a place
 module _ (mark : ℕ) (bytes : List ℕ) (bits count : ℕ) (room : 16 ≤ length bytes)

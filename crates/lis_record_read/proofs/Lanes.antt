@@ -2,13 +2,10 @@
 use Rattle.std.proofs.Common.{◌≡◌, ◌≤◌, ℕ, ◌+◌, ◌*◌, ◌-◌, ◌%◌, ◌^◌, Bool, true, false, cond, leb}
 use Rattle.std.proofs.Common.{eqb, List, [], ◌∷◌}
 use Rattle.std.proofs.Common.{length, map, replicate, bit_and, bit_or, refl, ap, sym, ◌∙◌, arith, not, ◌&&◌, ◌||◌}
-use Rattle.std.proofs.Common.{take, drop}
-use Rattle.std.specs.Prelude.{count_by}
 use Rattle.std.specs.Simd.Lanes.{zip2, mask_l, top}
 use Rattle.std.proofs.lemmas.Simd.{zip2_splat, zip2_splat_left, mask_l-mod}
 use Rattle.std.proofs.Math.Nat.{pow-succ'}
 use Rattle.std.proofs.lemmas.List.{length-map}
-use Rattle.std.proofs.lemmas.List.Sums.{sum_by-take-drop}
 use Rattle.std.proofs.lemmas.Bool.{eqb-true}
 use Rattle.std.proofs.lemmas.Bool.Decides.{nat_tests}
 use Rattle.lis_record_values.specs.Delimiters.{DelimiterBytes}
@@ -239,8 +236,3 @@ module _ (xs : List ℕ) (long : length xs ≡ 16) where
       (eq 16 xs long other) in
       bits (stops d other) xs _ (omega (arith, long))
       (or_lanes (λ b. eqb b d.field || eqb b d.repeat) (λ b. eqb b d.component || eqb b other) xs _ _ outer inner)
-
--- how many pass among the first bytes, and among the others
-pub count_by-chunk : (f : ℕ → Bool) (n : ℕ) (xs : List ℕ)
-    → count_by f (take n xs) + count_by f (drop n xs) ≡ count_by f xs
-count_by-chunk f n xs = sum_by-take-drop (λ x. cond (f x) 1 0) xs n

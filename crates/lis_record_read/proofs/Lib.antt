@@ -4,7 +4,6 @@ pub mod FieldTexts
 pub mod Fronts
 pub mod Joins
 pub mod Lanes
-pub mod LastBits
 pub mod PaddedTexts
 pub mod Pairs
 pub mod Places

@@ -13,7 +13,7 @@ use Rattle.lis_record_read.specs.FrontReading.{parts_following, parts_of, repeat
 use Rattle.lis_record_read.specs.inside.FrontReading.{stops}
 use Rattle.lis_record_read.proofs.FieldTexts.{plain_read, single_read}
 use Rattle.lis_record_read.proofs.Joins.{Lacks-tests}
-use Rattle.lis_text.proofs.SearchLemmas.{clean-before, found-chunk, found-within}
+use Rattle.lis_bytes.proofs.SearchLemmas.{clean-before, found-chunk, found-within}
 
 -- where none is found, each fails
 pub all-fail : (f : ℕ → Bool) (i : ℕ) (xs : List ℕ) → position_from f i xs ≡ None → All (λ b. f b ≡ false) xs

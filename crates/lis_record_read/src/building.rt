@@ -9,8 +9,9 @@ ghost use Rattle.lis_record_read.specs.inside.FrontReading.{IsPaddedBy};
 ghost use Rattle.lis_record_values.specs.Relation.{Lacks};
 
 use crate::escapes::{read_component, read_short_component};
-use crate::search::{bits_of, field_end, first_stop, near_end, place_of};
+use crate::search::{field_end, first_stop, near_end};
 use crate::text_parts::{PaddedText, count_parts, first_part};
+use lis_bytes::{bits_of, place_of};
 use lis_record_values::{Component, Delimiters, Field, Kind, Record, Repeat};
 use std::alloc::{AllocError, Global};
 use std::simd::prelude::*;

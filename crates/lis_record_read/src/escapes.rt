@@ -10,8 +10,8 @@ ghost use Rattle.lis_record_read.specs.FrontReading.{ArePairs, digit_symbols, sy
 ghost use Rattle.lis_record_read.specs.inside.FrontReading.{BeginsWith};
 ghost use Rattle.lis_record_values.specs.Relation.{Lacks};
 
-use crate::search::{bits_of, place_of};
 use crate::text_parts::PaddedText;
+use lis_bytes::{bits_of, place_of};
 use lis_record_values::{Component, Delimiters, Sym};
 use std::alloc::{AllocError, Global};
 use std::marker::Model;

@@ -9,5 +9,6 @@ mod text_parts;
 
 pub use building::{is_plain, read_field, read_fields};
 pub use escapes::{BorrowedSymbols, escape_meaning, first_pair, letter_symbol};
-pub use search::{bits_of, first_bad_byte, place_of, stop_bits};
+pub use lis_bytes::{bits_of, place_of};
+pub use search::{first_bad_byte, stop_bits};
 pub use text_parts::{count_parts, first_part};

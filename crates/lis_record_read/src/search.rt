@@ -1,15 +1,15 @@
 //! Places of bytes in a text, looked for sixteen bytes at a time (LIS02-A2, Character Codes).
 
 ghost use Rattle.std.specs.Prelude.{◌≡◌, ◌≤◌, ◌<◌, ◌==◌, ◌∷◌, IfNone, IfSome, None, Some, drop, length, map, not};
-ghost use Rattle.std.specs.Prelude.{◌-◌, ◌||◌, count_by, position, take, true};
+ghost use Rattle.std.specs.Prelude.{◌-◌, ◌||◌, take, true};
 ghost use Rattle.std.specs.List.{position_from};
 ghost use Rattle.std.specs.Simd.Lanes.{mask_l};
 ghost use Rattle.lis_record_read.specs.FrontReading.{parts_following, parts_of};
 ghost use Rattle.lis_record_read.specs.inside.FrontReading.{stops};
 ghost use Rattle.lis_record_values.specs.Text.{IsRecordText, bad_byte_place, is_text_byte};
 
+use lis_bytes::{ByteSet, bits_of, first_in};
 use lis_record_values::{Delimiters, is_text_byte};
-use lis_text::{ByteSet, first_in};
 use std::simd::prelude::*;
 
 /// The bytes that no record may hold.
@@ -107,63 +107,6 @@ pub fn first_bad_byte(bytes: &[u8]) -> Option<usize>
     first_bad(bytes)
 }
 
-/// The places among sixteen bytes that hold this one, as bits.
-#[inline(always)]
-pub fn bits_of(bytes: &[u8], mark: u8) -> u64
-    requires { 16 ≤ length bytes.now }
-    ensures { result ≡ mask_l (map (λ b. b == mark) (take 16 bytes.now)) }
-{
-    u8x16::from_slice(bytes)
-        .simd_eq(u8x16::splat(mark))
-        .to_bitmask()
-}
-
-/// The places among so many bytes at a text's end that hold this one, as bits. The sixteen that they are among are
-/// tested at once.
-#[inline(always)]
-fn last_bits(text: &[u8], count: usize, mark: u8) -> u64
-    requires few { count ≤ 16 }
-    requires room { 16 ≤ length text.now }
-    ensures { result ≡ mask_l (map (λ b. b == mark) (drop (length text.now - count) text.now)) }
-{
-    let (_, last) = text.split_at(text.len() - 16);
-    bits_of(last, mark) >> (16 - count)
-}
-
-/// The place of the first byte that is this one.
-#[inline(always)]
-pub fn place_of(text: &[u8], mark: u8) -> Option<usize>
-    ensures { result ≡ position (λ b. b == mark) text.now }
-{
-    let mut rest = text;
-    let mut place = 0;
-    while rest.len() >= 16 {
-        let bits = bits_of(rest, mark);
-        if bits != 0 {
-            return Some(place + bits.trailing_zeros() as usize);
-        }
-        let (_, following) = rest.split_at(16);
-        rest = following;
-        place += 16;
-    }
-    if text.len() < 16 {
-        return place_by_one(text, mark);
-    }
-    let bits = last_bits(text, rest.len(), mark);
-    if bits == 0 {
-        return None;
-    }
-    Some(place + bits.trailing_zeros() as usize)
-}
-
-/// The same, a byte at a time.
-#[inline(always)]
-fn place_by_one(text: &[u8], mark: u8) -> Option<usize>
-    ensures { result ≡ position_from (λ b. b == mark) 0 text.now }
-{
-    text.iter().position(|byte| *byte == mark)
-}
-
 /// The places among sixteen bytes that hold a field, repeat or component delimiter, or this byte, as bits.
 #[inline(always)]
 pub fn stop_bits(delimiters: Delimiters, other: u8, bytes: &[u8]) -> u64
@@ -232,37 +175,4 @@ pub(crate) fn near_end(text: &[u8], delimiter: u8) -> Option<usize>
         return None;
     }
     Some(bits.trailing_zeros() as usize)
-}
-
-/// How many bytes are this one.
-#[inline(always)]
-pub(crate) fn count_of(text: &[u8], mark: u8) -> usize
-    ensures count { result ≡ count_by (λ b. b == mark) text.now }
-    ensures bound { result ≤ length text.now }
-{
-    let mut rest = text;
-    let mut count: usize = 0;
-    while rest.len() >= 16 {
-        count += bits_of(rest, mark).count_ones() as usize;
-        let (_, following) = rest.split_at(16);
-        rest = following;
-    }
-    if text.len() < 16 {
-        return count_by_one(text, mark);
-    }
-    count + last_bits(text, rest.len(), mark).count_ones() as usize
-}
-
-/// The same, a byte at a time.
-#[inline(always)]
-fn count_by_one(text: &[u8], mark: u8) -> usize
-    ensures { result ≡ count_by (λ b. b == mark) text.now }
-{
-    let mut count: usize = 0;
-    for byte in text {
-        if *byte == mark {
-            count += 1;
-        }
-    }
-    count
 }

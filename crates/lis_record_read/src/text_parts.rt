@@ -4,7 +4,7 @@ ghost use Rattle.std.specs.Prelude.{◌≡◌, ◌<◌, ◌≤◌, ◌∷◌, �
 ghost use Rattle.lis_record_values.specs.Text.{trailing_byte};
 ghost use Rattle.lis_record_read.specs.FrontReading.{parts_following, parts_of};
 
-use crate::search::{count_of, place_of};
+use lis_bytes::{count_of, place_of};
 
 // A text, and the same with more after it or nothing, so that sixteen bytes can be looked at.
 #[derive(Clone, Copy)]

@@ -106,7 +106,8 @@ pub record IsHearingOn (in_lines : Bool) (limit number : ℕ) {size mode : ℕ} 
 -- no byte was heard
 pub hears_first :
     {in_lines : Bool} {limit size mode : ℕ} (number : ℕ) {p : Playing size mode} {a : Out} {lines : List Line}
-    (bytes : List ℕ) → IsWorking a → IsPlaying in_lines limit p lines → IsHearingOn in_lines limit number p a a lines bytes bytes
+    (bytes : List ℕ) → IsWorking a → IsPlaying in_lines limit p lines
+    → IsHearingOn in_lines limit number p a a lines bytes bytes
 hears_first {limit = limit} number {a = a} {lines = lines} bytes working playing = record {
   here = unheard (played limit lines);
   receiver_is = playing.receiver_is;

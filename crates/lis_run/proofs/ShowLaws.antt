@@ -4,7 +4,7 @@ use Rattle.std.proofs.Common.{ap, sym, subst, ◌∙◌, append-nil, append_asso
 use Rattle.std.proofs.Common.{codes}
 use Rattle.lis_frame.specs.declared.scanner.SignalOf.{SignalOf}
 use Rattle.lis_frame.specs.Stream.{signals_after, stream_with}
-use Rattle.lis_frame.proofs.StreamLaws.{signals_after-append}
+use Rattle.lis_frame.proofs.StreamLaws.{signals_after-append, stream_with-append}
 use Rattle.lis_frame.specs.Frame.{FrameContent}
 use Rattle.lis_frame.specs.Scanner.{borrowed_signals}
 use Rattle.hex.specs.Hex.{encode_lower}
@@ -20,7 +20,6 @@ use Rattle.lis_engine.specs.Output.{Broke, IsWorking, Out, WentOn, WentOut}
 use Rattle.lis_engine.proofs.OutputLaws.{breaks_on, nothing_put, put_on}
 use Rattle.lis_engine.specs.Runs.{HasRun, KnownPorts, Ran, Shown, WroteOutcome, WroteText}
 use Rattle.lis_run.specs.Show.{Shows, clean, digits_part, frame_line, show, signal_line, signal_lines}
-use Rattle.lis_link.proofs.HearingLaws.{stream_with-append}
 
 pub signal_lines-append :
     {limit : ℕ} (xs ys : List (SignalOf limit)) → signal_lines (xs ++ ys) ≡ signal_lines xs ++ signal_lines ys

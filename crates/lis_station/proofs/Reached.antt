@@ -10,8 +10,8 @@ use Rattle.lis_frame.specs.declared.scanner.SignalOf.TheVariants.{Enq, Eot, Good
 use Rattle.lis_frame.specs.Stream.{signal_after}
 use Rattle.lis_link.specs.declared.receiver.Note.{Note}
 use Rattle.lis_link.specs.declared.receiver.Note.TheVariants.{Opened, Accepted}
-use Rattle.lis_link.specs.declared.receiver.Readiness.{Readiness}
-use Rattle.lis_link.specs.declared.receiver.Readiness.TheVariants.{Ready, Busy, Contending}
+use Rattle.lis_text.specs.declared.readiness.Readiness.{Readiness}
+use Rattle.lis_text.specs.declared.readiness.Readiness.TheVariants.{Ready, Busy, Contending}
 use Rattle.lis_link.specs.Receiver.{ReceiverState, ReceiverStep, on_byte, heard as receiver_heard, heard_by, classified}
 use Rattle.lis_link.specs.Receiver.{on_classified, answered_request}
 use Rattle.lis_link.specs.Sender.{SenderState}

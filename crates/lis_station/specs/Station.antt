@@ -8,8 +8,8 @@ use Rattle.lis_link.specs.declared.sender.Phase.{Phase}
 use Rattle.lis_link.specs.declared.sender.Phase.TheVariants.{AwaitLine, Contention, AwaitReply}
 use Rattle.lis_link.specs.declared.receiver.Note.{Note}
 use Rattle.lis_link.specs.declared.receiver.Note.TheVariants.{Quiet, Opened, NotReady, Ended, Accepted, TimedOut}
-use Rattle.lis_link.specs.declared.receiver.Readiness.{Readiness}
-use Rattle.lis_link.specs.declared.receiver.Readiness.TheVariants as Readinesses
+use Rattle.lis_text.specs.declared.readiness.Readiness.{Readiness}
+use Rattle.lis_text.specs.declared.readiness.Readiness.TheVariants as Readinesses
 use Rattle.lis_link.specs.Sender.{SenderState, SenderStep, new_sender, on_reply, on_sender_timer, sender_restarted}
 use Rattle.lis_link.specs.Sender.{started, start_fault}
 use Rattle.lis_link.specs.Receiver.{ReceiverState, ReceiverStep, answers, new_receiver, on_byte, on_bytes}

@@ -8,10 +8,10 @@ use Rattle.std.proofs.Math.Seq.{drop-append_seam, take-append_seam}
 use Rattle.std.proofs.lemmas.Iterator.Adapters.{position_from-zero}
 use Rattle.std.proofs.lemmas.List.{length-drop, take_all}
 use Rattle.lis_record_values.specs.Delimiters.{DelimiterBytes}
-use Rattle.lis_text.proofs.SearchLemmas.{clean-before}
-use Rattle.lis_record_read.proofs.LastBits.{last-bits}
+use Rattle.lis_bytes.proofs.SearchLemmas.{clean-before}
+use Rattle.lis_bytes.proofs.LastBits.{last-bits}
 use Rattle.lis_record_read.proofs.Stops.{all-fail}
-use Rattle.lis_record.proofs.Marks.{bits-small, front-bits}
+use Rattle.lis_bytes.proofs.MarkLemmas.{bits-small, front-bits}
 use Rattle.lis_record_read.specs.inside.FrontReading.{stops}
 use Rattle.lis_table.specs.inside.Stops.{AreAhead}
 

@@ -9,6 +9,7 @@ ghost use Rattle.lis_table.specs.inside.Table.{first_place};
 ghost use Rattle.lis_table.specs.inside.Scan.{IsRoomy, longer, next_place, scanned, up_to};
 
 use crate::stops::stops_ahead;
+use lis_record::front_length;
 use lis_record_values::{Delimiters, Kind};
 
 /// Where a component is in its record's text, and which it is: the number of its field, as the standard counts, and
@@ -22,17 +23,6 @@ pub struct LisPart {
     pub repeat: u32,
     pub component: u32,
     pub flags: u32,
-}
-
-/// How many bytes come before a record's fields.
-#[inline(always)]
-fn front_length(kind: Kind) -> usize
-    ensures { result ≡ front_length kind }
-{
-    match kind {
-        Kind::H => 5,
-        _ => 1,
-    }
 }
 
 /// Where the first component begins.

@@ -1,6 +1,7 @@
 //! What each fault says of itself that no test of the program shows, a line for each.
 
-use lis_message::{Kind, MessageFault, Reason, RecordFault, TextsFault};
+use lis_message::{Kind, MessageFault, Reason, RecordFault};
+use lis_message_texts::TextsFault;
 use lis_tool::{Refused, ToolFault};
 use lis_world::PlayFault;
 use std::alloc::AllocError;

@@ -1,5 +1,1 @@
-pub mod ListLemmas
-pub mod SearchLemmas
-pub mod OverLemmas
-pub mod SumLemmas
 pub mod TextLemmas

@@ -12,7 +12,7 @@ use Rattle.std.proofs.lemmas.List.{length-map}
 use Rattle.std.proofs.lemmas.Bool.Decides.{nat_tests}
 use Rattle.lis_text.specs.declared.text.TextFault.TheVariants.{TooLong, Forbidden}
 use Rattle.lis_text.specs.Text.{is_forbidden, first_forbidden, text_fault, IsText}
-use Rattle.lis_text.proofs.SearchLemmas.{same_map}
+use Rattle.lis_bytes.proofs.SearchLemmas.{same_map}
 
 -- a lane of the tests
 abbrev lane : ℕ → ℕ

@@ -2,5 +2,3 @@
 pub mod Control
 pub mod Text
 pub mod LinkText
-pub mod Capped
-pub mod inside

@@ -6,8 +6,8 @@ ghost use Rattle.std.specs.Option.{option_copied};
 ghost use Rattle.lis_text.specs.LinkText.{IsTextRefused, longest_text};
 ghost use Rattle.lis_text.specs.Text.{text_fault};
 
-use crate::list::List;
 use crate::text::{TextFault, check_bytes};
+use lis_bytes::List;
 use std::alloc::{AllocError, Global};
 use std::marker::Model;
 use thiserror::Error;

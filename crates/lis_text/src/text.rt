@@ -5,7 +5,7 @@ ghost use Rattle.std.specs.List.{sum};
 ghost use Rattle.std.specs.Option.{unwrap_or};
 ghost use Rattle.lis_text.specs.Text.{first_forbidden, is_forbidden, text_fault};
 
-use crate::search::{ByteSet, are_over, first_and_sum, first_in};
+use lis_bytes::{ByteSet, are_over, first_and_sum, first_in};
 use std::simd::prelude::*;
 use thiserror::Error;
 

@@ -6,7 +6,7 @@ use Rattle.std.proofs.lemmas.List.Elements.{All-contains}
 use Rattle.std.specs.List.{AllByRecursion, flat_map}
 use Rattle.lis_message.specs.Feeding.{ReadsWhole, answer_at_end}
 use Rattle.lis_message.specs.Stream.{IsSplit, IsRefused}
-use Rattle.lis_message.specs.Texts.{FitsInTexts}
+use Rattle.lis_message_texts.specs.Texts.{FitsInTexts}
 use Rattle.lis_message.specs.Writing.{IsWritable, message_bytes, message_texts_of}
 use Rattle.lis_message.proofs.WritingLaws.{all_writable}
 use Rattle.lis_record_write.specs.Encoding.{written}

@@ -8,7 +8,7 @@ use Rattle.lis_capture.specs.Capture.{Lines, capture, version_of}
 use Rattle.lis_link.specs.declared.sender.Outcome.TheVariants.{Done}
 use Rattle.lis_message.specs.Feeding.{ReadsWhole}
 use Rattle.lis_message.specs.Stream.{IsSplit}
-use Rattle.lis_message.specs.Texts.{FitsInTexts}
+use Rattle.lis_message_texts.specs.Texts.{FitsInTexts}
 use Rattle.lis_message.specs.Writing.{message_bytes, message_texts_of}
 use Rattle.lis_run.specs.LineOutcome.{capture_outcome}
 use Rattle.lis_report.specs.Answers.{Outcome}

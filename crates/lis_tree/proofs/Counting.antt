@@ -14,7 +14,7 @@ use Rattle.lis_tree.specs.declared.numbering.Finding.{Finding}
 use Rattle.lis_tree.specs.Findings.{finding_of, finding_on, findings_from, kinds_back}
 use Rattle.lis_tree.specs.Numbers.{symbol_digit, digits_from, digits_number, expected_number, field_number, is_number}
 use Rattle.lis_tree.specs.Numbers.{is_numbered}
-use Rattle.lis_text.specs.Capped.{capped}
+use Rattle.lis_bytes.specs.Capped.{capped}
 
 -- what is left from a symbol on
 pub at_symbol : (xs : Symbols) (i : ℕ) (x : Sym) → Some x ≡ slice_get xs i → drop i xs ≡ x ∷ drop (i + 1) xs

@@ -14,7 +14,7 @@ use Rattle.lis_record_values.specs.declared.faults.MessageFault.{MessageFault}
 use Rattle.lis_record_values.specs.declared.faults.Reason.TheVariants as reasons
 use Rattle.lis_tree.specs.Begun.{Begun, level_of}
 use Rattle.lis_tree.specs.Level.{Level, outside, closed, next_level, level_after, misplaced, AllowedFrom, kinds_of}
-use Rattle.lis_text.specs.Capped.{capped}
+use Rattle.lis_bytes.specs.Capped.{capped}
 use Rattle.lis_tree.specs.ListFaults.{IsListFault, IsMisplacedAt, IsUnclosed}
 use Rattle.lis_tree.specs.Tree.{MessageTree, IsTree, flatten, group_records}
 use Rattle.lis_tree.proofs.Levels.{map_append, allowed_back, tree_leads, inside_takes, next_unclosed, level_more}

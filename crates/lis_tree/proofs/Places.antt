@@ -15,7 +15,7 @@ use Rattle.lis_tree.specs.Places.{comment_number, next_comment, note_numbers, re
 use Rattle.lis_tree.specs.Places.{group_numbers, tree_numbers, number_finding, number_findings}
 use Rattle.lis_tree.specs.Tree.{MessageTree, IsTree, IsNote, AreNotes, IsAnnotated, IsOrder, IsGroup, flatten}
 use Rattle.lis_tree.specs.Tree.{annotated_records, order_records, group_records}
-use Rattle.lis_text.specs.Capped.{capped}
+use Rattle.lis_bytes.specs.Capped.{capped}
 
 -- the number of a record of this kind after these
 abbrev number_after : Kind → List Kind → Option ℕ

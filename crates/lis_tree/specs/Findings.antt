@@ -5,7 +5,7 @@ use Rattle.lis_record_values.specs.Shape.{RecordContent, field_at}
 use Rattle.lis_tree.specs.declared.numbering.Finding.{Finding}
 use Rattle.lis_tree.specs.declared.numbering.Numbering.{Numbering}
 use Rattle.lis_tree.specs.Numbers.{CountsOf, expected_number, field_number, is_number, is_numbered}
-use Rattle.lis_text.specs.Capped.{capped}
+use Rattle.lis_bytes.specs.Capped.{capped}
 use Rattle.lis_tree.specs.Tree.{MessageTree, flatten}
 
 -- what is said about a record whose number is wrong

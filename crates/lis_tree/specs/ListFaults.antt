@@ -4,7 +4,7 @@ use Rattle.lis_record_values.specs.declared.kinds.Kind.{Kind}
 use Rattle.lis_record_values.specs.declared.faults.MessageFault.{MessageFault}
 use Rattle.lis_record_values.specs.declared.faults.Reason.TheVariants as reasons
 use Rattle.lis_tree.specs.Level.{outside, closed, level_after, misplaced, AllowedFrom}
-use Rattle.lis_text.specs.Capped.{capped}
+use Rattle.lis_bytes.specs.Capped.{capped}
 
 -- a record of a list that can't be where it is, the first of them
 pub record IsMisplacedAt (ks : List Kind) (fault : MessageFault) : Type 0 where

@@ -8,7 +8,7 @@ use Rattle.lis_record_values.specs.declared.symbols.Sym.{Sym}
 use Rattle.lis_record_values.specs.declared.symbols.Sym.TheVariants.{Char}
 use Rattle.lis_record_values.specs.Shape.{Repeats, Symbols}
 use Rattle.lis_tree.specs.declared.numbering.KindCounts.{KindCounts}
-use Rattle.lis_text.specs.Capped.{capped}
+use Rattle.lis_bytes.specs.Capped.{capped}
 
 -- whether records of this kind carry a number that is examined: not headers, manufacturer and scientific records
 abbrev pub is_numbered : Kind → Bool

@@ -6,7 +6,7 @@ use Rattle.lis_record_values.specs.Shape.{IsRecordShape}
 use Rattle.lis_tree.specs.declared.tree.Group.{Group}
 use Rattle.lis_tree.specs.Front.{IsFront, front_records}
 use Rattle.lis_tree.specs.Nodes.{Branch}
-use Rattle.lis_text.specs.Capped.{capped}
+use Rattle.lis_bytes.specs.Capped.{capped}
 
 pub record IsOpen (delimiters : DelimiterBytes) (front : Branch Group) (count : ℕ) : Type 0 where
   pub marks : IsDelimiters delimiters

@@ -10,7 +10,7 @@ use Rattle.lis_tree.specs.declared.tree.Group.TheVariants as groups
 use Rattle.lis_tree.specs.Nodes.{Annotated, OrderTree}
 use Rattle.lis_tree.specs.Numbers.{field_number, is_number}
 use Rattle.lis_tree.specs.Tree.{MessageTree}
-use Rattle.lis_text.specs.Capped.{capped}
+use Rattle.lis_bytes.specs.Capped.{capped}
 
 -- of the notes on a record the comments alone are numbered
 abbrev pub comment_number : ℕ → Kind → Option ℕ

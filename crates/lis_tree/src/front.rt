@@ -11,7 +11,7 @@ ghost use Rattle.lis_tree.specs.Position.{position_level};
 
 use crate::position::Position;
 use crate::tree::{Annotated, Branch, Group, Order, Patient};
-use lis_record::{Kind, Record};
+use lis_record_values::{Kind, Record};
 use std::alloc::{AllocError, Global};
 
 /// The header with its notes, and the patients and queries so far.

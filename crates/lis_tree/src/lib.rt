@@ -13,9 +13,9 @@ mod results;
 mod tree;
 mod walk;
 
-pub use lis_record::{BorrowedRecord, Delimiters, Kind, Record, RecordFault};
-pub use lis_record_values::{MessageFault, Reason};
-pub use lis_text::List;
+pub use lis_bytes::List;
+pub use lis_record::BorrowedRecord;
+pub use lis_record_values::{Delimiters, Kind, MessageFault, Reason, Record, RecordFault};
 pub use lists::{Records, copy_records};
 pub use message::Message;
 pub use numbering::{Finding, Findings, Numbering, findings};

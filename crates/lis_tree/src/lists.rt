@@ -2,8 +2,8 @@
 
 ghost use Rattle.std.specs.Prelude.{◌≡◌, IfOk};
 
-use lis_record::Record;
-use lis_text::List;
+use lis_bytes::List;
+use lis_record_values::Record;
 use std::alloc::{AllocError, Global};
 
 /// A list of records.

@@ -5,7 +5,7 @@ ghost use Rattle.lis_record_values.specs.declared.faults.Reason.TheVariants as r
 ghost use Rattle.lis_tree.specs.Level.{misplaced, closed, kinds_of};
 ghost use Rattle.lis_tree.specs.ListFaults.{IsListFault};
 ghost use Rattle.lis_tree.specs.Front.{message_tree};
-ghost use Rattle.lis_text.specs.Capped.{capped};
+ghost use Rattle.lis_bytes.specs.Capped.{capped};
 ghost use Rattle.lis_tree.specs.Results.{results_left, results_of};
 ghost use Rattle.lis_tree.specs.Tree.{MessageTree, IsTree, flatten};
 
@@ -14,8 +14,7 @@ use crate::open::OpenMessage;
 use crate::results::Results;
 use crate::tree::{Branch, Group};
 use crate::walk::{Walk, count};
-use lis_record::{Delimiters, Kind, Record};
-use lis_record_values::{MessageFault, Reason};
+use lis_record_values::{Delimiters, Kind, MessageFault, Reason, Record};
 use std::alloc::{AllocError, Global};
 use std::marker::Model;
 use std::mem::drop;

@@ -5,17 +5,16 @@ ghost use Rattle.lis_record_values.specs.declared.kinds.Kind.{Kind as KindOf};
 ghost use Rattle.lis_tree.specs.Findings.{HasNumbered, finding_on, findings_from, findings_of};
 ghost use Rattle.std.specs.Option.{option_to_list};
 ghost use Rattle.lis_record_values.specs.Shape.{RecordContent, field_at, plain_component};
-ghost use Rattle.lis_text.specs.Capped.{capped};
+ghost use Rattle.lis_bytes.specs.Capped.{capped};
 ghost use Rattle.lis_tree.specs.Numbers.{CountsOf, expected_number, symbol_digit, digits_number, field_number};
 ghost use Rattle.lis_tree.specs.Numbers.{is_number, is_numbered};
 ghost use Rattle.lis_record_values.specs.declared.kinds.Kind.TheVariants as kinds;
 
 use crate::message::Message;
 use crate::walk::Walk;
-use lis_record::{
-    BorrowedField, BorrowedRecord, BorrowedSymbols, Component, Field, Kind, Record, Sym,
-};
-use lis_text::List;
+use lis_bytes::List;
+use lis_record::{BorrowedField, BorrowedRecord, BorrowedSymbols};
+use lis_record_values::{Component, Field, Kind, Record, Sym};
 use std::alloc::{AllocError, Global};
 
 /// A record whose second field isn't the expected number.

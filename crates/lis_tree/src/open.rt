@@ -4,14 +4,13 @@ ghost use Rattle.lis_record_values.specs.declared.kinds.Kind.TheVariants as kind
 ghost use Rattle.lis_record_values.specs.Delimiters.{IsDelimiters};
 ghost use Rattle.lis_tree.specs.Level.{misplaced};
 ghost use Rattle.lis_tree.specs.Begun.{level_of};
-ghost use Rattle.lis_text.specs.Capped.{capped};
+ghost use Rattle.lis_bytes.specs.Capped.{capped};
 ghost use Rattle.lis_tree.specs.Tree.{flatten, IsTree};
 
 use crate::front::{Front, position, push_record};
 use crate::message::Message;
 use crate::tree::Annotated;
-use lis_record::{Delimiters, Kind, Record};
-use lis_record_values::Reason;
+use lis_record_values::{Delimiters, Kind, Reason, Record};
 use std::alloc::{AllocError, Global};
 use std::marker::Model;
 

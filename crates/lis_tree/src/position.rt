@@ -3,8 +3,7 @@ ghost use Rattle.std.specs.Prelude.{◌≡◌};
 ghost use Rattle.lis_tree.specs.Level.{misplaced, next_level};
 ghost use Rattle.lis_tree.specs.Position.{position_level, position_or_closed};
 
-use lis_record::Kind;
-use lis_record_values::Reason;
+use lis_record_values::{Kind, Reason};
 
 /// Where the next record of a message that isn't closed yet will be.
 #[derive(Clone, Copy, Debug, PartialEq, Eq)]

@@ -1,12 +1,12 @@
 //! A walk over the records of a message, in the order in which they are written.
 ghost use Rattle.std.specs.Prelude.{◌≡◌, [], ◌++◌, IfNone, length};
 ghost use Rattle.std.specs.Option.{option_copied, option_to_list};
-ghost use Rattle.lis_text.specs.Capped.{capped};
+ghost use Rattle.lis_bytes.specs.Capped.{capped};
 ghost use Rattle.lis_tree.specs.Tree.{flatten};
 
 use crate::message::Message;
 use crate::tree::{Group, Order, ResultEntry};
-use lis_record::Record;
+use lis_record_values::Record;
 use std::marker::Model;
 
 /// The records of a message that are left.

@@ -14,7 +14,7 @@ use Rattle.lis_frame.specs.Pieces.{session_frames}
 use Rattle.lis_frame.specs.Stream.{signal_after, signals_after, stream_with}
 use Rattle.lis_link.specs.declared.sender.Outcome.TheVariants.{Done}
 use Rattle.lis_link.specs.declared.sender.Phase.TheVariants.{AwaitLine}
-use Rattle.lis_link.specs.declared.receiver.Readiness.TheVariants as Readinesses
+use Rattle.lis_text.specs.declared.readiness.Readiness.TheVariants as Readinesses
 use Rattle.lis_link.specs.Joining.{groups}
 use Rattle.lis_link.specs.Sender.{sends_first, started, most_tries}
 use Rattle.lis_link.specs.Receiver.{answered_request, heard_by, with_room}

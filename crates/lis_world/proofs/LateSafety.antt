@@ -19,7 +19,7 @@ use Rattle.lis_link.specs.declared.sender.Outcome.{Outcome}
 use Rattle.lis_link.specs.Sender.{SenderStep, gives, reply_in, on_reply, timer_in, on_sender_timer, restart_in}
 use Rattle.lis_link.specs.Sender.{sender_restarted, start_fault}
 use Rattle.lis_link.specs.Receiver.{ReceiverState, receiver_restarted, on_receiver_timer, with_readiness, with_room}
-use Rattle.lis_link.specs.declared.receiver.Readiness.TheVariants as Readinesses
+use Rattle.lis_text.specs.declared.readiness.Readiness.TheVariants as Readinesses
 use Rattle.lis_world.specs.declared.event.Event.{Event}
 use Rattle.lis_world.specs.declared.event.Event.TheVariants.{Start, Deliver, DeliverNoRoom, Damage, Lose, Reply}
 use Rattle.lis_world.specs.declared.event.Event.TheVariants.{DamageReply, LoseReply, SenderTimer, ReceiverTimer}

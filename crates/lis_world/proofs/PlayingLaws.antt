@@ -9,10 +9,10 @@ use Rattle.lis_frame.specs.Frame.{FrameContent, IsContent, frame_bytes}
 use Rattle.lis_frame.specs.Stream.{signal_after, signals_after, with_signal}
 use Rattle.lis_frame.proofs.StreamLaws.{signals-frame_bytes}
 use Rattle.lis_link.specs.declared.receiver.Hearing.{Hearing}
-use Rattle.lis_link.specs.declared.receiver.Readiness.{Readiness}
-use Rattle.lis_link.specs.declared.receiver.Readiness.TheVariants.{Ready}
+use Rattle.lis_text.specs.declared.readiness.Readiness.{Readiness}
+use Rattle.lis_text.specs.declared.readiness.Readiness.TheVariants.{Ready}
 use Rattle.lis_link.specs.declared.receiver.Note.{Note}
-use Rattle.lis_link.specs.declared.receiver.Note.TheVariants.{Accepted, Opened, OutOfMemory, Quiet}
+use Rattle.lis_link.specs.declared.receiver.Note.TheVariants.{Accepted, OutOfMemory, Quiet}
 use Rattle.lis_link.specs.declared.receiver.Step.{Step}
 use Rattle.lis_link.specs.Receiver.{ReceiverState, ReceiverStep, ReceiverHearing, answered_request, classified}
 use Rattle.lis_link.specs.Receiver.{on_classified, heard_by}

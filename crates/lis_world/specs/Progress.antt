@@ -10,7 +10,7 @@ use Rattle.lis_frame.specs.Stream.{is_mark}
 use Rattle.lis_frame.specs.FrameBody.{body_fault}
 use Rattle.lis_link.specs.declared.sender.Phase.TheVariants.{Neutral}
 use Rattle.lis_link.specs.declared.sender.Outcome.TheVariants.{Done}
-use Rattle.lis_link.specs.declared.receiver.Readiness.TheVariants as Readinesses
+use Rattle.lis_text.specs.declared.readiness.Readiness.TheVariants as Readinesses
 use Rattle.lis_link.specs.Sender.{start_fault, most_tries}
 use Rattle.lis_world.specs.declared.event.Event.{Event}
 use Rattle.lis_world.specs.declared.event.Event.TheVariants.{Start, Deliver, DeliverNoRoom, Damage, Reply, DamageReply}

@@ -43,3 +43,7 @@ follows sender x = record x { acknowledged = sender.acknowledged; outcome = send
 -- a frame put on the link; one that is sent again is there already
 abbrev pub sends_frame : FrameContent → Session → Session
 sends_frame frame x = record x { sent = if nat_lt x.acknowledged (length x.sent) then x.sent else x.sent ++ frame ∷ [] }
+
+-- the same by a name that a proof unfolds only where it asks for it
+unfoldable pub sends : FrameContent → Session → Session
+sends frame x = sends_frame frame x

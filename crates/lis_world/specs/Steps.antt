@@ -11,7 +11,7 @@ use Rattle.lis_link.specs.declared.sender.Phase.TheVariants as Phases
 use Rattle.lis_link.specs.declared.sender.EmitOf.{EmitOf}
 use Rattle.lis_link.specs.declared.sender.EmitOf.TheVariants as Emits
 use Rattle.lis_link.specs.declared.sender.StartFault.{StartFault}
-use Rattle.lis_link.specs.declared.receiver.Readiness.TheVariants as Readinesses
+use Rattle.lis_text.specs.declared.readiness.Readiness.TheVariants as Readinesses
 use Rattle.lis_link.specs.Sender.{SenderState, SenderStep, on_reply, on_sender_timer, sender_restarted, start_fault}
 use Rattle.lis_link.specs.Sender.{started}
 use Rattle.lis_link.specs.Receiver.{on_receiver_timer, receiver_restarted, with_readiness, with_room}

@@ -8,13 +8,12 @@ ghost use Rattle.lis_link.specs.Receiver.{ReceiverState, ReceiverStep, new_recei
 ghost use Rattle.lis_link.specs.Receiver.{receiver_restarted, with_readiness, with_room};
 ghost use Rattle.lis_link.specs.Representation.{IsIn, IsStep};
 ghost use Rattle.lis_frame.specs.Stream.{signals_after};
-ghost use Rattle.lis_world.specs.Session.{changed};
+ghost use Rattle.lis_world.specs.Session.{changed, sends};
 ghost use Rattle.lis_world.specs.Unit.{load_bytes, one_frame};
 ghost use Rattle.lis_world.specs.Steps.{is_noticed};
 ghost use Rattle.lis_world.specs.World.{booked, hears};
 ghost use Rattle.lis_world.specs.inside.Playing.{IsComputerState, computer_state_at, OnlyLoad, TakesLoad, takes_frame};
 ghost use Rattle.lis_world.specs.inside.Playing.{follows_with};
-ghost use Rattle.lis_world.specs.inside.Playing.{sends};
 
 use crate::session::SessionOf;
 use crate::unit::{LoadOf, TravellingOf};

@@ -313,7 +313,7 @@ impl<const N: usize> RunOf<N> {
     }
 
     /// The sender has made a step: it is booked to its session, and what it emits goes on the link.
-    #[tactic(auto, unfolding(crate::specs::inside::Playing::sends))]
+    #[tactic(auto, unfolding(crate::specs::Session::sends))]
     fn step(&mut self, emit: EmitOf<N>) -> Result<(), AllocError>
         requires { IsLimit N }
         ensures { (r : ReceiverState) → IsIn N self.old.computer_state.receiver r →

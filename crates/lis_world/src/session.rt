@@ -1,8 +1,7 @@
 //! What became of a session.
 
 ghost use Rattle.std.specs.Prelude.{◌≡◌, ◌∷◌, ◌++◌, [], OnOk, Some, None};
-ghost use Rattle.lis_world.specs.inside.Playing.{sends};
-ghost use Rattle.lis_world.specs.Session.{new_session, with_more};
+ghost use Rattle.lis_world.specs.Session.{new_session, sends, with_more};
 
 use lis_frame::{FrameOf, FramesOf};
 use lis_link::Outcome;
@@ -82,8 +81,8 @@ impl<const N: usize> SessionOf<N> {
         self.outcome
     }
 
-    /// A session that begins.
-    pub(crate) fn new(alloc: Global, texts: List<LinkText>) -> Self
+    /// A session that begins. Who plays a line books in it what happens.
+    pub fn new(alloc: Global, texts: List<LinkText>) -> Self
         ensures { result ≡ new_session texts }
     {
         SessionOf {
@@ -96,9 +95,10 @@ impl<const N: usize> SessionOf<N> {
         }
     }
 
-    /// A frame was put on the link; one that is sent again is there already.
-    #[tactic(auto, unfolding(crate::specs::inside::Playing::sends))]
-    pub(crate) fn send(&mut self, frame: &FrameOf<N>) -> Result<(), AllocError>
+    /// Books a frame that was put on the link; one that is sent again is there already. If memory runs out it isn't
+    /// booked.
+    #[tactic(auto, unfolding(crate::specs::Session::sends))]
+    pub fn send(&mut self, frame: &FrameOf<N>) -> Result<(), AllocError>
         ensures { OnOk result (self.new ≡ sends frame.now self.old) }
     {
         if self.acknowledged < self.sent.len() as u64 {
@@ -108,12 +108,8 @@ impl<const N: usize> SessionOf<N> {
         Ok(())
     }
 
-    /// A frame was accepted, and a text delivered if it was the last of one.
-    pub(crate) fn take(
-        &mut self,
-        frame: FrameOf<N>,
-        message: Option<LinkText>,
-    ) -> Result<(), AllocError>
+    /// Books a frame that was accepted, and the text that it completed, if it did. Memory may run out.
+    pub fn take(&mut self, frame: FrameOf<N>, message: Option<LinkText>) -> Result<(), AllocError>
         ensures { OnOk result (self.new ≡ record self.old {
           accepted = self.old.accepted ++ frame.entry ∷ [];
           handed = with_more self.old.handed message;
@@ -126,8 +122,8 @@ impl<const N: usize> SessionOf<N> {
         Ok(())
     }
 
-    /// The sender's count and outcome.
-    pub(crate) fn follow(&mut self, acknowledged: u64, outcome: Option<Outcome>)
+    /// Books the sender's count of acknowledged frames, and how the session ended.
+    pub fn follow(&mut self, acknowledged: u64, outcome: Option<Outcome>)
         ensures { self.new ≡ record self.old { acknowledged = acknowledged; outcome = outcome } }
     {
         (self.acknowledged, self.outcome) = (acknowledged, outcome);

@@ -1,6 +1,7 @@
 //! What each fault of records and messages says of itself.
 
-use lis_message::{MessageFault, MessageWriteFault, Reason, TextsFault};
+use lis_message::{MessageFault, MessageWriteFault, Reason};
+use lis_message_texts::TextsFault;
 use lis_record::{DelimiterPartFault, RecordFault, WriteFault};
 use lis_record_values::{DelimiterFault, Kind};
 use std::alloc::Global;

@@ -1,7 +1,8 @@
 //! What no contract and no conformance row says: messages of very many records, a message's results, its copy, and what
 //! follows a query.
 
-use lis_message::{Message, MessageReader, PlacedResult, TextsFault, message_texts, read_messages};
+use lis_message::{Message, MessageReader, PlacedResult, read_messages};
+use lis_message_texts::{TextsFault, message_texts};
 use lis_record::Kind;
 use lis_tree::Position;
 use std::alloc::Global;

@@ -4,7 +4,7 @@ use Rattle.std.proofs.Common.{◌↔◌, eqb, rules, refl, ap, ◌∙◌, arith,
 use Rattle.std.proofs.lemmas.Bool.{false≢true}
 use Rattle.std.specs.Io.KnownBytes.{Consumes, IsAtEnd}
 use Rattle.lis_frame.specs.Stream.{stream_with}
-use Rattle.lis_link.proofs.HearingLaws.{stream_with-append}
+use Rattle.lis_frame.proofs.StreamLaws.{stream_with-append}
 use Rattle.lis_capture.specs.Capture.{capture}
 use Rattle.lis_capture.proofs.CaptureLemmas.{capture-refused}
 use Rattle.lis_engine.specs.declared.fault.ToolFault.{ToolFault}

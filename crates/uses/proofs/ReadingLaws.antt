@@ -12,7 +12,7 @@ use Rattle.lis_tree.specs.Begun.{Begun}
 use Rattle.lis_tree.specs.Results.{ResultNode, results_of}
 use Rattle.lis_tree.specs.Tree.{MessageTree}
 use Rattle.uses.specs.declared.results.Reading.{Reading}
-use Rattle.lis_text.specs.Capped.{capped}
+use Rattle.lis_bytes.specs.Capped.{capped}
 use Rattle.uses.specs.Readings.{IsReading, result_count}
 
 -- one more reading

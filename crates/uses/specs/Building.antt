@@ -4,7 +4,7 @@ use Rattle.lis_record_values.specs.declared.kinds.Kind.{Kind}
 use Rattle.lis_record_values.specs.declared.kinds.Kind.TheVariants.{H, P, O, R, L}
 use Rattle.lis_record_values.specs.Delimiters.{usual}
 use Rattle.lis_record_values.specs.Shape.{RecordContent, Repeats, plain_component, plain_field}
-use Rattle.lis_message.specs.Texts.{HasNoTexts}
+use Rattle.lis_message_texts.specs.Texts.{HasNoTexts}
 use Rattle.lis_record_values.specs.declared.faults.Reason.TheVariants.{OutOfMemory}
 use Rattle.lis_tree.specs.Tree.{MessageTree, flatten}
 use Rattle.uses.specs.declared.building.BuildFault.{BuildFault}

@@ -7,7 +7,8 @@ ghost use Rattle.lis_record_write.specs.Encoding.{written};
 ghost use Rattle.uses.specs.Building.{HasNoResultTexts, IsMemory, IsResultMessage};
 ghost use Rattle.uses.specs.Building.{glucose_record, glucose_test, result_records};
 
-use lis_message::{Message, MessageFault, Records, Texts, TextsFault, message_texts};
+use lis_message::{Message, MessageFault, Records};
+use lis_message_texts::{Texts, TextsFault, message_texts};
 use lis_record_values::{Component, Delimiters, Field, Kind, Record, Repeat};
 use lis_tree::laws::whole_lists;
 use std::alloc::{AllocError, Global};

@@ -1,12 +1,12 @@
 //! Reading results out of a stream of records.
 
-ghost use Rattle.std.specs.Prelude.{◌≡◌, [], IfErr, IfOk, List, None, ℕ, length};
+ghost use Rattle.std.specs.Prelude.{◌≡◌, [], IfErr, IfOk, List, None, length};
 ghost use Rattle.std.specs.List.{AllZip, flat_map};
 ghost use Rattle.lis_record_values.specs.Shape.{field_at};
 ghost use Rattle.lis_message.specs.Stream.{IsSplit};
 ghost use Rattle.lis_tree.specs.Results.{results_of};
 ghost use Rattle.lis_tree.specs.Tree.{MessageTree};
-ghost use Rattle.lis_text.specs.Capped.{capped};
+ghost use Rattle.lis_bytes.specs.Capped.{capped};
 ghost use Rattle.uses.specs.Readings.{IsReading, IsPlainOrEmpty, IsUnread, result_count};
 
 use lis_message::{Message, MessageFault, MessageReader};

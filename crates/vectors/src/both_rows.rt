@@ -3,8 +3,7 @@
 ghost use Rattle.lis_frame.specs.Limit.{IsLimit};
 
 use crate::answer::Answer;
-use crate::link_rows::{FromWord, events_of, put_frames};
-use crate::sender_rows::put_outcome;
+use crate::link_rows::{FromWord, events_of, put_session};
 use crate::words::{Call, link_text_of, texts_of};
 use lis_line::{BothHistoriesOf, LineEvent, SessionOf, StationEvent, play_both_of};
 use std::mem::drop;
@@ -38,18 +37,6 @@ fn put_side<const N: usize>(name: &str, sessions: &[SessionOf<N>], answer: &mut 
     for session in sessions {
         put_session(session, answer);
     }
-}
-
-/// Puts what became of a session.
-fn put_session<const N: usize>(session: &SessionOf<N>, answer: &mut Answer)
-    requires { IsLimit N }
-{
-    answer.texts(" session texts=", session.texts());
-    put_frames(" sent=", session.sent(), answer);
-    put_frames(" accepted=", session.accepted(), answer);
-    answer.number(" acknowledged=", session.acknowledged());
-    answer.texts(" handed=", session.handed());
-    put_outcome(session.outcome(), answer);
 }
 
 impl FromWord for LineEvent {

@@ -111,7 +111,7 @@ fn put_history<const N: usize>(history: &[SessionOf<N>], answer: &mut Answer)
 }
 
 /// Puts what became of a session.
-fn put_session<const N: usize>(session: &SessionOf<N>, answer: &mut Answer)
+pub(crate) fn put_session<const N: usize>(session: &SessionOf<N>, answer: &mut Answer)
     requires { IsLimit N }
 {
     answer.texts(" session texts=", session.texts());
@@ -123,7 +123,7 @@ fn put_session<const N: usize>(session: &SessionOf<N>, answer: &mut Answer)
 }
 
 /// Puts frames, `none` where there are none.
-pub(crate) fn put_frames<const N: usize>(name: &str, frames: &FramesOf<N>, answer: &mut Answer)
+fn put_frames<const N: usize>(name: &str, frames: &FramesOf<N>, answer: &mut Answer)
     requires { IsLimit N }
 {
     answer.text(name);

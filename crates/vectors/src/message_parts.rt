@@ -7,8 +7,9 @@ use crate::record_rows::put_record_fault;
 use crate::writing_rows::{put_write_fault, put_wrote};
 use lis_message::{
     Group, Message, MessageFault, MessageWriteFault, Order, Patient, Reason, Record, Records,
-    TextsFault, message_texts, write_message,
+    write_message,
 };
+use lis_message_texts::{TextsFault, message_texts};
 use lis_port::Slow;
 use lis_tree::{Finding, Findings, findings};
 use std::alloc::AllocError;

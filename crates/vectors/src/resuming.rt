@@ -1,16 +1,14 @@
 //! Writing a message on after sinks that failed.
 
-ghost use Rattle.std.specs.Prelude.{◌≡◌, ◌≤◌, ◌-◌, length, drop, IfErr};
+ghost use Rattle.std.specs.Prelude.{◌≤◌, ◌-◌, length, drop, IfErr};
 ghost use Rattle.lis_message.specs.Writing.{CanResume, first_length};
 ghost use Rattle.lis_tree.specs.Tree.{flatten};
 
 use crate::answer::{Answer, Trouble};
 use crate::message_parts::put_message_wrote;
 use crate::narrow::{Narrow, WIDE};
-use lis_message::{
-    Message, MessageWriteFault, Texts, TextsFault, WriteFault, message_texts, write_message,
-    write_message_from,
-};
+use lis_message::{Message, MessageWriteFault, WriteFault, write_message, write_message_from};
+use lis_message_texts::{Texts, TextsFault, message_texts};
 use lis_port::Slow;
 use std::mem::drop;
 

@@ -1,8 +1,8 @@
 -- How a run ends whose command takes no more input.
-use Rattle.std.specs.Prelude.{◌≡◌, ℕ, Bool, true, List, Ok, Err}
+use Rattle.std.specs.Prelude.{◌≡◌, ℕ, Bool, List, Err}
 use Rattle.std.specs.declared.result.Result.{Result}
 use Rattle.lis_engine.specs.declared.fault.ToolFault.{ToolFault}
-use Rattle.lis_engine.specs.declared.fault.ToolFault.TheVariants.{CaptureLine, Read, Write, OutOfMemory, TooManyReads}
+use Rattle.lis_engine.specs.declared.fault.ToolFault.TheVariants.{Write}
 use Rattle.lis_engine.specs.declared.report.Report.{Report}
 use Rattle.lis_engine.specs.Outcome.{Outcome}
 use Rattle.lis_engine.specs.Output.{IsWorking, Out}
@@ -10,8 +10,8 @@ use Rattle.lis_engine.specs.Steps.{Ends}
 use Rattle.lis_engine.specs.inside.Output.{SentOn, Unsent}
 
 -- the sink had failed; or what waited was sent on; or it could not be
-pub data IsHalted {F : Type 0} (ended : Result (Report F) ToolFault) (old new : Out) (result : Result (Report F) ToolFault)
-    : Type 0 where
+pub data IsHalted {F : Type 0} (ended : Result (Report F) ToolFault) (old new : Out)
+    (result : Result (Report F) ToolFault) : Type 0 where
   had_failed : (written : ℕ) → ended ≡ Err (Write written) → result ≡ Err (Write written) → new ≡ old
       → IsHalted ended old new result
   is_sent : IsWorking old → result ≡ ended → SentOn old new → IsHalted ended old new result

@@ -9,7 +9,7 @@ use Rattle.lis_link.specs.declared.receiver.Note.TheVariants.{Opened, Accepted}
 use Rattle.lis_link.specs.Receiver.{ReceiverState, ReceiverStep}
 use Rattle.lis_link.specs.Representation.{IsIn}
 use Rattle.lis_world.specs.Unit.{Load, enquiry, ending, one_frame}
-use Rattle.lis_world.specs.Session.{Session, new_session, changed, sends_frame}
+use Rattle.lis_world.specs.Session.{Session, new_session, changed}
 use Rattle.lis_world.specs.World.{lowered}
 use Rattle.lis_world.specs.inside.Playing.{follows_with, takes_frame}
 use Rattle.lis_station.specs.Representation.{KeptStation, station_at}
@@ -130,10 +130,6 @@ kept_answered to_drop reply kept = kept
 abbrev pub kept_left : Item → KeptLine → KeptLine
 kept_left (sent unit) kept = record kept { far = record kept.far { to_drop = lowered kept.far.to_drop } }
 kept_left (answered b) kept = kept
-
--- the session with a frame that was put on the line
-unfoldable pub sends : FrameContent → Session → Session
-sends frame x = sends_frame frame x
 
 abbrev pub kept_following : KeptEnd → KeptEnd
 kept_following kept = record kept {

@@ -1,6 +1,6 @@
 -- What a new receiver keeps of the line.
 use Rattle.std.specs.Prelude.{true, false, []}
-use Rattle.lis_link.specs.declared.receiver.Readiness.TheVariants.{Ready}
+use Rattle.lis_text.specs.declared.readiness.Readiness.TheVariants.{Ready}
 use Rattle.lis_link.specs.Kept.{KeptLine}
 
 -- not open, but ready; no frame was counted, and no room is reserved

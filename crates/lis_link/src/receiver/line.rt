@@ -15,9 +15,9 @@ ghost use Rattle.lis_link.specs.inside.Receiver.{found_reply};
 ghost use Rattle.lis_link.specs.Representation.{IsIn, IsStepMade, RefusesFrame, SpareAfter, KeepsRoom};
 ghost use Rattle.lis_link.specs.inside.Representation.{IsTaken, room_in};
 
-use crate::receiver::{MOST_FRAMES, Note, Readiness, Step};
+use crate::receiver::{MOST_FRAMES, Note, Step};
 use lis_frame::{BorrowedFrame, FrameFault, Heard};
-use lis_text::{ACK, ENQ, LONGEST_TEXT, LinkText, List, NAK};
+use lis_text::{ACK, ENQ, LONGEST_TEXT, LinkText, List, NAK, Readiness};
 use std::alloc::{AllocError, Global};
 use std::marker::Model;
 use std::mem;

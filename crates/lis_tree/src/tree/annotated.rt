@@ -1,7 +1,7 @@
 ghost use Rattle.std.specs.Prelude.{◌≡◌, ◌++◌, ◌∷◌, [], IfOk, OnErr, OnOk};
 
 use crate::lists::{Copied, Records, copy_list};
-use lis_record::Record;
+use lis_record_values::Record;
 use std::alloc::{AllocError, Global};
 use std::marker::Model;
 

@@ -5,8 +5,8 @@ ghost use Rattle.lis_tree.specs.inside.Last.{IsLast, with_last};
 
 use super::annotated::Annotated;
 use crate::lists::{Copied, Records, copy_list};
-use lis_record::Record;
-use lis_text::List;
+use lis_bytes::List;
+use lis_record_values::Record;
 use std::alloc::{AllocError, Global};
 use std::marker::Model;
 

@@ -9,7 +9,7 @@ use Rattle.lis_link.specs.Kept.{Kept}
 use Rattle.lis_link.specs.declared.receiver.Note.TheVariants.{Accepted}
 use Rattle.lis_link.specs.Receiver.{ReceiverState, ReceiverStep}
 use Rattle.lis_link.specs.Representation.{IsIn}
-use Rattle.lis_world.specs.Session.{Session, with_more, changed, sends_frame}
+use Rattle.lis_world.specs.Session.{Session, with_more, changed, sends}
 use Rattle.lis_link.specs.declared.sender.Outcome.{Outcome}
 use Rattle.lis_link.specs.declared.sender.Phase.{Phase}
 use Rattle.lis_link.specs.declared.sender.Phase.TheVariants as Phases
@@ -66,10 +66,6 @@ TakesLoad load step = (number : ℕ) → step.note ≡ Accepted number → IsLoa
 -- the session with a frame that was accepted, and the text delivered with it
 abbrev pub takes_frame : FrameContent → Option (List ℕ) → Session → Session
 takes_frame frame message x = record x { accepted = x.accepted ++ frame ∷ []; handed = with_more x.handed message }
-
--- the session with a frame that was put on the link
-unfoldable pub sends : FrameContent → Session → Session
-sends frame x = sends_frame frame x
 
 -- the session with the sender's count and outcome
 abbrev pub follows_with : ℕ → Option Outcome → Session → Session

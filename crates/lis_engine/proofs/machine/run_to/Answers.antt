@@ -1,10 +1,10 @@
-use Rattle.std.proofs.Common.{◌≡◌, ◌+◌, ◌^◌, ◌<◌, ℕ, true, false, [], ◌++◌, Ok, Err, length, ap, ◌∙◌, arith, refl, sym}
+use Rattle.std.proofs.Common.{◌≡◌, ◌+◌, ◌^◌, ◌<◌, ℕ, true, false, ◌++◌, Ok, Err, length, ap, ◌∙◌, arith, refl}
 use Rattle.std.proofs.Common.{length-append, rules}
 use Rattle.lis_engine.specs.declared.fault.ToolFault.TheVariants.{Read}
 use Rattle.lis_engine.specs.Outcome.{going}
 use Rattle.lis_engine.specs.Runs.{Ran}
-use Rattle.lis_engine.proofs.OutputLaws.{nothing_put, put_on}
-use Rattle.lis_engine.proofs.RunLaws.{consumes_none, consumes_kept, failed_not_ended, failed_waited, gave, halted_ran}
+use Rattle.lis_engine.proofs.OutputLaws.{put_on}
+use Rattle.lis_engine.proofs.RunLaws.{consumes_kept, failed_not_ended, failed_waited, gave, halted_ran}
 use Rattle.lis_engine.proofs.RunLaws.{read_end, read_more, settled, step_ends, unsent_ran, wrote_there}
 use Rattle.lis_engine.proofs.machine.run_to.Goals as goal
 

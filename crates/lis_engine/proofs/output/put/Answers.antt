@@ -33,7 +33,8 @@ loop-rest-preserved g c = record {
 pub returns-in-Err-clause-put : goal.returns-in-Err-clause-put
 returns-in-Err-clause-put g c =
     let some : 0 < length c.loop-rest.rest.now = grind (arith, nat_tests, c.loop-rest-test.true, c.is_empty.ensures) in
-    c.loop-rest.invariant.goes_on (g.W.Sink.taken c.write.new.self) c.loop-rest.written (Err (Write c.loop-rest.written))
+    c.loop-rest.invariant.goes_on (g.W.Sink.taken c.write.new.self) c.loop-rest.written
+    (Err (Write c.loop-rest.written))
     (put_failed _ _ c.loop-rest.written c.loop-rest.rest.now c.loop-rest.invariant.fits some c.in-Err.ensures.bytes)
 
 pub returns-clause-put : goal.returns-clause-put

@@ -3,7 +3,7 @@ use Rattle.std.specs.List.{sum}
 use Rattle.lis_frame.specs.FrameBody.{body_fault}
 use Rattle.lis_frame.specs.inside.FrameBody.{body_of}
 use Rattle.lis_text.specs.Text.{is_forbidden, first_forbidden}
-use Rattle.lis_text.proofs.SearchLemmas.{clean-before}
+use Rattle.lis_bytes.proofs.SearchLemmas.{clean-before}
 use Rattle.lis_frame.proofs.FrontLemmas.{front-frame, front_parts, same_place}
 use Rattle.lis_frame.proofs.FrameBodyLemmas.{content_of-body_of, body_fault-parts}
 use Rattle.lis_frame.proofs.read.front_text.Goals as goal

@@ -2,7 +2,7 @@ use Rattle.std.proofs.Common.{◌≡◌, ◌<◌, Some, arith, sym, zero-add}
 use Rattle.std.specs.Int.Count.{count_trailing_zeros}
 use Rattle.std.specs.List.{position_from}
 use Rattle.lis_frame.specs.Stream.{is_mark}
-use Rattle.lis_text.proofs.SearchLemmas.{clean-before, found-chunk, found-within, prefix-found, prefix-none}
+use Rattle.lis_bytes.proofs.SearchLemmas.{clean-before, found-chunk, found-within, prefix-found, prefix-none}
 use Rattle.lis_frame.proofs.scanner.until_mark.Goals as goal
 
 pub returns-then-bits-ne0-clause-length : goal.returns-then-bits-ne0-clause-length

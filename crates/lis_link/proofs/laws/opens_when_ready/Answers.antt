@@ -2,8 +2,8 @@ use Rattle.std.proofs.Common.{◌≡◌, ◌∷◌, ℕ, Bool, true, false, Some
 use Rattle.lis_text.specs.Control.{ACK}
 use Rattle.lis_frame.specs.declared.scanner.SignalOf.TheVariants.{Enq}
 use Rattle.lis_frame.specs.Stream.{signal_after}
-use Rattle.lis_link.specs.declared.receiver.Readiness.{Readiness}
-use Rattle.lis_link.specs.declared.receiver.Readiness.TheVariants.{Ready}
+use Rattle.lis_text.specs.declared.readiness.Readiness.{Readiness}
+use Rattle.lis_text.specs.declared.readiness.Readiness.TheVariants.{Ready}
 use Rattle.lis_link.specs.Receiver.{ReceiverState, heard_by}
 use Rattle.lis_link.proofs.laws.opens_when_ready.Goals as goal
 

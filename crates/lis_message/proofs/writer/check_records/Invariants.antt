@@ -1,5 +1,5 @@
 use Rattle.std.proofs.Common.{◌≡◌, ℕ, length}
-use Rattle.lis_text.specs.Capped.{capped}
+use Rattle.lis_bytes.specs.Capped.{capped}
 use Rattle.lis_message.specs.Writing.{refusal_from}
 use Rattle.lis_message.proofs.writer.check_records.Given as goal
 

@@ -1,5 +1,5 @@
 use Rattle.std.proofs.Common.{◌≡◌, ◌∷◌, ◌+◌, ◌≤◌, Err, sym, subst, arith}
-use Rattle.lis_text.specs.Capped.{capped}
+use Rattle.lis_bytes.specs.Capped.{capped}
 use Rattle.lis_message.specs.Writing.{AreWritable, WroteRecords, first_length}
 use Rattle.lis_message.proofs.WritingLaws.{wrote_step, wrote_stop}
 use Rattle.lis_message.proofs.writer.write_records.Goals as goal

@@ -1,6 +1,6 @@
 -- Where memory lacks for a place, the records before it are read (starved_whole).
 use Rattle.std.proofs.Common.{◌+◌, ℕ, ◌∙◌, ap, refl}
-use Rattle.lis_text.specs.Capped.{capped}
+use Rattle.lis_bytes.specs.Capped.{capped}
 use Rattle.lis_message_table.proofs.ReadingLaws.{starved_whole}
 use Rattle.lis_message_table.proofs.reading.take_all.Goals as goal
 

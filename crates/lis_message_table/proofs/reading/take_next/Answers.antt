@@ -1,6 +1,6 @@
 -- A record more leads on (reads_on) or closes the message (reads_all); else the text has its fault (stops_text).
 use Rattle.std.proofs.Common.{◌++◌, ◌∷◌, ◌+◌, ◌-◌, ℕ, [], ◌∙◌, ap, length, refl, subst, sym}
-use Rattle.lis_text.specs.Capped.{capped}
+use Rattle.lis_bytes.specs.Capped.{capped}
 use Rattle.lis_message.specs.Kept.{RecordsState}
 use Rattle.lis_message.specs.Records.{HasLeft}
 use Rattle.lis_message_table.proofs.ReadingLaws.{count_so_far, reads_all, reads_on, stops_text}

@@ -1,6 +1,6 @@
 use Rattle.std.proofs.Common.{ℕ, Option, ap, arith, length, sym, unwrap_or}
 use Rattle.lis_record_read.proofs.FieldTexts.{part_following-mark}
-use Rattle.lis_record.proofs.Marks.{marks-following, marks-found, marks-inside}
+use Rattle.lis_bytes.proofs.MarkLemmas.{marks-following, marks-found, marks-inside}
 use Rattle.lis_record_read.proofs.Places.{parts_of-first}
 use Rattle.std.specs.Int.Count.{count_trailing_zeros}
 use Rattle.lis_record.proofs.known_parts.first_marked.Goals as goal

@@ -1,5 +1,5 @@
 use Rattle.std.proofs.Common.{ℕ, None, Some, not, sym, ◌∙◌, arith}
-use Rattle.lis_text.proofs.SearchLemmas.{passes, found-chunk, position-following}
+use Rattle.lis_bytes.proofs.SearchLemmas.{passes, found-chunk, position-following}
 use Rattle.lis_record_values.specs.Text.{is_text_byte}
 use Rattle.lis_record_read.proofs.BadBytes.{found_bound}
 use Rattle.lis_record_read.proofs.search.first_bad.Goals as goal

@@ -1,5 +1,5 @@
 use Rattle.std.proofs.Common.{length, not}
-use Rattle.lis_text.specs.inside.Search.{Passed}
+use Rattle.lis_bytes.specs.inside.Search.{Passed}
 use Rattle.lis_record_values.specs.Text.{is_text_byte}
 use Rattle.lis_record_read.proofs.search.first_bad.Given as goal
 

@@ -1,6 +1,6 @@
 use Rattle.std.proofs.Common.{sym, ◌∙◌, ap}
 use Rattle.lis_tree.specs.Numbers.{expected_number, is_number, is_numbered}
-use Rattle.lis_text.specs.Capped.{capped}
+use Rattle.lis_bytes.specs.Capped.{capped}
 use Rattle.lis_tree.proofs.Counting.{finding_right, finding_wrong, numbered_other, same_finding}
 use Rattle.lis_tree.proofs.numbering.finding_on.Goals as goal
 

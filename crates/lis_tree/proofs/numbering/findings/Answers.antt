@@ -2,7 +2,7 @@ use Rattle.std.proofs.Common.{◌≡◌, ◌∷◌, ◌+◌, subst, sym, arith}
 use Rattle.lis_record_values.specs.declared.kinds.Kind.{Kind}
 use Rattle.lis_tree.specs.Findings.{findings_of}
 use Rattle.lis_tree.specs.Numbers.{CountsOf}
-use Rattle.lis_text.specs.Capped.{capped}
+use Rattle.lis_bytes.specs.Capped.{capped}
 use Rattle.lis_tree.proofs.Counting.{findings_step}
 use Rattle.lis_tree.proofs.numbering.findings.Goals as goal
 

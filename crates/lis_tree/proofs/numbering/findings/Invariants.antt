@@ -2,7 +2,7 @@ use Rattle.std.proofs.Common.{◌≡◌, ℕ, ◌++◌, List, length}
 use Rattle.lis_record_values.specs.declared.kinds.Kind.{Kind}
 use Rattle.lis_tree.specs.Findings.{findings_from, findings_of}
 use Rattle.lis_tree.specs.Numbers.{CountsOf}
-use Rattle.lis_text.specs.Capped.{capped}
+use Rattle.lis_bytes.specs.Capped.{capped}
 use Rattle.lis_tree.proofs.numbering.findings.Given as goal
 
 -- the findings so far, and those on what is left

@@ -1,8 +1,8 @@
 use Rattle.std.proofs.Common.{◌≡◌, append-nil, take_all, ◌+◌, [], ◌++◌, inl, inr, take, drop, flat_map, refl}
 use Rattle.std.proofs.Common.{sym, ◌∙◌, arith}
-use Rattle.lis_text.specs.Capped.{capped}
+use Rattle.lis_bytes.specs.Capped.{capped}
 use Rattle.uses.specs.Readings.{result_count}
-use Rattle.uses.proofs.ReadingLaws.{ends_well, counts_next, result_count-append, stream_next, stream_rest, nothing_read}
+use Rattle.uses.proofs.ReadingLaws.{counts_next, result_count-append, stream_next, stream_rest, nothing_read}
 use Rattle.uses.proofs.results.count_results.Goals as goal
 
 pub loop-piece-init : goal.loop-piece-init

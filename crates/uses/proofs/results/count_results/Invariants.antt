@@ -2,7 +2,7 @@ use Rattle.std.proofs.Common.{◌≡◌, ◌+◌, List, None, take}
 use Rattle.std.specs.List.{flat_map}
 use Rattle.lis_message.specs.Stream.{IsSplit}
 use Rattle.lis_tree.specs.Tree.{MessageTree}
-use Rattle.lis_text.specs.Capped.{capped}
+use Rattle.lis_bytes.specs.Capped.{capped}
 use Rattle.uses.specs.Readings.{result_count}
 use Rattle.uses.proofs.results.count_results.Given as goal
 

@@ -1,6 +1,6 @@
 use Rattle.std.proofs.Common.{◌≡◌, ◌+◌, length}
 use Rattle.lis_tree.specs.Results.{results_left, results_of}
-use Rattle.lis_text.specs.Capped.{capped}
+use Rattle.lis_bytes.specs.Capped.{capped}
 use Rattle.uses.proofs.results.results_in.Given as goal
 
 -- those that were gone over, and those that are left

@@ -1,4 +1,4 @@
-use Rattle.std.proofs.Common.{rules, List, ℕ, take, subst, Err, ◌∙◌, refl}
+use Rattle.std.proofs.Common.{rules, List, ℕ, take, subst, Err}
 use Rattle.hex.specs.Hex.{encode_lower}
 use Rattle.lis_engine.proofs.EncodeLemmas.{encode_lower-parts}
 use Rattle.lis_engine.specs.Output.{Broke, IsPut}

@@ -1,4 +1,4 @@
-use Rattle.lis_text.proofs.SearchLemmas.{all_found}
+use Rattle.lis_bytes.proofs.SearchLemmas.{all_found}
 use Rattle.lis_record_read.proofs.search.BadBytesByteSet.lacks.Goals as goal
 
 pub returns-clause-seen : goal.returns-clause-seen

@@ -2,7 +2,7 @@ use Rattle.std.proofs.Common.{[], refl, length, ◌≡◌, arith, ap, ◌∙◌,
 use Rattle.std.proofs.lemmas.Bool.Decides.{nat_tests}
 use Rattle.lis_engine.specs.Output.{Out}
 use Rattle.lis_engine.proofs.OutputLaws.{waits_on}
-use Rattle.lis_link.proofs.HearingLaws.{stream_with-append}
+use Rattle.lis_frame.proofs.StreamLaws.{stream_with-append}
 use Rattle.lis_run.proofs.LineLaws.{at_end_of, at_start, found_on, kept, line_on, line_rejected, line_stops, nothing_on}
 use Rattle.lis_run.proofs.lines.LinesMachineRefused.feed.Goals as goal
 

@@ -4,7 +4,7 @@ use Rattle.lis_engine.specs.Outcome.{going}
 use Rattle.lis_run.specs.Show.{show, signal_lines}
 use Rattle.lis_run.proofs.ShowLaws.{shown_more}
 use Rattle.lis_run.proofs.StepLaws.{broke_stops}
-use Rattle.lis_link.proofs.HearingLaws.{stream_with-append}
+use Rattle.lis_frame.proofs.StreamLaws.{stream_with-append}
 use Rattle.lis_run.proofs.show.ShowMachineRefused.feed.Goals as goal
 
 pub returns-in-Ok-clause-steps : goal.returns-in-Ok-clause-steps

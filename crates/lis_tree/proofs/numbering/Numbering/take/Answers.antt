@@ -2,7 +2,7 @@ use Rattle.std.proofs.Common.{◌≡◌, ℕ, ◌+◌, ◌++◌, ◌∷◌, [], 
 use Rattle.lis_record_values.specs.declared.kinds.Kind.{Kind}
 use Rattle.lis_tree.specs.Findings.{findings_from, kinds_back}
 use Rattle.lis_tree.specs.Numbers.{CountsOf}
-use Rattle.lis_text.specs.Capped.{capped}
+use Rattle.lis_bytes.specs.Capped.{capped}
 use Rattle.lis_tree.proofs.Counting.{findings-more, kinds_back-more}
 use Rattle.lis_tree.proofs.numbering.Numbering.take.Goals as goal
 

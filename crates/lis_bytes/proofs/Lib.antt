@@ -1,0 +1,6 @@
+pub mod ListLemmas
+pub mod SearchLemmas
+pub mod OverLemmas
+pub mod SumLemmas
+pub mod LastBits
+pub mod MarkLemmas

@@ -1,0 +1,9 @@
+use Rattle.std.proofs.Common.{length}
+use Rattle.lis_bytes.specs.inside.Search.{Passed}
+use Rattle.lis_bytes.proofs.search.first_in.Given as goal
+
+abbrev pub invariant-loop-rest : goal.invariant-loop-rest
+invariant-loop-rest g l = Passed g.S.ByteSet.member l.place l.rest l.bytes
+
+abbrev pub decreases-loop-rest : goal.decreases-loop-rest
+decreases-loop-rest g l = length l.rest

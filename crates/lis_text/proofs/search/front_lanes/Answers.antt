@@ -1,5 +1,0 @@
-use Rattle.lis_text.proofs.SumLemmas.{front-selected}
-use Rattle.lis_text.proofs.search.front_lanes.Goals as goal
-
-pub returns-clause-sum : goal.returns-clause-sum
-returns-clause-sum c = front-selected c.args.count c.args.sixteen c.fits-sixteen.0
