@@ -102,6 +102,8 @@ class Book:
     def __init__(self, root=ROOT):
         self.root, self.definitions, self.imports, self.constructors = root, {}, {}, {}
         self.local, self.laws = {}, laws_of_traits(root)
+        #: The names that a file takes from a module of the crates that has no such definition.
+        self.misnamed = set()
         for path in sorted(glob.glob(f"{root}/crates/*/specs/**/*.antt", recursive=True)):
             self.read_specs(path)
 
@@ -154,7 +156,8 @@ class Book:
             crate, inner = OF_CODE.split(module)
             yield "type", crate, re.sub(r"\.TheVariants$", "", inner)
         elif module.split(".")[0] in self.crates():
-            return
+            if ".specs" in module and name:
+                self.misnamed.add((module, name))
         else:
             yield "kit", module, name
 

@@ -134,4 +134,9 @@ fn a_line_that_is_closed_may_be_asked_for_again(rt: HostRuntime) {
     station.close_line();
     assert_hears(&rt, &mut station, FRAME, None);
     assert_replies(&rt, &mut station, ENQ, Some(ACK));
+    station.set_ready(false);
+    station.close_line();
+    assert_replies(&rt, &mut station, ENQ, Some(NAK));
+    station.restart();
+    assert_replies(&rt, &mut station, ENQ, Some(ACK));
 }

@@ -4,3 +4,4 @@ pub mod OverLemmas
 pub mod SumLemmas
 pub mod LastBits
 pub mod MarkLemmas
+pub mod PassedLemmas

@@ -112,16 +112,17 @@ marks-next mark byte bits text following is m =
 
 -- those of the first bytes, by two windows
 module _ (mark lanes count : ℕ) (text : List ℕ) where
-  pub marks-windows : (first window : ℕ) → count ≤ lanes → lanes ≤ 32 → lanes + count ≤ length text
+  pub marks-windows : (first window bits : ℕ) → count ≤ lanes → lanes ≤ 32 → lanes + count ≤ length text
       → first ≡ mask_l (map (λ b. b == mark) (take lanes text))
       → window ≡ mask_l (map (λ b. b == mark) (take lanes (drop count text)))
-      → AreMarks mark text (first + 2 ^ lanes * (window / 2 ^ (lanes - count)))
-  marks-windows first window few most room first_is window_is = record {
+      → bits ≡ first + 2 ^ lanes * (window / 2 ^ (lanes - count)) → AreMarks mark text bits
+  marks-windows first window bits few most room first_is window_is is = record {
     count = lanes + count;
     few = omega arith;
     within = room;
     are =
-        rw (first_is, window_is, window-bits (λ b. b == mark) lanes count text few)
+        is
+        ∙ rw (first_is, window_is, window-bits (λ b. b == mark) lanes count text few)
         (front-bits (λ b. b == mark) lanes count text few room);
   }
 

@@ -1,13 +1,14 @@
 -- Sixty-four bytes that are over a limit, by the least of each four that are sixteen apart.
-use Rattle.std.proofs.Common.{◌≡◌, ℕ, zero, suc, ◌+◌, ◌*◌, ◌%◌, ◌^◌, ◌≤◌, ◌<◌, Bool, true, false, cond, leb, ltb}
+use Rattle.std.proofs.Common.{◌≡◌, ℕ, zero, suc, ◌+◌, ◌*◌, ◌%◌, ◌^◌, ◌≤◌, Bool, true, false, cond, leb, ltb}
 use Rattle.std.proofs.Common.{List, [], ◌∷◌, ◌++◌, length, map, take, drop, replicate, length-take, length-drop}
-use Rattle.std.proofs.Common.{refl, ap, sym, ◌∙◌, arith}
+use Rattle.std.proofs.Common.{refl, ap, ◌∙◌, ◌↔◌, arith}
 use Rattle.std.proofs.Math.Seq.{take-add}
 use Rattle.std.proofs.lemmas.List.{drop-drop}
 use Rattle.std.specs.Simd.Lanes.{mask_l, sel_l, top, zip2}
 use mir.Syntax.{w8}
 use Rattle.std.proofs.lemmas.Simd.{bitmask_splat}
 use Rattle.std.proofs.lemmas.Bool.Decides.{nat_tests}
+use Rattle.lis_bytes.specs.inside.Search.{AreOver}
 
 -- the lesser of two vectors
 abbrev pub lesser : List ℕ → List ℕ → List ℕ
@@ -118,44 +119,36 @@ four_parts bytes =
     (ap (take 32) (drop-drop 16 16 bytes) ∙ take-add 16 16 (drop 32 bytes)
     ∙ ap (λ (l : List ℕ). take 16 (drop 32 bytes) ++ take 16 l) (drop-drop 16 32 bytes)))
 
--- the places up to the limit among the least of each four, as the vectors give them
-abbrev four_low : ℕ → List ℕ → List ℕ → List ℕ → List ℕ → ℕ
-four_low limit bytes second third fourth =
-    mask_l (map (top 7) (zip2 {C = ℕ} (λ a b. cond (leb a b) 255 0)
-    (lesser (lesser (take 16 bytes) (take 16 second)) (lesser (take 16 third) (take 16 fourth))) (replicate 16 limit)))
-    % 2 ^ 64
+-- the lesser is over the limit if both are
+pub both_low : (limit : ℕ) (xs ys : List ℕ) → length xs ≡ 16 → length ys ≡ 16
+    → AreOver limit (lesser xs ys) ↔ (AreOver limit xs × AreOver limit ys)
+both_low limit xs ys one two =
+    (none_low limit 16 xs ys one two, λ both. lesser_low limit 16 xs ys one two both.0 both.1)
 
-pub four_over :
-    (limit : ℕ) (bytes second third fourth : List ℕ) → limit < 256 → 64 ≤ length bytes → second ≡ drop 16 bytes
-    → third ≡ drop 16 second → fourth ≡ drop 16 third
-    → (four_low limit bytes second third fourth ≡ 0 → low limit (take 64 bytes) ≡ 0)
-    × (low limit (take 64 bytes) ≡ 0 → four_low limit bytes second third fourth ≡ 0)
-four_over limit bytes second third fourth fits many is_second is_third is_fourth =
-    let at = parts_are bytes second third fourth is_second is_third is_fourth in
-    let a = part_long 0 bytes bytes refl (omega arith) in
-    let b = part_long 16 bytes second is_second (omega arith) in
-    let c = part_long 32 bytes third at.0 (omega arith) in
-    let d = part_long 48 bytes fourth at.1 (omega arith) in
-    let front = lesser (take 16 bytes) (take 16 second) in
-    let back = lesser (take 16 third) (take 16 fourth) in
-    let front_long = length-lesser 16 (take 16 bytes) (take 16 second) a b in
-    let back_long = length-lesser 16 (take 16 third) (take 16 fourth) c d in
-    let all_long = length-lesser 16 front back front_long back_long in
-    let as_bits = bitmask_splat w8 leb (lesser front back) 16 limit all_long (omega arith) in (
-      λ none.
-          let halves = none_low limit 16 front back front_long back_long (sym as_bits ∙ none) in
-          let first = none_low limit 16 (take 16 bytes) (take 16 second) a b halves.0 in
-          let last = none_low limit 16 (take 16 third) (take 16 fourth) c d halves.1 in
-          rw (four_parts bytes, ← is_second, ← at.0, ← at.1)
-          (none_joined limit _ _ first.0 (none_joined limit _ _ first.1 (none_joined limit _ _ last.0 last.1))),
+pub lesser_long : (xs ys : List ℕ) → length xs ≡ 16 → length ys ≡ 16 → length (lesser xs ys) ≡ 16
+lesser_long xs ys one two = length-lesser 16 xs ys one two
+
+-- sixty-four bytes are, if each sixteen are
+pub four_over : (limit : ℕ) (bytes second third fourth : List ℕ) → second ≡ drop 16 bytes → third ≡ drop 16 second
+    → fourth ≡ drop 16 third
+    → AreOver limit (take 64 bytes) ↔ ((AreOver limit (take 16 bytes) × AreOver limit (take 16 second))
+    × (AreOver limit (take 16 third) × AreOver limit (take 16 fourth)))
+four_over limit bytes second third fourth is_second is_third is_fourth =
+    let at = parts_are bytes second third fourth is_second is_third is_fourth in (
       λ none.
           let parts : low limit (take 16 bytes ++ (take 16 second ++ (take 16 third ++ take 16 fourth))) ≡ 0 =
           rw (is_second, at.0, at.1, ← four_parts bytes) none in
           let ones = none_parted limit (take 16 bytes) _ parts in
           let twos = none_parted limit (take 16 second) _ ones.1 in
           let last = none_parted limit (take 16 third) _ twos.1 in
-          as_bits
-          ∙ lesser_low limit 16 front back front_long back_long
-          (lesser_low limit 16 (take 16 bytes) (take 16 second) a b ones.0 twos.0)
-          (lesser_low limit 16 (take 16 third) (take 16 fourth) c d last.0 last.1),
+          ((ones.0, twos.0), (last.0, last.1)),
+      λ all.
+          rw (four_parts bytes, ← is_second, ← at.0, ← at.1)
+          (none_joined limit _ _ all.0.0 (none_joined limit _ _ all.0.1 (none_joined limit _ _ all.1.0 all.1.1))),
     )
+
+-- as the comparison of a vector's lanes says it
+pub over_bits : (limit : ℕ) (lanes : List ℕ) → length lanes ≡ 16
+    → mask_l (map (top 7) (zip2 {C = ℕ} (λ a b. cond (leb a b) 255 0) lanes (replicate 16 limit))) % 2 ^ 64
+    ≡ low limit lanes
+over_bits limit lanes long = bitmask_splat w8 leb lanes 16 limit long (omega arith)

@@ -102,7 +102,9 @@ impl<T: PartialEq> PartialEq for List<T> {
 
     ghost laws = { lists_per T.laws };
 
-    fn eq(&self, other: &Self) -> bool {
+    fn eq(&self, other: &Self) -> bool
+        ensures { result ≡ pointwise T.eq self.now other.now }
+    {
         self.as_slice() == other.as_slice()
     }
 }

@@ -73,6 +73,7 @@ fn last_bits(text: &[u8], count: usize, mark: u8) -> u64
 
 /// The place of the first byte that is this one.
 #[inline(always)]
+#[tactic(auto, using(crate::proofs::PassedLemmas::passed_on, crate::proofs::PassedLemmas::found_on, crate::proofs::PassedLemmas::none_last, crate::proofs::PassedLemmas::some_last, crate::proofs::PassedLemmas::place_from))]
 pub fn place_of(text: &[u8], mark: u8) -> Option<usize>
     ensures { result ≡ position (λ b. b == mark) text.now }
 {
@@ -107,6 +108,7 @@ fn place_by_one(text: &[u8], mark: u8) -> Option<usize>
 
 /// How many bytes are this one.
 #[inline(always)]
+#[tactic(auto, using(crate::proofs::PassedLemmas::counted_none, crate::proofs::PassedLemmas::counted_on))]
 pub fn count_of(text: &[u8], mark: u8) -> usize
     ensures count { result ≡ count_by (λ b. b == mark) text.now }
     ensures bound { result ≤ length text.now }

@@ -5,7 +5,7 @@ ghost use Rattle.std.specs.Prelude.{true};
 ghost use Rattle.std.specs.List.{position_from, sum};
 ghost use Rattle.std.specs.Option.{unwrap_or};
 ghost use Rattle.std.specs.Simd.Lanes.{mask_l, sum_l};
-ghost use Rattle.lis_bytes.specs.inside.Search.{Passed, Summed};
+ghost use Rattle.lis_bytes.specs.inside.Search.{AreOver, Passed, Summed};
 
 use std::simd::prelude::*;
 
@@ -43,10 +43,19 @@ pub fn are_over(bytes: &[u8], limit: u8) -> bool
     let (_, second) = bytes.split_at(16);
     let (_, third) = second.split_at(16);
     let (_, fourth) = third.split_at(16);
-    let front = u8x16::from_slice(bytes).simd_min(u8x16::from_slice(second));
-    let back = u8x16::from_slice(third).simd_min(u8x16::from_slice(fourth));
-    let least = front.simd_min(back);
+    let front = lesser(u8x16::from_slice(bytes), u8x16::from_slice(second));
+    let back = lesser(u8x16::from_slice(third), u8x16::from_slice(fourth));
+    let least = lesser(front, back);
     least.simd_le(u8x16::splat(limit)).to_bitmask() == 0
+}
+
+/// The lesser of two bytes, in each of sixteen lanes. All are over a limit if both are in each lane.
+#[inline(always)]
+fn lesser(one: u8x16, other: u8x16) -> u8x16
+    ensures over { (limit : ℕ) → AreOver limit result ↔ (AreOver limit one × AreOver limit other) }
+    ensures lanes { length result ≡ 16 }
+{
+    one.simd_min(other)
 }
 
 /// How many bytes at the front hold none of the set, sixty-four at a time, as far as that is seen at once.
@@ -65,6 +74,7 @@ fn lacking<S: ByteSet>(bytes: &[u8]) -> usize
 }
 
 /// The place of the first byte that is in the set, from 0.
+#[tactic(auto, using(crate::proofs::PassedLemmas::passed_on, crate::proofs::PassedLemmas::found_on, crate::proofs::PassedLemmas::none_left, crate::proofs::PassedLemmas::some_left))]
 pub fn first_in<S: ByteSet>(bytes: &[u8]) -> Option<usize>
     ensures { result ≡ position_from S.member 0 bytes.now }
 {
@@ -128,6 +138,7 @@ fn sum_of_four(bytes: &[u8]) -> u8x16
 
 /// The place of the first byte that is in the set, from 0, and the sum modulo 256 of the bytes before it; where none
 /// is, that of all. Both come of one pass over the bytes.
+#[tactic(auto, using(crate::proofs::PassedLemmas::found_on, crate::proofs::PassedLemmas::none_left, crate::proofs::PassedLemmas::some_left))]
 pub fn first_and_sum<S: ByteSet>(bytes: &[u8]) -> (Option<usize>, u8)
     ensures first { result.0 ≡ position_from S.member 0 bytes.now }
     ensures sum { result.1 ≡ sum (take (unwrap_or result.0 (length bytes.now)) bytes.now) % 256 }

@@ -112,6 +112,11 @@ AddStatus status texts =
     ((status ≡ FULL) × (most_texts ≤ texts))
     ⊎ ((texts < most_texts) × ((status ≡ OK) ⊎ (status ≡ OUT_OF_MEMORY)))
 
+-- the same of a text of so many bytes for the link, which may be longer than a text is
+abbrev pub AddTextStatus : ℕ → ℕ → ℕ → Type 0
+AddTextStatus status texts size =
+    ((status ≡ TOO_LONG) × (longest_text < size)) ⊎ ((size ≤ longest_text) × AddStatus status texts)
+
 -- room for so many bytes: it is more than a text has, or it was made, or memory ran out
 abbrev pub ReserveStatus : ℕ → ℕ → Type 0
 ReserveStatus status bytes =

@@ -1,6 +1,7 @@
 //! Texts that stay with a caller in C, and what holds those of a session.
 
-ghost use Rattle.std.specs.Prelude.{◌≡◌, ◌≤◌, length};
+ghost use Rattle.std.specs.Prelude.{◌≡◌, ◌≤◌, length, slice_get};
+ghost use Rattle.std.specs.Option.{option_copied};
 ghost use Rattle.lis_c.specs.Borrowed.{borrowed_bytes};
 ghost use Rattle.lis_c.specs.Borrowed.{session_texts};
 
@@ -46,11 +47,16 @@ impl CallerTexts {
 impl SessionTexts for CallerTexts {
     ghost texts = { λ t. t };
 
-    fn count(&self) -> usize {
+    fn count(&self) -> usize
+        ensures value { result ≡ length self.now }
+        ensures bound { result ≤ 65536 }
+    {
         self.texts.len()
     }
 
-    fn text(&self, place: usize) -> Option<&[u8]> {
+    fn text(&self, place: usize) -> Option<&[u8]>
+        ensures { option_copied result ≡ slice_get self.now place }
+    {
         match self.texts.get(place) {
             None => None,
             Some(text) => Some(text.bytes),
@@ -68,14 +74,19 @@ pub enum OwnOrCallerTexts {
 impl SessionTexts for OwnOrCallerTexts {
     ghost texts = { session_texts };
 
-    fn count(&self) -> usize {
+    fn count(&self) -> usize
+        ensures value { result ≡ length (session_texts self.now) }
+        ensures bound { result ≤ 65536 }
+    {
         match self {
             OwnOrCallerTexts::Copied(texts) => texts.count(),
             OwnOrCallerTexts::Borrowed(texts) => texts.count(),
         }
     }
 
-    fn text(&self, place: usize) -> Option<&[u8]> {
+    fn text(&self, place: usize) -> Option<&[u8]>
+        ensures { option_copied result ≡ slice_get (session_texts self.now) place }
+    {
         match self {
             OwnOrCallerTexts::Copied(texts) => texts.text(place),
             OwnOrCallerTexts::Borrowed(texts) => texts.text(place),

@@ -2,7 +2,7 @@
 
 ghost use Rattle.std.specs.Prelude.{◌≡◌, ◌≢◌, ◌≤◌, ◌++◌, ◌∷◌, [], length, None, Some, MatchResult, take};
 ghost use Rattle.lis_c.specs.Codes.{note_code, note_detail, note_place};
-ghost use Rattle.lis_c.specs.Status.{AddStatus, OK};
+ghost use Rattle.lis_c.specs.Status.{AddTextStatus, OK};
 ghost use Rattle.lis_c.specs.Steps.{IsNotOutOfMemory, IsOutOfMemory, MakesStep, ReportsRefusedFrame};
 ghost use Rattle.lis_c.specs.inside.Steps.{ReportsStep};
 ghost use Rattle.lis_c.specs.Limits.{NewReceiver, NewScanner, Receives, receiver_limit, sender_limit, sender_state};
@@ -21,7 +21,7 @@ use crate::sending::AnySender;
 use crate::status;
 use lis_link::{Hearing, Note, StartFault, StartRefusedOf, Step};
 use lis_message::RecordReader;
-use lis_text::{LinkText, List, MOST_TEXTS, Texts};
+use lis_text::{LONGEST_TEXT, LinkText, List, MOST_TEXTS, Texts};
 use std::alloc::Global;
 use std::mem;
 
@@ -100,7 +100,7 @@ impl SenderHandleState {
         ensures added { result ≡ OK →
             self.new ≡ record self.old { texts = self.old.texts ++ bytes.now ∷ [] } }
         ensures refused { result ≢ OK → self.new ≡ self.old }
-        ensures status { AddStatus result (length self.old.texts) }
+        ensures status { AddTextStatus result (length self.old.texts) (length bytes.now) }
     {
         add_text(&mut self.texts, self.alloc, bytes)
     }
@@ -243,8 +243,11 @@ impl ReceiverHandleState {
 pub(crate) fn add_text(texts: &mut Texts, alloc: Global, bytes: &[u8]) -> u8
     ensures added { result ≡ OK → texts.new ≡ texts.old ++ bytes.now ∷ [] }
     ensures refused { result ≢ OK → texts.new ≡ texts.old }
-    ensures status { AddStatus result (length texts.old) }
+    ensures status { AddTextStatus result (length texts.old) (length bytes.now) }
 {
+    if bytes.len() > LONGEST_TEXT {
+        return status::TOO_LONG;
+    }
     if texts.len() >= MOST_TEXTS {
         return status::FULL;
     }

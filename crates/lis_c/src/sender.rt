@@ -8,7 +8,7 @@ ghost use Rattle.lis_link.specs.Duties.{emitted_bytes};
 ghost use Rattle.lis_c.specs.Limits.{sender_limit, sender_limit_status, sender_state, with_state};
 ghost use Rattle.lis_c.specs.Borrowed.{borrowed_bytes, borrowed_status};
 ghost use Rattle.lis_c.specs.New.{IsNewSender, type_align};
-ghost use Rattle.lis_c.specs.Status.{AddStatus, FULL, OK, start_index, start_place, start_status};
+ghost use Rattle.lis_c.specs.Status.{AddTextStatus, FULL, OK, start_index, start_place, start_status};
 ghost use Rattle.lis_c.specs.contracts.handle_state.SenderHandleState.{the_row as handle_state_row};
 ghost use Rattle.lis_link.specs.Sender.{awaited, new_sender, on_reply, on_sender_timer, sender_restarted, start_fault};
 ghost use Rattle.lis_link.specs.Sender.{started};
@@ -83,15 +83,15 @@ pub unsafe extern "C" fn lis_sender_init(alloc: Global, at: *mut u8)
     (at as *mut SenderHandleState).write(SenderHandleState::new(alloc));
 }
 
-/// Puts a copy of a text to the next session: `OK`, `FULL` where there are as many as a session has, or
-/// `OUT_OF_MEMORY`. Where it isn't `OK` nothing has changed. Whether it is a link text is reported by
-/// `lis_sender_start`.
+/// Puts a copy of a text to the next session: `OK`, `TOO_LONG` where no session takes so many bytes, `FULL` where there
+/// are as many as a session has, or `OUT_OF_MEMORY`. Where it isn't `OK` nothing has changed. A byte that no text may
+/// hold is reported by `lis_sender_start`.
 #[unsafe(no_mangle)]
 pub extern "C" fn lis_sender_add_text(s: &mut LisSender, text: &[u8]) -> u8
     ensures added { result ≡ OK →
         s.new.state ≡ record s.old.state { texts = s.old.state.texts ++ text.now ∷ [] } }
     ensures refused { result ≢ OK → s.new.state ≡ s.old.state }
-    ensures status { AddStatus result (length s.old.state.texts) }
+    ensures status { AddTextStatus result (length s.old.state.texts) (length text.now) }
 {
     s.borrow().add(text)
 }

@@ -9,7 +9,7 @@ ghost use Rattle.lis_c.specs.Stations.{BeginStatus, Hears, IsNow, MakesAnswer, N
 ghost use Rattle.lis_c.specs.Stations.{RejectsForMemory, SecondsReported};
 ghost use Rattle.lis_c.specs.Stations.{StartsSession, role_code, seconds_code, state_of, station_kept, station_limit};
 ghost use Rattle.lis_c.specs.Stations.{station_spare, station_start_index, station_start_place, station_start_status};
-ghost use Rattle.lis_c.specs.Status.{AddStatus, OK, OUT_OF_MEMORY, ReserveStatus, copy_status};
+ghost use Rattle.lis_c.specs.Status.{AddTextStatus, OK, OUT_OF_MEMORY, ReserveStatus, copy_status};
 ghost use Rattle.lis_c.specs.Steps.{IsNotOutOfMemory, IsOutOfMemory};
 ghost use Rattle.lis_c.specs.contracts.station_state.StationHandleState.{the_row as handle_state_row};
 ghost use Rattle.lis_link.specs.Receiver.{ReceiverState, held_length, on_byte, on_bytes, with_heard};
@@ -125,7 +125,7 @@ pub extern "C" fn lis_station_add_text(s: &mut LisStation, text: &[u8]) -> u8
     ensures added { result ≡ OK →
         s.new.state ≡ record s.old.state { texts = s.old.state.texts ++ text.now ∷ [] } }
     ensures refused { result ≢ OK → s.new.state ≡ s.old.state }
-    ensures status { AddStatus result (length s.old.state.texts) }
+    ensures status { AddTextStatus result (length s.old.state.texts) (length text.now) }
 {
     let handle_state = s.borrow();
     add_text(&mut handle_state.texts, handle_state.alloc, text)

@@ -78,7 +78,9 @@ impl<const N: usize> PartialEq for TextOf<N> {
 
     ghost laws = { partial_equiv_from_equiv nat_list_eq_equiv };
 
-    fn eq(&self, other: &Self) -> bool {
+    fn eq(&self, other: &Self) -> bool
+        ensures { result ≡ pointwise nat_eq self.now other.now }
+    {
         self.as_slice() == other.as_slice()
     }
 }

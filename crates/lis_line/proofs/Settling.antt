@@ -13,7 +13,7 @@ use Rattle.lis_world.specs.World.{lowered}
 use Rattle.lis_station.specs.Station.{StationState, awaits_reply, routed, asking}
 use Rattle.lis_station.specs.Line.{TwoWay, Item, sent, answered, turned, units_of, noted, reply_out, steps}
 use Rattle.lis_station.specs.Line.{comes, arrives, left_line, lost_in, room_near, with_station, happens}
-use Rattle.lis_station.specs.Line.{close_line, LineEvent, at_analyzer, at_computer}
+use Rattle.lis_station.specs.Line.{close_line, set_ready, LineEvent, at_analyzer, at_computer}
 use Rattle.lis_station.specs.Line.{two_way, new_two_way}
 use Rattle.lis_station.proofs.Directions.{units_again}
 use Rattle.lis_line.specs.Progress.{IsReady, IsCalmLine, Leaving, leaving_event, leaving_at, given_up_both, settling}
@@ -288,9 +288,14 @@ all_leave_there limit [] t = refl
 all_leave_there limit (leaving ∷ leavings) t =
     all_leave_there limit leavings (turned (happens limit (leaving_event leaving) (turned t)))
 
--- and then both close it
+-- and then both close it, and are ready
+abbrev closing_both : List LineEvent
+closing_both =
+    (at_analyzer close_line ∷ at_analyzer (set_ready true) ∷ [])
+    ++ (at_computer close_line ∷ at_computer (set_ready true) ∷ [])
+
 closed_calm : (limit : ℕ) (t : TwoWay) → Settles t → t.outward ≡ [] → t.inward ≡ []
-    → IsCalmLine (line_runs limit (at_analyzer close_line ∷ at_computer close_line ∷ []) t)
+    → IsCalmLine (line_runs limit closing_both t)
 closed_calm limit t h none_out none_in = record {
   none_out = none_out;
   none_in = none_in;
@@ -310,10 +315,9 @@ settled_calm limit here there t h few_in few_out =
     let later = all_leave limit there (turned v) (settles_turned v first.settles) (omega (arith, few_out, as_many)) in
     let none_more : u.outward ≡ [] =
     no_item u.outward (omega (arith, later.as_many, ap length first.none_in)) in
-    let closing : List LineEvent = at_analyzer close_line ∷ at_computer close_line ∷ [] in
     subst IsCalmLine
-    (sym (line_runs-append limit (leaving_at at_analyzer here ++ leaving_at at_computer there) closing t
-    ∙ ap (line_runs limit closing)
+    (sym (line_runs-append limit (leaving_at at_analyzer here ++ leaving_at at_computer there) closing_both t
+    ∙ ap (line_runs limit closing_both)
     (line_runs-append limit (leaving_at at_analyzer here) (leaving_at at_computer there) t
     ∙ all_leave_there limit there v)))
     (closed_calm limit (turned u) (settles_turned u later.settles) later.none_in none_more)

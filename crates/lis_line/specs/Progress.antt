@@ -11,7 +11,7 @@ use Rattle.lis_world.specs.Recovery.{AreTexts}
 use Rattle.lis_station.specs.Station.{StationState}
 use Rattle.lis_station.specs.Line.{TwoWay, StationEvent, start, arrive, arrive_without_room}
 use Rattle.lis_station.specs.Line.{damage, lose, timer, give_up}
-use Rattle.lis_station.specs.Line.{close_line, LineEvent, at_analyzer, at_computer, two_way}
+use Rattle.lis_station.specs.Line.{close_line, set_ready, LineEvent, at_analyzer, at_computer, two_way}
 
 -- ---- a session on the line, from the station where `here` to the one where `there`
 
@@ -110,14 +110,15 @@ leaving_event is_lost = lose
 abbrev pub leaving_at : (StationEvent → LineEvent) → List Leaving → List LineEvent
 leaving_at here leavings = map (λ leaving. here (leaving_event leaving)) leavings
 
--- both give their sessions up; each item on its way to either side leaves the line; and both close it
+-- both give their sessions up; each item on its way to either side leaves the line; and both close it and are ready
 abbrev pub given_up_both : List LineEvent
 given_up_both = at_analyzer give_up ∷ at_computer give_up ∷ []
 
 abbrev pub settling : List Leaving → List Leaving → List LineEvent
 settling at_the_analyzer at_the_computer =
     (leaving_at at_analyzer at_the_analyzer ++ leaving_at at_computer at_the_computer)
-    ++ (at_analyzer close_line ∷ at_computer close_line ∷ [])
+    ++ ((at_analyzer close_line ∷ at_analyzer (set_ready true) ∷ [])
+    ++ (at_computer close_line ∷ at_computer (set_ready true) ∷ []))
 
 -- after whatever events, once both gave up and each item has left the line, it is calm
 abbrev pub BecomesCalm : ℕ → Type 0

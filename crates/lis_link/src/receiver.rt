@@ -128,10 +128,18 @@ impl<const N: usize> ReceiverOf<N> {
         &self.scanner
     }
 
+    /// How ENQ is answered now.
+    pub fn readiness(&self) -> Readiness
+        ensures { (r : ReceiverState) → IsIn N self.now r → result ≡ r.readiness }
+    {
+        self.line.readiness()
+    }
+
     /// How ENQ is answered from now on.
     pub fn set_ready(&mut self, readiness: Readiness)
         ensures state { (r : ReceiverState) → IsIn N self.old r → IsIn N self.new (with_readiness readiness r) }
         ensures spare { self.new.spare ≡ self.old.spare }
+        ensures room { room_of self.new ≡ room_of self.old }
     {
         self.line.set_ready(readiness);
     }

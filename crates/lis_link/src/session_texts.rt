@@ -24,11 +24,16 @@ pub trait SessionTexts: Drop {
 impl SessionTexts for Texts {
     ghost texts = { λ t. t };
 
-    fn count(&self) -> usize {
+    fn count(&self) -> usize
+        ensures value { result ≡ length self.now }
+        ensures bound { result ≤ 65536 }
+    {
         self.len()
     }
 
-    fn text(&self, place: usize) -> Option<&[u8]> {
+    fn text(&self, place: usize) -> Option<&[u8]>
+        ensures { option_copied result ≡ slice_get self.now place }
+    {
         self.get(place).map(|text| text.as_slice())
     }
 }
@@ -53,7 +58,8 @@ impl<'a> BorrowedTexts<'a> {
     /// The texts of these slices, in order. There are at most 65,536 of them.
     pub fn new(texts: &'a [&'a [u8]]) -> Self
         requires { length texts.now ≤ 65536 }
-        ensures { result ≡ map (λ text. text.now) texts.now }
+        ensures value { result ≡ map (λ text. text.now) texts.now }
+        ensures texts { ⟦<BorrowedTexts<'static> as SessionTexts>⟧.texts result ≡ map (λ text. text.now) texts.now }
     {
         BorrowedTexts { texts }
     }
@@ -62,11 +68,16 @@ impl<'a> BorrowedTexts<'a> {
 impl SessionTexts for BorrowedTexts<'_> {
     ghost texts = { λ t. t };
 
-    fn count(&self) -> usize {
+    fn count(&self) -> usize
+        ensures value { result ≡ length self.now }
+        ensures bound { result ≤ 65536 }
+    {
         self.texts.len()
     }
 
-    fn text(&self, place: usize) -> Option<&[u8]> {
+    fn text(&self, place: usize) -> Option<&[u8]>
+        ensures { option_copied result ≡ slice_get self.now place }
+    {
         self.texts.get(place).copied()
     }
 }

@@ -5,12 +5,16 @@ use Rattle.std.specs.List.{AllByRecursion, flat_map}
 use Rattle.lis_record_values.specs.declared.kinds.Kind.{Kind}
 use Rattle.lis_record_values.specs.declared.kinds.Kind.TheVariants as kinds
 use Rattle.lis_record_values.specs.Shape.{RecordContent}
+use Rattle.std.specs.Prelude.{cond}
+use Rattle.lis_tree.proofs.Levels.{map_append}
+use Rattle.lis_tree.specs.Level.{kinds_of}
 use Rattle.lis_tree.specs.Nodes.{Annotated, OrderTree}
 use Rattle.lis_tree.specs.declared.tree.Group.{Group}
 use Rattle.lis_tree.specs.declared.tree.Group.TheVariants as groups
 use Rattle.lis_tree.specs.Tree.{MessageTree, IsTree, IsNote, AreNotes, IsAnnotated, IsOrder, IsGroup, flatten}
 use Rattle.lis_tree.specs.Tree.{annotated_records, group_records, order_records, patient_records}
 use Rattle.lis_message_table.specs.Parents.{annotated_parents, group_parents, order_parents, result_parents}
+use Rattle.lis_message_table.specs.Parents.{is_no_note, is_order, is_patient, last_of, parent_after, parents_after}
 use Rattle.lis_message_table.specs.Parents.{tree_parents}
 use Rattle.lis_message_table.specs.declared.above.Above.{Above}
 use Rattle.lis_message_table.specs.inside.Above.{above_after, above_all, nothing_above, parent_of, parents_from}
@@ -33,6 +37,97 @@ above_more a i (x ∷ records) r =
     let there : i + 1 + length records ≡ i + length (x ∷ records) = omega arith in
     above_more (above_after a i x.kind) (i + 1) records r
     ∙ ap (λ (n : ℕ). above_after (above_all (above_after a i x.kind) (i + 1) records) n r.kind) there
+
+-- ---- what it is under, by the kinds before it
+
+patient_is : (a : Above) (i : ℕ) (records : List RecordContent)
+    → (above_all a i records).patient ≡ last_of is_patient i a.patient (kinds_of records)
+patient_is a i [] = refl
+patient_is a i (r ∷ records) =
+    patient_is (above_after a i r.kind) (i + 1) records
+    ∙ ap (λ (n : ℕ). last_of is_patient (i + 1) n (kinds_of records)) (by r.kind)
+  where
+    by : (k : Kind) → (above_after a i k).patient ≡ cond (is_patient k) i a.patient
+    by kinds.P = refl
+    by kinds.H = refl
+    by kinds.O = refl
+    by kinds.R = refl
+    by kinds.C = refl
+    by kinds.Q = refl
+    by kinds.M = refl
+    by kinds.S = refl
+    by kinds.L = refl
+
+order_is : (a : Above) (i : ℕ) (records : List RecordContent)
+    → (above_all a i records).order ≡ last_of is_order i a.order (kinds_of records)
+order_is a i [] = refl
+order_is a i (r ∷ records) =
+    order_is (above_after a i r.kind) (i + 1) records
+    ∙ ap (λ (n : ℕ). last_of is_order (i + 1) n (kinds_of records)) (by r.kind)
+  where
+    by : (k : Kind) → (above_after a i k).order ≡ cond (is_order k) i a.order
+    by kinds.P = refl
+    by kinds.H = refl
+    by kinds.O = refl
+    by kinds.R = refl
+    by kinds.C = refl
+    by kinds.Q = refl
+    by kinds.M = refl
+    by kinds.S = refl
+    by kinds.L = refl
+
+head_is : (a : Above) (i : ℕ) (records : List RecordContent)
+    → (above_all a i records).head ≡ last_of is_no_note i a.head (kinds_of records)
+head_is a i [] = refl
+head_is a i (r ∷ records) =
+    head_is (above_after a i r.kind) (i + 1) records
+    ∙ ap (λ (n : ℕ). last_of is_no_note (i + 1) n (kinds_of records)) (by r.kind)
+  where
+    by : (k : Kind) → (above_after a i k).head ≡ cond (is_no_note k) i a.head
+    by kinds.P = refl
+    by kinds.H = refl
+    by kinds.O = refl
+    by kinds.R = refl
+    by kinds.C = refl
+    by kinds.Q = refl
+    by kinds.M = refl
+    by kinds.S = refl
+    by kinds.L = refl
+
+parent_is : (records : List RecordContent) (k : Kind)
+    → parent_of (above_all nothing_above 0 records) k ≡ parent_after (kinds_of records) k
+parent_is records kinds.H = refl
+parent_is records kinds.P = refl
+parent_is records kinds.O = patient_is nothing_above 0 records
+parent_is records kinds.R = order_is nothing_above 0 records
+parent_is records kinds.C = head_is nothing_above 0 records
+parent_is records kinds.Q = refl
+parent_is records kinds.M = head_is nothing_above 0 records
+parent_is records kinds.S = head_is nothing_above 0 records
+parent_is records kinds.L = refl
+
+parents_from_are : (before records : List RecordContent)
+    → parents_from (above_all nothing_above 0 before) (length before) records
+    ≡ parents_after (kinds_of before) (kinds_of records)
+parents_from_are before [] = refl
+parents_from_are before (r ∷ records) =
+    let next : above_after (above_all nothing_above 0 before) (length before) r.kind
+    ≡ above_all nothing_above 0 (before ++ r ∷ []) =
+    let here : length before ≡ 0 + length before = omega arith in
+    ap (λ (n : ℕ). above_after (above_all nothing_above 0 before) n r.kind) here
+    ∙ sym (above_more nothing_above 0 before r) in
+    let there : length before + 1 ≡ length (before ++ r ∷ []) = omega (arith, length-append before (r ∷ [])) in
+    ap (λ (n : ℕ). n ∷ parents_from (above_after (above_all nothing_above 0 before) (length before) r.kind)
+    (length before + 1) records) (parent_is before r.kind)
+    ∙ ap (λ (l : List ℕ). parent_after (kinds_of before) r.kind ∷ l)
+    (ap (λ (a : Above). parents_from a (length before + 1) records) next
+    ∙ ap (λ (n : ℕ). parents_from (above_all nothing_above 0 (before ++ r ∷ [])) n records) there
+    ∙ parents_from_are (before ++ r ∷ []) records
+    ∙ ap (λ (ks : List Kind). parents_after ks (kinds_of records)) (map_append before (r ∷ [])))
+
+pub front_parents : (records : List RecordContent)
+    → parents_from nothing_above 0 records ≡ parents_after [] (kinds_of records)
+front_parents records = parents_from_are [] records
 
 -- ---- the parts of a tree
 

@@ -1,8 +1,17 @@
--- One more item is put into an array after those before it.
-use Rattle.std.proofs.Common.{◌≡◌, ◌∷◌, ◌++◌, ℕ, List, [], ap, length, refl, sym, take, ◌∙◌}
+-- One more item is put into an array after those before it; what is put where no further record comes.
+use Rattle.std.proofs.Common.{◌≡◌, ◌+◌, ◌∷◌, ◌++◌, ℕ, List, [], ap, length, refl, sym, take, ◌∙◌}
 use Rattle.std.specs.Prelude.{map, slice_set, suc, zero}
 use Rattle.std.proofs.lemmas.List.{length-map, map-append}
-use Rattle.lis_message_table.specs.Put.{placed_record, over}
+use Rattle.lis_bytes.specs.Capped.{capped}
+use Rattle.lis_record_values.specs.declared.faults.MessageFault.{MessageFault}
+use Rattle.lis_record_values.specs.declared.kinds.Kind.{Kind}
+use Rattle.lis_message.specs.Kept.{RecordsState}
+use Rattle.lis_message_table.proofs.ParentLaws.{front_parents}
+use Rattle.lis_message_table.specs.Parents.{parents_after}
+use Rattle.lis_message_table.specs.Put.{PutsFront, over, placed_record}
+use Rattle.lis_message_table.specs.Table.{IsTextFault}
+use Rattle.lis_message_table.specs.declared.above.Above.{Above}
+use Rattle.lis_message_table.specs.inside.Reading.{IsReading}
 use Rattle.lis_message_table.specs.declared.places.LisRecordPlace.{LisRecordPlace}
 use Rattle.lis_message_table.specs.declared.places.RecordPlace.{RecordPlace}
 
@@ -33,3 +42,21 @@ put_next before out after places p count x is counted placed set =
     let so_far = over before (map placed_record places) in
     set ∙ ap (λ (l : List LisRecordPlace). slice_set l count x) is ∙ ap (λ (n : ℕ). slice_set so_far n x) counted
     ∙ ap (slice_set so_far (length places)) placed ∙ put_more before places p
+
+pub puts_front : (reader : RecordsState) (text : List ℕ) (places : List RecordPlace) (above : Above) (rest : List ℕ)
+    (fault : MessageFault) (before out : List LisRecordPlace) → IsReading reader text places above rest
+    → IsTextFault text fault × (fault.place ≡ capped (length places + 1))
+    → out ≡ over before (map placed_record places) → PutsFront text fault before out
+puts_front reader text places above rest fault before out r has put = record {
+  has = has.0;
+  places = places;
+  rest = rest;
+  left = r.left;
+  front = r.whole;
+  are = r.are;
+  starts = r.starts;
+  kinds = r.kinds;
+  parents = r.parents ∙ front_parents _ ∙ ap (parents_after []) (sym r.kinds);
+  number = has.1;
+  put = put;
+}

@@ -35,7 +35,7 @@ use Rattle.lis_message.proofs.Refusals.{refused_uncut}
 use Rattle.lis_message.proofs.Splits.{left_after-more, split_hold}
 use Rattle.lis_message.proofs.Stopping.{refused_line, refused_long, starved}
 use Rattle.lis_message_table.proofs.ParentLaws.{above_more, parents_are, parents_more}
-use Rattle.lis_message_table.specs.Table.{IsTextFault, IsWithin, text_at}
+use Rattle.lis_message_table.specs.Table.{IsTextFault, IsWithin, starts_from, text_at}
 use Rattle.lis_message_table.specs.declared.above.Above.{Above}
 use Rattle.lis_message_table.specs.declared.places.RecordPlace.{RecordPlace}
 use Rattle.lis_message_table.specs.inside.Above.{above_after, above_all, nothing_above, parent_of, parents_from}
@@ -150,6 +150,18 @@ text_here text front rest line following p whole first start len =
     ∙ ap (take p.len) (drop-append_seam front rest) ∙ ap (λ (n : ℕ). take n rest) size
     ∙ ap (take (length line)) first ∙ take-append_seam line (13 ∷ following)
 
+-- one text more begins after those before it
+starts_more : (n : ℕ) (texts : List (List ℕ)) (text : List ℕ)
+    → starts_from n (texts ++ text ∷ []) ≡ starts_from n texts ++ (n + length (ended texts)) ∷ []
+starts_more n [] text = let here : n ≡ n + 0 = omega arith in ap (λ (m : ℕ). m ∷ []) here
+starts_more n (t ∷ texts) text =
+    let long = length-append (t ++ 13 ∷ []) (ended texts) in
+    let line = length-append t (13 ∷ []) in
+    let there : n + length t + 1 + length (ended texts) ≡ n + length (ended (t ∷ texts)) = omega (arith, long, line) in
+    ap (λ (l : List ℕ). n ∷ l)
+    (starts_more (n + length t + 1) texts text
+    ∙ ap (λ (m : ℕ). starts_from (n + length t + 1) texts ++ m ∷ []) there)
+
 within_more : (n m : ℕ) (places : List RecordPlace) (p : RecordPlace) → n ≤ m → AllByRecursion (IsWithin n) places
     → IsWithin m p → AllByRecursion (IsWithin m) (places ++ p ∷ [])
 within_more n m [] p le all here = (here, tt)
@@ -189,6 +201,16 @@ module _ (reader after : RecordsState) (text : List ℕ) (places : List RecordPl
     counted =
         sym (length-map places (λ (x : RecordPlace). x.kind)) ∙ ap length r.kinds
         ∙ length-map (records_of r.left) (λ (x : RecordContent). x.kind)
+
+    starts_then : map (λ (x : RecordPlace). x.start) (places ++ p ∷ [])
+        ≡ starts_from 0 (map (text_at text) (places ++ p ∷ []))
+    starts_then =
+        let at : p.start ≡ 0 + length (ended texts) =
+        omega (arith, start, ap length r.whole, length-append (ended texts) rest) in
+        map-append (λ (x : RecordPlace). x.start) places (p ∷ [])
+        ∙ ap (λ (l : List ℕ). l ++ p.start ∷ []) r.starts
+        ∙ ap (λ (n : ℕ). starts_from 0 texts ++ n ∷ []) at
+        ∙ sym (starts_more 0 texts read.text) ∙ ap (starts_from 0) (sym longer)
 
     kinds_then : map (λ (x : RecordPlace). x.kind) (places ++ p ∷ []) ≡ kinds_of more
     kinds_then =
@@ -237,6 +259,7 @@ module _ (reader after : RecordsState) (text : List ℕ) (places : List RecordPl
           whole = whole_then;
           are = subst (λ (ts : List (List ℕ)). AreLeft ts (left_after r.left entry entry.content.kind)) (sym longer)
               (left_more r.left texts read.text entry r.are comes other);
+          starts = starts_then;
           kinds = kinds_then ∙ ap kinds_of (sym goes);
           parents = parents_then ∙ ap (parents_from nothing_above 0) (sym goes);
           next = above_then ∙ ap (above_all nothing_above 0) (sym goes);
@@ -250,6 +273,7 @@ module _ (reader after : RecordsState) (text : List ℕ) (places : List RecordPl
           message = closed.message;
           whole = whole_then;
           are = subst (λ (ts : List (List ℕ)). AreMessage ts closed.message) (sym longer) closed.are;
+          starts = starts_then;
           delimiters = closed.delimiters;
           kinds = kinds_then ∙ ap kinds_of (sym closed.records);
           parents =

@@ -24,7 +24,7 @@ use Rattle.lis_message.specs.Stream.{AreMessage, IsSplit, ended}
 use Rattle.lis_message.proofs.Reading.{split_one}
 use Rattle.lis_message.proofs.Splits.{split_start}
 use Rattle.lis_message_table.specs.Table.{IsTableOf, IsWithin, Table, contents_of, entries_in, parts_at, record_at}
-use Rattle.lis_message_table.specs.Table.{text_at, texts_of}
+use Rattle.lis_message_table.specs.Table.{starts_from, text_at, texts_of}
 use Rattle.lis_message_table.specs.declared.places.RecordPlace.{RecordPlace}
 use Rattle.lis_message_table.specs.inside.Reading.{HasRead}
 
@@ -193,6 +193,7 @@ module _ (d : DelimiterBytes) (text : List ℕ) (places : List RecordPlace) (fol
     table_is = record {
       whole = front_is ∙ ap ended texts_same;
       message = subst (λ (ts : List (List ℕ)). AreMessage ts r.message) texts_same r.are;
+      starts = r.starts ∙ ap (starts_from 0) texts_same;
       delimiters = r.delimiters;
       kinds = r.kinds;
       parents = r.parents;

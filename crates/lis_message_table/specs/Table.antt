@@ -1,5 +1,5 @@
 -- A message as a table of places in its text.
-use Rattle.std.specs.Prelude.{◌≡◌, ℕ, ◌+◌, ◌≤◌, ◌⊎◌, List, [], ◌++◌, drop, map, take}
+use Rattle.std.specs.Prelude.{◌≡◌, ℕ, ◌+◌, ◌≤◌, ◌⊎◌, List, [], ◌∷◌, ◌++◌, drop, length, map, take}
 use Rattle.lis_record_values.specs.Delimiters.{DelimiterBytes}
 use Rattle.lis_record_values.specs.Shape.{RecordContent}
 use Rattle.lis_table.specs.Entries.{Entry, entry_at}
@@ -27,14 +27,21 @@ pub record Table : Type 0 where
 abbrev pub text_at : List ℕ → RecordPlace → List ℕ
 text_at text p = take p.len (drop p.start text)
 
+-- where texts begin that follow each other from a place on, a CR after each
+abbrev pub starts_from : ℕ → List (List ℕ) → List ℕ
+starts_from place [] = []
+starts_from place (text ∷ texts) = place ∷ starts_from (place + length text + 1) texts
+
 -- the texts of the records
 abbrev pub texts_of : Table → List (List ℕ)
 texts_of t = map (text_at t.text) t.places
 
 -- The table is that of the message: the texts at its places, with a CR after each, are the whole text, and they are the
--- message's records in order; each place has the kind of its record, and the index of the record that it is under.
+-- message's records in order; each place is where its text begins, and has the kind of its record and the index of the
+-- record that it is under.
 pub record IsTableOf (t : Table) (m : MessageTree) : Type 0 where
   pub whole : t.text ≡ ended (texts_of t)
+  pub starts : map (λ p. p.start) t.places ≡ starts_from 0 (texts_of t)
   pub message : AreMessage (texts_of t) m
   pub delimiters : t.delimiters ≡ m.delimiters
   pub kinds : map (λ p. p.kind) t.places ≡ kinds_of (flatten m)

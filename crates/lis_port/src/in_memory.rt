@@ -19,7 +19,9 @@ impl<'a> InMemory<'a> {
     pub fn new(bytes: &'a [u8]) -> Self
         ensures left { ⟦<InMemory<'a> as Source>⟧.left result ≡ Some bytes.now }
         ensures made { ⟦<InMemory<'a> as Source>⟧.made result ≡ 0 }
+        ensures failed { ⟦<InMemory<'a> as Source>⟧.failed result ≡ false }
         ensures ended { ⟦<InMemory<'a> as Source>⟧.ended result ≡ false }
+        ensures waits { ⟦<InMemory<'a> as Source>⟧.may_wait result ≡ true }
     {
         InMemory {
             rest: bytes,

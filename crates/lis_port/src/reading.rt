@@ -21,6 +21,7 @@ impl<R: Read> Reading<R> {
         ensures made { ⟦<Reading<R> as Source>⟧.made result ≡ 0 }
         ensures failed { ⟦<Reading<R> as Source>⟧.failed result ≡ false }
         ensures ended { ⟦<Reading<R> as Source>⟧.ended result ≡ false }
+        ensures waits { ⟦<Reading<R> as Source>⟧.may_wait result ≡ true }
     {
         Reading {
             reader,

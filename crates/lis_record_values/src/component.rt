@@ -135,7 +135,9 @@ impl PartialEq for Component {
 
     ghost laws = { lists_per symbol_laws.laws-law };
 
-    fn eq(&self, other: &Self) -> bool {
+    fn eq(&self, other: &Self) -> bool
+        ensures { result ≡ pointwise (symbol.ghosts).eq self.now other.now }
+    {
         self.symbols() == other.symbols()
     }
 }

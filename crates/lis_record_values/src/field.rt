@@ -75,7 +75,9 @@ impl PartialEq for Parts<Repeat> {
 
     ghost laws = { lists_per (lists_per (lists_per symbol_laws.laws-law)) };
 
-    fn eq(&self, other: &Self) -> bool {
+    fn eq(&self, other: &Self) -> bool
+        ensures { result ≡ pointwise (pointwise (pointwise (symbol.ghosts).eq)) self.now other.now }
+    {
         self.repeats() == other.repeats()
     }
 }

@@ -136,7 +136,10 @@ impl PartialEq for Record {
     ghost laws = { and_per (on_per (λ r. r.kind) kind_laws.laws-law)
         (on_per (λ r. r.fields) (lists_per (lists_per (lists_per (lists_per symbol_laws.laws-law))))) };
 
-    fn eq(&self, other: &Self) -> bool {
+    fn eq(&self, other: &Self) -> bool
+        ensures { result ≡ eq_of_both (on (λ r. r.kind) (kind.ghosts).eq)
+            (on (λ r. r.fields) (pointwise (pointwise (pointwise (pointwise (symbol.ghosts).eq))))) self.now other.now }
+    {
         self.kind == other.kind && self.fields() == other.fields()
     }
 }

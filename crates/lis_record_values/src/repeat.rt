@@ -45,7 +45,9 @@ impl PartialEq for Parts<Component> {
 
     ghost laws = { lists_per (lists_per symbol_laws.laws-law) };
 
-    fn eq(&self, other: &Self) -> bool {
+    fn eq(&self, other: &Self) -> bool
+        ensures { result ≡ pointwise (pointwise (symbol.ghosts).eq) self.now other.now }
+    {
         self.components() == other.components()
     }
 }

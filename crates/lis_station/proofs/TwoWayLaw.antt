@@ -60,7 +60,7 @@ module _ (limit : ℕ) (t : TwoWay) (h : HoldsBoth limit t) where
 
   close_both : HoldsBoth limit (record t { near = with_station (line_closed t.near.station) t.near })
   close_both =
-      near_changed (receiver_restarted t.near.station.receiver) t.near.station.turn false (λ e. absurd (cc)) refl tt
+      near_changed (line_closed t.near.station).receiver t.near.station.turn false (λ e. absurd (cc)) refl h.near_fair
 
   fair_of : (ready : Bool) → NotContending (readiness_of ready)
   fair_of true = tt

@@ -202,12 +202,16 @@ station_fault s texts = station_fault_by s.receiver.is_open s texts
 abbrev pub station_started : ℕ → List (List ℕ) → StationState → StationState
 station_started limit texts s = record s { sender = started limit texts; turn = Free }
 
--- the session is given up; the receiver is restarted; both are; the receiver is ready or busy from now on
+-- the session is given up; the receiver is restarted, as ready or busy as it was; both are restarted, and the receiver
+-- is ready; the receiver is ready or busy from now on
 abbrev pub session_given_up : StationState → StationState
 session_given_up s = record s { sender = sender_restarted s.sender }
 
 abbrev pub line_closed : StationState → StationState
-line_closed s = record s { receiver = receiver_restarted s.receiver; asks_turn = false }
+line_closed s = record s {
+  receiver = with_readiness s.receiver.readiness (receiver_restarted s.receiver);
+  asks_turn = false;
+}
 
 abbrev pub station_restarted : StationState → StationState
 station_restarted s = record s {

@@ -13,10 +13,12 @@ pub fn stays_exclusive()
     ensures { StaysExclusive }
 {}
 
-/// Two stations on one line, which keeps the order in each direction and delivers no reply after its timer: in each
-/// direction each session is safe, over every list of starts, deliveries, losses, noticed damage, timers, restarts and
-/// requests for a turn of both. What was accepted was sent, what was acknowledged was accepted, and what was delivered
-/// are the session's texts, whole and in order; all of them, if the session is done. At every limit on a frame's text.
+/// Two stations on one line, which keeps the order in each direction and delivers no reply after its sender's timer,
+/// also that of a wait, or after the sender was restarted or gave its session up: in each direction each session is
+/// safe, over every list of starts, deliveries, losses, noticed damage, timers, restarts and requests for a turn of
+/// both. The bytes of a unit come as one event. What was accepted was sent, what was acknowledged was accepted, and
+/// what was delivered are the session's texts, whole and in order; all of them, if the session is done. At every limit
+/// on a frame's text.
 pub fn safe_both_ways_of<const N: usize>()
     requires { IsLimit N }
     ensures { SafeBothWays N }

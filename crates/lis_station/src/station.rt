@@ -13,7 +13,7 @@ ghost use Rattle.lis_station.specs.Station.{awaits_reply, given_reply, turn_afte
 ghost use Rattle.lis_station.specs.Station.{asks_after, turn_after_note, taken_by, new_station, on_station_byte};
 ghost use Rattle.lis_station.specs.Station.{on_station_bytes, on_station_timer, station_seconds, turn_seconds};
 ghost use Rattle.lis_station.specs.Station.{is_requested, turn_asked_for, station_fault, line_closed};
-ghost use Rattle.lis_station.specs.Station.{station_restarted, readied, computer_contention_seconds};
+ghost use Rattle.lis_station.specs.Station.{station_restarted, readied, readiness_of, computer_contention_seconds};
 ghost use Rattle.lis_station.specs.Representation.{station_at, IsStation, IsAnswer, IsRefused, IsOutOfMemory};
 ghost use Rattle.lis_station.specs.Representation.{KeepsStationRoom};
 
@@ -377,18 +377,21 @@ impl<const N: usize, T: SessionTexts> StationOver<N, T> {
         self.sender.restart();
     }
 
-    /// The receiver is restarted: what the other side sends is not taken until it asks for the line again.
+    /// The receiver is restarted, and is as ready as it was: what the other side sends is not taken until it asks for
+    /// the line again.
     pub fn close_line(&mut self)
         ensures state { (r : ReceiverState) → IsIn N self.old.receiver r →
             IsStation N self.new (line_closed (station_at self.old r)) }
         ensures spare { self.old.receiver.spare ≤ self.new.receiver.spare }
         ensures room { room_of self.new.receiver ≡ room_of self.old.receiver }
     {
+        let readiness = self.receiver.readiness();
         self.receiver.restart();
+        self.receiver.set_ready(readiness);
         self.asks_turn = false;
     }
 
-    /// Both ends are restarted, and nobody waits for a turn.
+    /// Both ends are restarted, the receiver is ready, and nobody waits for a turn.
     pub fn restart(&mut self)
         ensures state { (r : ReceiverState) → IsIn N self.old.receiver r →
             IsStation N self.new (station_restarted (station_at self.old r)) }
@@ -396,8 +399,9 @@ impl<const N: usize, T: SessionTexts> StationOver<N, T> {
         ensures room { room_of self.new.receiver ≡ room_of self.old.receiver }
     {
         self.give_up();
-        self.close_line();
+        self.receiver.restart();
         self.turn = Turn::Free;
+        self.asks_turn = false;
     }
 
     /// Whether the other side gets the line from now on, by ACK to its ENQ, or NAK.
@@ -406,11 +410,7 @@ impl<const N: usize, T: SessionTexts> StationOver<N, T> {
             IsStation N self.new (readied ready (station_at self.old r)) }
         ensures spare { self.new.receiver.spare ≡ self.old.receiver.spare }
     {
-        self.receiver.set_ready(if ready {
-            Readiness::Ready
-        } else {
-            Readiness::Busy
-        });
+        self.receiver.set_ready(readiness_of(ready));
     }
 
     /// Makes room for `bytes` more bytes of held text, at most 1,048,576, so that taking them takes no memory. If
@@ -436,6 +436,17 @@ impl<const N: usize, T: SessionTexts> StationOver<N, T> {
         ensures spare { self.old.receiver.spare ≤ self.new.receiver.spare }
     {
         self.receiver.reuse(text);
+    }
+}
+
+/// How a receiver answers ENQ that is ready, or isn't.
+fn readiness_of(ready: bool) -> Readiness
+    ensures { result ≡ readiness_of ready }
+{
+    if ready {
+        Readiness::Ready
+    } else {
+        Readiness::Busy
     }
 }
 

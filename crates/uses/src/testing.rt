@@ -65,10 +65,12 @@ impl<'a> ScriptedConnection<'a> {
         ScriptedConnection { answers, ..self }
     }
 
-    /// The log; none if memory for it ran out.
+    /// The log; none if memory for it ran out. It is what the loops' contracts speak of.
     pub fn log(&self) -> Option<&[Entry]>
-        ensures { MatchOption result (log_of self.now.is_whole self.now.entries.items ≡ None)
+        ensures entries { MatchOption result (log_of self.now.is_whole self.now.entries.items ≡ None)
             (λ log. log_of self.now.is_whole self.now.entries.items ≡ Some (map log_event_of log.now)) }
+        ensures log { ⟦<ScriptedConnection<'static> as Connection>⟧.event_log self.now
+            ≡ log_of self.now.is_whole self.now.entries.items }
     {
         if self.is_whole {
             Some(self.entries.as_slice())

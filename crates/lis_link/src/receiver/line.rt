@@ -90,6 +90,13 @@ impl LineState {
         self.held.len() as u64
     }
 
+    /// How ENQ is answered now.
+    pub(crate) fn readiness(&self) -> Readiness
+        ensures { result ≡ self.now.readiness }
+    {
+        self.readiness
+    }
+
     /// How ENQ is answered from now on.
     pub(crate) fn set_ready(&mut self, readiness: Readiness)
         ensures { self.new ≡ record self.old { readiness = readiness } }

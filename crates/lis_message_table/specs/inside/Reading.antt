@@ -14,7 +14,7 @@ use Rattle.lis_message.specs.Records.{CantCome, HasLeft}
 use Rattle.lis_message.specs.Stream.{AreLeft, AreMessage, LacksReturn, ended}
 use Rattle.lis_message.specs.Taking.{records_of}
 use Rattle.lis_message_table.specs.Parents.{tree_parents}
-use Rattle.lis_message_table.specs.Table.{IsWithin, text_at}
+use Rattle.lis_message_table.specs.Table.{IsWithin, starts_from, text_at}
 use Rattle.lis_message_table.specs.declared.above.Above.{Above}
 use Rattle.lis_message_table.specs.declared.places.RecordPlace.{RecordPlace}
 use Rattle.lis_message_table.specs.inside.Above.{above_all, nothing_above, parents_from}
@@ -28,6 +28,7 @@ pub record IsReading (reader : RecordsState) (text : List ℕ) (places : List Re
   pub uncut : reader.split ≡ None
   pub whole : text ≡ ended (map (text_at text) places) ++ following
   pub are : AreLeft (map (text_at text) places) left
+  pub starts : map (λ p. p.start) places ≡ starts_from 0 (map (text_at text) places)
   pub kinds : map (λ p. p.kind) places ≡ kinds_of (records_of left)
   pub parents : map (λ p. p.parent) places ≡ parents_from nothing_above 0 (records_of left)
   pub next : above ≡ above_all nothing_above 0 (records_of left)
@@ -38,6 +39,7 @@ pub record HasRead (d : DelimiterBytes) (text : List ℕ) (places : List RecordP
   pub message : MessageTree
   pub whole : text ≡ ended (map (text_at text) places) ++ following
   pub are : AreMessage (map (text_at text) places) message
+  pub starts : map (λ p. p.start) places ≡ starts_from 0 (map (text_at text) places)
   pub delimiters : d ≡ message.delimiters
   pub kinds : map (λ p. p.kind) places ≡ kinds_of (flatten message)
   pub parents : map (λ p. p.parent) places ≡ tree_parents message

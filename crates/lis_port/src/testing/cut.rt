@@ -59,6 +59,7 @@ impl<'a> Cut<'a> {
         ensures made { ⟦<Cut<'a> as Source>⟧.made result ≡ 0 }
         ensures failed { ⟦<Cut<'a> as Source>⟧.failed result ≡ false }
         ensures ended { ⟦<Cut<'a> as Source>⟧.ended result ≡ false }
+        ensures waits { ⟦<Cut<'a> as Source>⟧.may_wait result ≡ true }
     {
         Cut {
             rest: bytes,

@@ -21,6 +21,6 @@ overflow_add-result c =
 
 pub returns : goal.returns
 returns c =
-    marks-windows c.args.mark 32 c.min-count.result c.args.text.now c.bits_of_32-2.result c.bits_of_32.result
+    marks-windows c.args.mark 32 c.min-count.result c.args.text.now c.bits_of_32-2.result c.bits_of_32.result _
     (omega arith) (omega arith) (omega arith) c.bits_of_32-2.ensures
-    (rw c.split_at.ensures.back at c.bits_of_32.ensures)
+    (rw c.split_at.ensures.back at c.bits_of_32.ensures) (omega arith)

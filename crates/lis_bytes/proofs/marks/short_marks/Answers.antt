@@ -22,4 +22,5 @@ overflow_add-result c =
 pub returns : goal.returns
 returns c =
     marks-windows c.args.mark 16 (length c.args.text.now - 16) c.args.text.now c.bits_of-2.result c.bits_of.result
-    (omega arith) (omega arith) (omega arith) c.bits_of-2.ensures (rw c.split_at.ensures.back at c.bits_of.ensures)
+    _ (omega arith) (omega arith) (omega arith) c.bits_of-2.ensures (rw c.split_at.ensures.back at c.bits_of.ensures)
+    (omega arith)

@@ -1,10 +1,10 @@
-use Rattle.std.proofs.Common.{◌≡◌, ℕ, ◌+◌, ◌%◌, ◌<◌, ◌∙◌, None, Some, length, take, drop, length-take, ap, sym}
+use Rattle.std.proofs.Common.{◌≡◌, ℕ, ◌+◌, ◌%◌, ◌<◌, ◌∙◌, length, take, drop, length-take, ap, sym}
 use Rattle.std.proofs.Common.{arith}
 use Rattle.std.specs.List.{sum}
 use Rattle.std.specs.Simd.Lanes.{sum_l, zip2}
 use Rattle.std.specs.Int.Count.{count_trailing_zeros}
 use Rattle.std.proofs.lemmas.List.{take-take, take_all}
-use Rattle.lis_bytes.proofs.SearchLemmas.{passes, found-chunk, found-within, position-following}
+use Rattle.lis_bytes.proofs.SearchLemmas.{passes, found-within}
 use Rattle.lis_bytes.proofs.SumLemmas.{fold-lanes, lanes-before, wrapped-before, sum_l-sum}
 use Rattle.lis_bytes.proofs.search.first_and_sum.Goals as goal
 
@@ -18,13 +18,6 @@ front_lanes-requires g c =
     (rw bits at c.if-bits-ne0.true) in
     let at : count_trailing_zeros 64 c.bits-bits.result < 16 = rw bits inside in
     omega (arith, at)
-
-pub returns-then-bits-ne0-clause-first : goal.returns-then-bits-ne0-clause-first
-returns-then-bits-ne0-clause-first g c =
-    let bits = c.bits-bits.ensures in
-    rw (bits, c.loop-rest.invariant.passed.same)
-    (sym (found-chunk g.S.ByteSet.member c.loop-rest.place 16 c.loop-rest.rest.now (omega arith)
-    c.loop-rest-test.true (rw bits at c.if-bits-ne0.true)))
 
 pub returns-then-bits-ne0-clause-sum : goal.returns-then-bits-ne0-clause-sum
 returns-then-bits-ne0-clause-sum g c =
@@ -59,11 +52,6 @@ loop-rest-preserved g c =
           (c.loop-rest.auto.sums.0 ∙ sym long) c.loop-rest.invariant.total (ap (λ (n : ℕ). n % 256) added);
     }
 
-pub returns-in-None-clause-first : goal.returns-in-None-clause-first
-returns-in-None-clause-first g c =
-    position-following g.S.ByteSet.member c.loop-rest.place c.loop-rest.rest.now None c.in-None.ensures.place
-    ∙ sym c.loop-rest.invariant.passed.same
-
 pub returns-in-None-clause-sum : goal.returns-in-None-clause-sum
 returns-in-None-clause-sum g c =
     let bytes = c.args.bytes.now in
@@ -75,11 +63,6 @@ returns-in-None-clause-sum g c =
     rw (← c.loop-rest.invariant.passed.fits)
     (wrapped-before c.loop-rest.place (length rest) bytes c.loop-rest.sums c.sum_of.result
     c.loop-rest.invariant.total added)
-
-pub returns-in-Some-clause-first : goal.returns-in-Some-clause-first
-returns-in-Some-clause-first g c =
-    position-following g.S.ByteSet.member c.loop-rest.place c.loop-rest.rest.now (Some c.in-Some.found)
-    c.in-Some.ensures.place ∙ sym c.loop-rest.invariant.passed.same
 
 pub returns-in-Some-clause-sum : goal.returns-in-Some-clause-sum
 returns-in-Some-clause-sum g c =

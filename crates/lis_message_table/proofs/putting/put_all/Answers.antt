@@ -1,9 +1,9 @@
 -- A record more is put after the others (put_next), and leads on or closes the message, whose text is the front that
--- was read (text_is, table_is).
+-- was read (text_is, table_is). Where none comes, those before it are put (puts_front).
 use Rattle.std.proofs.Common.{rules, ◌≢◌, ◌≡◌, ◌+◌, ◌-◌, ◌∷◌, ◌++◌, ℕ, [], ◌∙◌, ap, arith, length, length-append}
 use Rattle.std.proofs.Common.{refl, sym, take}
 use Rattle.lis_record_values.specs.declared.kinds.Kind.TheVariants as kinds
-use Rattle.lis_message_table.proofs.PutLaws.{put_next}
+use Rattle.lis_message_table.proofs.PutLaws.{put_next, puts_front}
 use Rattle.lis_message_table.proofs.TableLaws.{table_is, text_is}
 use Rattle.lis_message_table.proofs.putting.put_all.Goals as goal
 
@@ -42,3 +42,9 @@ loop-found-preserved c =
       put_next c.args.out.now _ c.put.new.out places p _ c.of.result c.loop-found.invariant.4 c.loop-found.invariant.2
           c.of.ensures c.put.ensures,
     )
+
+pub returns-in-Err-clause-err : goal.returns-in-Err-clause-err
+returns-in-Err-clause-err c =
+    puts_front c.loop-found.records c.args.text.now c.loop-found.invariant.0 c.loop-found.above c.loop-found.rest.now _
+    c.args.out.now _ c.loop-found.invariant.1 (c.in-Err.ensures.err c.loop-found.invariant.0 c.loop-found.invariant.1)
+    c.loop-found.invariant.4
