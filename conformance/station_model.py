@@ -71,12 +71,15 @@ class TwoWay:
         self.emit(near, "Nothing")
 
     def CloseLine(self, near, far):
+        ready = near.receiver.ready
         near.receiver.restart()
+        near.receiver.ready = ready
         near.asks_turn = False
 
     def Restart(self, near, far):
         self.GiveUp(near, far)
-        self.CloseLine(near, far)
+        near.receiver.restart()
+        near.asks_turn = False
 
     def Ready(self, near, far):
         near.receiver.ready = "ready"

@@ -1,5 +1,5 @@
-/* The analyzer side of the laboratory link of CLSI LIS01-A2 (ASTM E1381), and the records of CLSI LIS02-A2
- * (ASTM E1394), for C99 and C++11. This is version 1 of the interface; docs/EMBEDDING.md says what is stable.
+/* Both ends, analyzer and computer, of the laboratory link of CLSI LIS01-A2 (ASTM E1381), and the records of CLSI
+ * LIS02-A2 (ASTM E1394), for C99 and C++11. This is version 1 of the interface; docs/EMBEDDING.md says what is stable.
  *
  * Link with liblislink, which has its heap in it. A program without malloc links with the archive of the proved crate
  * and brings a heap (the end of this file). Each call is proved to be safe, to end, and to do what the contract above
@@ -10,9 +10,10 @@
  *     A pointer and a length name that many bytes. A buffer that is written does not overlap one that is read. With
  *     the length 0 a pointer may be null: that is beyond the proof, and tested for each call.
  *   - A bool is 0 or 1.
- *   - A handle's `at` is a block of at least lis_X_size() bytes at a multiple of lis_X_align(), which was given to
- *     lis_X_init. From then to lis_X_end nothing else reads, writes or moves the block, and it has one handle. After
- *     lis_X_end the block is the caller's again, for anything, or for another lis_X_init.
+ *   - A handle's `at` is a block of at least lis_X_size() bytes at a multiple of lis_X_align(), as LIS_X_BLOCK bytes at
+ *     one of LIS_BLOCK_ALIGN, which was given to lis_X_init. From then to lis_X_end nothing else reads, writes or moves
+ *     the block, and it has one handle. After lis_X_end the block is the caller's again, for anything, or for another
+ *     lis_X_init.
  *   - The array that lis_sender_start_lent was given, and the texts that it names, stay unchanged in their places to
  *     the end of their session: until the sender is LIS_PHASE_NEUTRAL again, restarted or ended.
  *   - One thread at a time uses a handle and its block. Two handles have nothing in common.
@@ -20,8 +21,8 @@
  *
  * Nothing else is asked: every length, every number and every order of calls is allowed. Of the caller's pointers a
  * handle keeps that to its block, and a sender those to the texts that stay with the caller; no call keeps another.
- * No call blocks, prints or aborts, and the library has no variable of its own. Nothing checks a caller in C:
- * docs/EMBEDDING.md lists what he can do wrong, and what happens then.
+ * No call blocks, prints or aborts, and one that takes its handle as const changes nothing. The library has no variable
+ * of its own. Nothing checks a caller in C: docs/EMBEDDING.md lists what he can do wrong, and what happens then.
  *
  * The line. What is acknowledged has arrived, on two conditions that only the caller can keep:
  *
@@ -43,6 +44,8 @@
 #include <stddef.h>
 #include <stdint.h>
 
+/* The version of the interface: what this header has stays in it. */
+#define LIS_INTERFACE 1
 /* The release that this header is of, as the file VERSION has it; lis_version() has that of the library. */
 #define LIS_VERSION "0.1.0"
 /* Its first number. */
@@ -53,9 +56,10 @@
 #define LIS_VERSION_PATCH 0
 
 /* A family of constants is a type of one byte: by the language in C++ and C23, by an attribute in gcc and clang, whose
- * -Wextra then warns of a constant of another family, and uint8_t elsewhere. */
+ * -Wextra then warns of a constant of another family, and uint8_t elsewhere. In C++17 and C23 a
+ * compiler warns of a status that isn't looked at. */
 #if defined(__cplusplus) || (defined(__STDC_VERSION__) && __STDC_VERSION__ >= 202311L)
-#define LIS_ENUM(name) typedef enum name : uint8_t
+#define LIS_ENUM(name) typedef enum LIS_LOOKED_AT name : uint8_t
 #define LIS_ENUM_END(name) name
 #elif defined(__GNUC__)
 #define LIS_ENUM(name) typedef enum __attribute__((__packed__)) name
@@ -90,6 +94,23 @@ enum lis_limit {
     LIS_LIMIT_RECORD_BYTES = 65536    /* bytes of a record without its CR */
 };
 
+/* For a block in static memory: how many bytes it has at most in version 1 of the interface, and what its address is a
+ * multiple of. lis_X_size() and lis_X_align() are never more. */
+enum lis_block {
+    LIS_SCANNER_BLOCK = 512,     /* bytes of a scanner's block */
+    LIS_SENDER_BLOCK = 256,      /* of a sender's */
+    LIS_RECEIVER_BLOCK = 640,    /* of a receiver's */
+    LIS_STATION_BLOCK = 896,     /* of a station's */
+    LIS_READER_BLOCK = 256,      /* of a reader's */
+    LIS_WRITER_BLOCK = 384,      /* of a writer's */
+    LIS_BLOCK_ALIGN = 16         /* what the address of each is a multiple of */
+};
+
+#if (defined(__cplusplus) && __cplusplus >= 201703L) || (defined(__STDC_VERSION__) && __STDC_VERSION__ >= 202311L)
+#define LIS_LOOKED_AT [[nodiscard]]
+#else
+#define LIS_LOOKED_AT
+#endif
 /* What a call that may fail returns. */
 LIS_ENUM(lis_status) {
     LIS_STATUS_OK = 0,                  /* the call did what it is for */
@@ -113,6 +134,8 @@ LIS_ENUM(lis_status) {
     LIS_STATUS_OLD_LINE = 17,           /* of lis_line_start: there is no connection yet, or a session failed on it */
     LIS_STATUS_LINE_OPEN = 18           /* of lis_station_start: the other side has the line */
 } LIS_ENUM_END(lis_status);
+#undef LIS_LOOKED_AT
+#define LIS_LOOKED_AT
 
 /* Bytes to be sent. */
 typedef struct lis_bytes {
@@ -182,9 +205,9 @@ void lis_scanner_push(lis_scanner *s, uint8_t byte, lis_signal *out);
  * `out` is that signal, and is always written. */
 size_t lis_scanner_feed(lis_scanner *s, const uint8_t *bytes, size_t bytes_len, lis_signal *out);
 /* How many bytes the text of a LIS_SIGNAL_LONG_FRAME has, until the next byte is read; 0 after any other signal. */
-size_t lis_scanner_text_len(lis_scanner *s);
+size_t lis_scanner_text_len(const lis_scanner *s);
 /* Copies that text to the front of `out`. LIS_STATUS_TOO_SHORT if `out` is shorter: then nothing is copied. */
-lis_status lis_scanner_text(lis_scanner *s, uint8_t *out, size_t out_len);
+lis_status lis_scanner_text(const lis_scanner *s, uint8_t *out, size_t out_len);
 
 /* ---- Frames. ---- */
 
@@ -244,8 +267,9 @@ void lis_sender_end(lis_sender s);
  * a session goes on, LIS_STATUS_BAD_NUMBER for another limit: then nothing has changed. With the long limit a frame may
  * have more bytes than a lis_bytes has room for: see lis_sender_frame. */
 lis_status lis_sender_set_limit(lis_sender *s, size_t limit);
-/* Adds a copy of a text to the next session, also while one goes on. LIS_STATUS_FULL, LIS_STATUS_OUT_OF_MEMORY: then
- * nothing has changed. What the text holds is looked at by lis_sender_start. */
+/* Adds a copy of a text to the next session, also while one goes on. LIS_STATUS_TOO_LONG if it has over
+ * LIS_LIMIT_TEXT_BYTES, LIS_STATUS_FULL, LIS_STATUS_OUT_OF_MEMORY: then nothing has changed. What the text holds is
+ * looked at by lis_sender_start. */
 lis_status lis_sender_add_text(lis_sender *s, const uint8_t *text, size_t text_len);
 /* Drops the texts of the next session. */
 void lis_sender_clear(lis_sender *s);
@@ -271,7 +295,7 @@ void lis_sender_reply(lis_sender *s, uint8_t byte, lis_bytes *out);
  * With the long limit a frame of over LIS_LIMIT_FRAME_BYTES bytes leaves `out` of lis_sender_reply empty: if
  * lis_sender_frame then returns LIS_STATUS_OK, that frame is to be sent. With that limit lis_sender_reply takes up to
  * 640 kB of the stack, lis_sender_frame 450 kB, and lis_sender_timer 200 kB. */
-lis_status lis_sender_frame(lis_sender *s, uint8_t *out, size_t out_len, size_t *size);
+lis_status lis_sender_frame(const lis_sender *s, uint8_t *out, size_t out_len, size_t *size);
 /* The phase's timer ran out: `out` is what is to be sent, and is always written. In LIS_PHASE_BUSY and
  * LIS_PHASE_CONTENTION it is ENQ again, however often: count, and give up by lis_sender_restart. Where a reply was
  * awaited it is EOT, and the session is over: LIS_OUTCOME_TIMED_OUT. */
@@ -281,11 +305,11 @@ void lis_sender_timer(lis_sender *s, lis_bytes *out);
  * without its ACK. Without a session nothing changes. */
 void lis_sender_restart(lis_sender *s);
 /* What the sender waits for. */
-lis_phase lis_sender_phase(lis_sender *s);
+lis_phase lis_sender_phase(const lis_sender *s);
 /* How the last session ended. */
-lis_outcome lis_sender_outcome(lis_sender *s);
+lis_outcome lis_sender_outcome(const lis_sender *s);
 /* How many frames of the session are acknowledged. */
-uint64_t lis_sender_acknowledged(lis_sender *s);
+uint64_t lis_sender_acknowledged(const lis_sender *s);
 
 /* ---- A sender and its connection: plain C (src/c/connection.c), tested and not proved. ----
  *
@@ -317,11 +341,13 @@ lis_status lis_line_start_lent(lis_line *line, const lis_text *texts, size_t tex
  * lis_sender_reply. Else the byte is dropped, and nothing is to be sent. */
 void lis_line_reply(lis_line *line, uint64_t connection, uint8_t byte, lis_bytes *out);
 /* After lis_line_reply for the same byte: as lis_sender_frame; also LIS_STATUS_ABSENT if that byte was dropped. */
-lis_status lis_line_frame(lis_line *line, uint64_t connection, uint8_t *out, size_t out_len, size_t *size);
+lis_status lis_line_frame(const lis_line *line, uint64_t connection, uint8_t *out, size_t out_len, size_t *size);
 /* As lis_sender_timer. */
 void lis_line_timer(lis_line *line, lis_bytes *out);
 /* As lis_sender_restart. */
 void lis_line_restart(lis_line *line);
+/* Whether the sender's timer runs; `seconds` is how long it runs in its phase, and is always written, else as 0. */
+bool lis_sender_timer_seconds(const lis_sender *s, uint32_t *seconds);
 
 /* ---- Receiver: bytes of the link in, replies and texts out. ---- */
 
@@ -404,16 +430,18 @@ lis_status lis_receiver_set_ready(lis_receiver *s, lis_ready readiness);
  * What is held stays. */
 lis_status lis_receiver_reserve(lis_receiver *s, uint64_t bytes);
 /* Whether the line is open, and so the receiver's timer runs. */
-bool lis_receiver_is_open(lis_receiver *s);
+bool lis_receiver_is_open(const lis_receiver *s);
+/* The same; `seconds` is how long it runs, and is always written, else as 0. Plain C, in src/c/connection.c. */
+bool lis_receiver_timer_seconds(const lis_receiver *s, uint32_t *seconds);
 /* How many frames were accepted since the line was last opened. */
-uint64_t lis_receiver_accepted(lis_receiver *s);
+uint64_t lis_receiver_accepted(const lis_receiver *s);
 /* How many bytes are held of a text that isn't complete. */
-uint64_t lis_receiver_held(lis_receiver *s);
+uint64_t lis_receiver_held(const lis_receiver *s);
 /* How many bytes the text has that was completed last; 0 before the first. */
-size_t lis_receiver_text_len(lis_receiver *s);
+size_t lis_receiver_text_len(const lis_receiver *s);
 /* Copies the text that was completed last, until the next one is. LIS_STATUS_TOO_SHORT if `out` is shorter: then
  * nothing is copied. */
-lis_status lis_receiver_text(lis_receiver *s, uint8_t *out, size_t out_len);
+lis_status lis_receiver_text(const lis_receiver *s, uint8_t *out, size_t out_len);
 
 /* ---- Station: a side of a line on which both sides send (LIS01-A2, 6.2.7 and 6.5). ----
  *
@@ -474,16 +502,16 @@ void lis_station_timer(lis_station *s, lis_answer *out);
 /* Whether a timer runs; `seconds` is how long it runs before lis_station_timer is due, and is always written, else as
  * 0. While the other side has the line it is the receiver's. 0 seconds with a timer: the analyzer has had its session
  * after both asked, and a computer may ask at once. */
-bool lis_station_timer_seconds(lis_station *s, uint32_t *seconds);
+bool lis_station_timer_seconds(const lis_station *s, uint32_t *seconds);
 /* With the long limit, after an answer of the sender with nothing in `send`: as lis_sender_frame. With that limit
- * lis_station_byte and lis_station_hear take up to 770 kB of the stack, and lis_station_frame 450 kB. */
-lis_status lis_station_frame(lis_station *s, uint8_t *out, size_t out_len, size_t *size);
+ * lis_station_hear takes up to 900 kB of the stack, lis_station_byte 520 kB, and lis_station_frame 450 kB. */
+lis_status lis_station_frame(const lis_station *s, uint8_t *out, size_t out_len, size_t *size);
 /* Gives up the station's own session, as lis_sender_restart. */
 void lis_station_give_up(lis_station *s);
 /* Drops the other side's session, as lis_receiver_restart, but that readiness stays. The text that was completed last
  * stays too. */
 void lis_station_close_line(lis_station *s);
-/* Does both, as when the connection is lost. */
+/* Does both, as when the connection is lost; the receiver is ready then. */
 void lis_station_restart(lis_station *s);
 /* Says whether the other side gets the line from now on: its ENQ is answered ACK, or NAK. */
 void lis_station_set_ready(lis_station *s, bool ready);
@@ -491,30 +519,49 @@ void lis_station_set_ready(lis_station *s, bool ready);
  * place of ACK. */
 void lis_station_ask_turn(lis_station *s);
 /* Whether the other side asked so, in the last session of this side, and hasn't had the line since. */
-bool lis_station_turn_asked(lis_station *s);
+bool lis_station_turn_asked(const lis_station *s);
 /* For how many seconds this side should start no session, because the other side waits for its turn; 0 if it
  * doesn't. */
-uint32_t lis_station_turn_seconds(lis_station *s);
+uint32_t lis_station_turn_seconds(const lis_station *s);
 /* Whether the next byte is a reply. */
-bool lis_station_awaits_reply(lis_station *s);
+bool lis_station_awaits_reply(const lis_station *s);
 /* As lis_receiver_reserve. */
 lis_status lis_station_reserve(lis_station *s, uint64_t bytes);
 /* As lis_sender_phase. */
-lis_phase lis_station_phase(lis_station *s);
+lis_phase lis_station_phase(const lis_station *s);
 /* As lis_sender_outcome. */
-lis_outcome lis_station_outcome(lis_station *s);
+lis_outcome lis_station_outcome(const lis_station *s);
 /* As lis_sender_acknowledged. */
-uint64_t lis_station_acknowledged(lis_station *s);
+uint64_t lis_station_acknowledged(const lis_station *s);
 /* As lis_receiver_is_open. */
-bool lis_station_is_open(lis_station *s);
+bool lis_station_is_open(const lis_station *s);
 /* As lis_receiver_accepted. */
-uint64_t lis_station_accepted(lis_station *s);
+uint64_t lis_station_accepted(const lis_station *s);
 /* As lis_receiver_held. */
-uint64_t lis_station_held(lis_station *s);
+uint64_t lis_station_held(const lis_station *s);
 /* As lis_receiver_text_len. */
-size_t lis_station_text_len(lis_station *s);
+size_t lis_station_text_len(const lis_station *s);
 /* As lis_receiver_text. */
-lis_status lis_station_text(lis_station *s, uint8_t *out, size_t out_len);
+lis_status lis_station_text(const lis_station *s, uint8_t *out, size_t out_len);
+
+/* A station and its connection: plain C (src/c/connection.c), tested and not proved. A session starts only if no late
+ * reply could meet it. All other calls are those of the station. */
+typedef struct lis_station_line {
+    lis_station station;    /* the station */
+    bool is_new;            /* whether no session was started on its connection yet */
+} lis_station_line;
+
+/* Makes a line, without a connection yet, of a station that lis_station_init made. To end it, end the station. */
+void lis_station_line_init(lis_station_line *line, lis_station station);
+/* A new connection was made; or a serial line was waited for, longer than the other side takes to answer, and what came
+ * was dropped. The station is restarted. */
+void lis_station_line_connected(lis_station_line *line);
+/* As lis_station_start, but LIS_STATUS_OLD_LINE, and nothing has changed, while a late reply could come: before the
+ * first lis_station_line_connected; and after a session that timed out or was given up, until it is called again. */
+lis_status lis_station_line_start(lis_station_line *line, lis_bytes *out, lis_place *fault);
+/* Whether a late reply could meet the station's next ENQ, that of a start or the one after a wait: over a line that
+ * answers late, connect it anew first (docs/LINK.md, 'Both ways of a line that answers late'). */
+bool lis_station_line_needs_new(const lis_station_line *line);
 
 /* ---- Records, each a text without its CR. These calls take no memory and keep nothing. ---- */
 
@@ -628,13 +675,13 @@ void lis_reader_end(lis_reader s);
  * read. So a whole record takes two calls: one for its bytes, which finds nothing, and one for its CR. `out` is always
  * written. After LIS_FOUND_NOTHING the reader holds the bytes that were read, those of one record at most. After
  * LIS_FOUND_RECORD the record's text and parts can be read until the next call. After LIS_FOUND_REFUSED none of these
- * bytes count as read: stop there, for the reader gives that fault for good. To read another stream, call _end and
+ * bytes count as read: the reader gives that fault until lis_reader_resume. To read another stream, call _end and
  * _init. */
 size_t lis_reader_read(lis_reader *s, const uint8_t *bytes, size_t bytes_len, lis_found *out);
 /* Copies a component of the record that was found last, as lis_record_part does; LIS_STATUS_NO_RECORD if none was. Each
  * call reads the record from its beginning: lis_reader_parts gives all components in one pass. */
-lis_status lis_reader_part(lis_reader *s, size_t field, size_t repeat, size_t component, uint8_t *out, size_t out_len,
-                           size_t *size);
+lis_status lis_reader_part(const lis_reader *s, size_t field, size_t repeat, size_t component, uint8_t *out,
+                           size_t out_len, size_t *size);
 /* The parts of a record that was read. */
 typedef struct lis_table {
     size_t count;                 /* how many they are */
@@ -647,11 +694,11 @@ typedef struct lis_table {
  * has room for (`table->count` is how many there are; an array as long as the text is never too short).
  * LIS_STATUS_NO_RECORD if none was found last: then all of `table` is 0. `table` is always written; what is past them
  * in `out` stays as it was. */
-lis_status lis_reader_parts(lis_reader *s, lis_part *out, size_t out_len, lis_table *table);
+lis_status lis_reader_parts(const lis_reader *s, lis_part *out, size_t out_len, lis_table *table);
 /* Copies the text of that record, without its CR, to the front of `out`; `size` is its length. LIS_STATUS_NO_RECORD as
  * above. LIS_STATUS_TOO_SHORT: then nothing is copied (a buffer of `table->len` or LIS_LIMIT_RECORD_BYTES is never too
  * short). `size` is always written, as 0 if it fails. */
-lis_status lis_reader_text(lis_reader *s, uint8_t *out, size_t out_len, size_t *size);
+lis_status lis_reader_text(const lis_reader *s, uint8_t *out, size_t out_len, size_t *size);
 
 /* Reads the next record if it is whole in the bytes, with its CR, and puts all its parts to the front of `parts`, as
  * lis_record_parts does; returns how many bytes it read. The record's text is those bytes without the CR, and the
@@ -682,7 +729,16 @@ size_t lis_reader_records(lis_reader *s, const uint8_t *bytes, size_t bytes_len,
                           size_t entries_len, lis_part *parts, size_t parts_len, size_t *count);
 /* The end of the stream: LIS_STATUS_OK, or LIS_STATUS_UNFINISHED and `out` has the reason. `out` is always written, and
  * the reader stays as it is. */
-lis_status lis_reader_finish(lis_reader *s, lis_found *out);
+lis_status lis_reader_finish(const lis_reader *s, lis_found *out);
+/* After LIS_FOUND_REFUSED: makes the reader as after _init, so that it reads on at a header. The message that was open
+ * is dropped: it has no end. So a session that broke off costs its own message alone. True if the record that can't be
+ * read is that header (LIS_REASON_SECOND_HEADER): give it again, from its first byte. Else go on at the next one, which
+ * lis_header_find finds. Plain C, in src/c/pieces.c. */
+bool lis_reader_resume(lis_reader *s);
+/* Where the next header begins among bytes: how many come before it, or all if none does. `*begins` is whether a record
+ * begins with the first byte, and is then whether one begins after the last one, for the next piece of a stream. What
+ * begins with H or h is a header here, whatever follows. Plain C, in src/c/pieces.c. */
+size_t lis_header_find(const uint8_t *bytes, size_t bytes_len, bool *begins);
 
 /* ---- A message as places in its text: no handle, no copy, no memory but the array. ---- */
 
@@ -708,8 +764,9 @@ typedef struct lis_message {
  * LIS_STATUS_TOO_SHORT: then as many are written as `out` has room for (`message->count` is how many there are; an
  * array of half as many as the text has bytes is never too short). LIS_STATUS_NO_RECORD if the text is empty.
  * LIS_STATUS_UNFINISHED if it doesn't begin with a whole message: `found` has why, with the number of the record, and
- * the records before that one are written. `message` and `found` are always written, as 0 where there is no message or
- * no fault; what is past the records in `out` stays as it was. */
+ * the records before that one are written; lis_header_find, with `*begins` false, finds where to go on. `message` and
+ * `found` are always written, as 0 where there is no message or no fault; what is past the records in `out` stays as it
+ * was. */
 lis_status lis_message_places(const uint8_t *text, size_t text_len, lis_record_place *out, size_t out_len,
                               lis_message *message, lis_found *found);
 
@@ -749,13 +806,13 @@ lis_status lis_writer_field(lis_writer *s, const uint8_t *bytes, size_t bytes_le
  * `field` is always written: with LIS_STATUS_FORBIDDEN the number of the first field at fault, else 0. */
 lis_status lis_writer_put(lis_writer *s, size_t *field);
 /* How many texts there are: one for each record that was put. */
-size_t lis_writer_texts(lis_writer *s);
+size_t lis_writer_texts(const lis_writer *s);
 /* How many bytes a text has with its CR, by its place from 0; 0 if there are not so many texts. */
-size_t lis_writer_text_len(lis_writer *s, size_t place);
+size_t lis_writer_text_len(const lis_writer *s, size_t place);
 /* Copies a text, by its place from 0, to the front of `out`; `size` is its length. LIS_STATUS_ABSENT if there are not
  * so many; LIS_STATUS_TOO_SHORT, which a buffer of lis_writer_text_len or of LIS_LIMIT_RECORD_BYTES + 1 bytes never is.
  * `size` is always written, as 0 if it fails. */
-lis_status lis_writer_text(lis_writer *s, size_t place, uint8_t *out, size_t out_len, size_t *size);
+lis_status lis_writer_text(const lis_writer *s, size_t place, uint8_t *out, size_t out_len, size_t *size);
 
 /* ---- Words, for logs: plain C (src/c/names.c), tested and not proved. ---- */
 
@@ -790,6 +847,8 @@ typedef struct rattle_tried {
     uint8_t *p;    /* the block; any pointer but null if there is none */
 } rattle_tried;
 
+/* These may be called by each thread that calls the library, also by two at once: handles of their own share the heap.
+ * The shared library always uses its own, over malloc. */
 /* A block of `size` bytes, which may be 0, at a multiple of 16 or of `align`, if that is more. */
 rattle_tried rattle_alloc(size_t size, size_t align);
 /* A block of `size` bytes with the first `kept` bytes of this one, which is given up. If there is no memory, this one
@@ -801,4 +860,7 @@ void rattle_dealloc(uint8_t *p);
 #ifdef __cplusplus
 }
 #endif
+#undef LIS_ENUM
+#undef LIS_ENUM_END
+#undef LIS_LOOKED_AT
 #endif

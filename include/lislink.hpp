@@ -154,6 +154,10 @@ public:
         assert(handle_.at != nullptr);
         return &handle_;
     }
+    const Handle *get() const noexcept {
+        assert(handle_.at != nullptr);
+        return &handle_;
+    }
 };
 
 // Whether a call says that it went well; one that gives nothing back did.
@@ -166,8 +170,11 @@ template <class Call, class... Words> bool went(Call &call, Words &&...words) {
     }
 }
 
-// A string that would be gone before its records are read.
-template <class Bytes> using if_dies = std::enable_if_t<std::is_same_v<Bytes, std::string>, int>;
+// Bytes that would be gone before their records are read: any rvalue that isn't a view or a pointer.
+template <class Bytes> inline constexpr bool is_view = std::is_same_v<std::remove_cv_t<Bytes>, std::string_view>
+    || std::is_pointer_v<std::remove_cv_t<Bytes>>;
+template <class Bytes> using if_dies = std::enable_if_t<
+    !std::is_reference_v<Bytes> && !is_view<Bytes> && std::is_convertible_v<Bytes, std::string_view>, int>;
 
 struct nothing {
     void operator()(const lis_step &) const noexcept {}
@@ -203,7 +210,7 @@ class scanner {
 
     void take_text(signal &found) {
         found.long_.resize(lis_scanner_text_len(own_.get()));
-        lis_scanner_text(own_.get(), detail::at(found.long_), found.long_.size());
+        (void)lis_scanner_text(own_.get(), detail::at(found.long_), found.long_.size());
     }
 
 public:
@@ -214,7 +221,9 @@ public:
     explicit operator bool() const noexcept { return static_cast<bool>(own_); }    // false if there was no memory
 
     // Sets how long the text of a frame may be, LIS_LIMIT_FRAME_TEXT or LIS_LIMIT_LONG_FRAME_TEXT, and begins anew.
-    lis_status try_set_frame_limit(std::size_t limit) noexcept { return lis_scanner_set_limit(own_.get(), limit); }
+    [[nodiscard]] lis_status try_set_frame_limit(std::size_t limit) noexcept {
+        return lis_scanner_set_limit(own_.get(), limit);
+    }
 #if defined(__cpp_exceptions)
     void set_frame_limit(std::size_t limit) { detail::check(try_set_frame_limit(limit)); }    // the same
 #endif
@@ -232,8 +241,8 @@ public:
 };
 
 // Makes the bytes of a frame; `place` is that of a byte that no text may hold.
-inline lis_status try_frame(std::uint8_t number, bool last, std::string_view text, std::string &out,
-                            std::size_t &place) {
+[[nodiscard]] inline lis_status try_frame(std::uint8_t number, bool last, std::string_view text, std::string &out,
+                                          std::size_t &place) {
     lis_bytes bytes;
     lis_status status = lis_frame_write(number, last, detail::at(text), text.size(), &bytes, &place);
     if (status == LIS_STATUS_OK)
@@ -242,8 +251,8 @@ inline lis_status try_frame(std::uint8_t number, bool last, std::string_view tex
 }
 
 // The same for a text of up to LIS_LIMIT_LONG_FRAME_TEXT bytes.
-inline lis_status try_long_frame(std::uint8_t number, bool last, std::string_view text, std::string &out,
-                                 std::size_t &place) {
+[[nodiscard]] inline lis_status try_long_frame(std::uint8_t number, bool last, std::string_view text,
+                                               std::string &out, std::size_t &place) {
     std::string bytes(text.size() + 7, '\0');
     std::size_t size = 0;
     lis_status status = lis_long_frame_write(number, last, detail::at(text), text.size(), detail::at(bytes),
@@ -255,7 +264,7 @@ inline lis_status try_long_frame(std::uint8_t number, bool last, std::string_vie
 
 #if defined(__cpp_exceptions)
 // The bytes of a frame.
-inline std::string frame(std::uint8_t number, bool last, std::string_view text) {
+[[nodiscard]] inline std::string frame(std::uint8_t number, bool last, std::string_view text) {
     std::string out;
     std::size_t place = 0;
     lis_status status = try_frame(number, last, text, out, place);
@@ -264,7 +273,7 @@ inline std::string frame(std::uint8_t number, bool last, std::string_view text) 
 }
 
 // The bytes of a frame whose text has up to LIS_LIMIT_LONG_FRAME_TEXT bytes.
-inline std::string long_frame(std::uint8_t number, bool last, std::string_view text) {
+[[nodiscard]] inline std::string long_frame(std::uint8_t number, bool last, std::string_view text) {
     std::string out;
     std::size_t place = 0;
     lis_status status = try_long_frame(number, last, text, out, place);
@@ -288,6 +297,10 @@ class sender {
         assert(own_);
         return &line_.sender;
     }
+    const lis_sender *get() const noexcept {
+        assert(own_);
+        return &line_.sender;
+    }
     std::string_view out() const noexcept { return detail::view(out_.bytes, out_.len); }
     void begin() noexcept {
         if (own_)
@@ -306,12 +319,12 @@ public:
     connection connected() noexcept { return connection{lis_line_connected(&line_)}; }
 
     // Adds a copy of a text to the next session.
-    lis_status try_add(std::string_view text) noexcept {
+    [[nodiscard]] lis_status try_add(std::string_view text) noexcept {
         return lis_sender_add_text(get(), detail::at(text), text.size());
     }
     // Starts a session: `out` is ENQ. LIS_STATUS_OLD_LINE before `connected`, and, from when a session timed out or was
     // restarted, until `connected` is called again. Once a session is over, its texts are gone, however it ended.
-    lis_status try_start(std::string_view &out) noexcept {
+    [[nodiscard]] lis_status try_start(std::string_view &out) noexcept {
         lis_status status = lis_line_start(&line_, &out_, &fault_);
         out = status == LIS_STATUS_OK ? this->out() : std::string_view();
         return status;
@@ -321,7 +334,7 @@ public:
 #if defined(__cpp_exceptions)
     void add(std::string_view text) { detail::check(try_add(text)); }    // as try_add
     // Starts a session, as try_start; returns ENQ.
-    std::string_view start() {
+    [[nodiscard]] std::string_view start() {
         std::string_view enq;
         lis_status status = try_start(enq);
         detail::check(status, fault_.index, fault_.place, at_fault::text);
@@ -332,8 +345,8 @@ public:
 
     // Sets how long the text of a frame may be, LIS_LIMIT_FRAME_TEXT or LIS_LIMIT_LONG_FRAME_TEXT, while no session
     // goes on, and makes the sender new; the texts of the next session stay. If there is no memory it throws
-    // std::bad_alloc, and the sender is as it was.
-    lis_status try_set_frame_limit(std::size_t limit) {
+    // std::bad_alloc, and the sender is as it was. With the long limit its calls need a stack of a megabyte.
+    [[nodiscard]] lis_status try_set_frame_limit(std::size_t limit) {
         std::string room(limit == LIS_LIMIT_LONG_FRAME_TEXT ? LIS_LIMIT_LONG_FRAME_BYTES : 0, '\0');
         lis_status status = lis_sender_set_limit(get(), limit);
         if (status == LIS_STATUS_OK)
@@ -345,7 +358,7 @@ public:
 #endif
 
     // A byte came over a connection: what is to be sent.
-    std::string_view reply(connection from, std::uint8_t byte) noexcept {
+    [[nodiscard]] std::string_view reply(connection from, std::uint8_t byte) noexcept {
         std::size_t size = 0;
         auto line = static_cast<std::uint64_t>(from);
         lis_line_reply(&line_, line, byte, &out_);
@@ -355,28 +368,20 @@ public:
         return std::string_view(long_).substr(0, size);
     }
     // The time of `patience` is over: what is to be sent.
-    std::string_view timer() noexcept {
+    [[nodiscard]] std::string_view timer() noexcept {
         lis_line_timer(&line_, &out_);
         return out();
     }
     void restart() noexcept { lis_line_restart(&line_); }    // gives up the session that goes on
 
-    lis_phase phase() noexcept { return lis_sender_phase(get()); }          // what the sender waits for
-    lis_outcome outcome() noexcept { return lis_sender_outcome(get()); }    // how the last session ended
+    lis_phase phase() const noexcept { return lis_sender_phase(get()); }          // what the sender waits for
+    lis_outcome outcome() const noexcept { return lis_sender_outcome(get()); }    // how the last session ended
     // How many frames of the session are acknowledged.
-    std::uint64_t acknowledged() noexcept { return lis_sender_acknowledged(get()); }
+    std::uint64_t acknowledged() const noexcept { return lis_sender_acknowledged(get()); }
     // How long the phase lasts before its timer runs out; none if no timer runs.
-    std::optional<std::chrono::seconds> patience() noexcept {
-        switch (phase()) {
-        case LIS_PHASE_NEUTRAL:
-            return std::nullopt;
-        case LIS_PHASE_BUSY:
-            return std::chrono::seconds(LIS_SECONDS_BUSY);
-        case LIS_PHASE_CONTENTION:
-            return std::chrono::seconds(LIS_SECONDS_CONTENTION);
-        default:
-            return std::chrono::seconds(LIS_SECONDS_REPLY);
-        }
+    std::optional<std::chrono::seconds> patience() const noexcept {
+        std::uint32_t seconds = 0;
+        return lis_sender_timer_seconds(get(), &seconds) ? std::optional(std::chrono::seconds(seconds)) : std::nullopt;
     }
 };
 
@@ -386,6 +391,7 @@ class receiver {
     std::string text_;
 
     lis_receiver *get() noexcept { return own_.get(); }
+    const lis_receiver *get() const noexcept { return own_.get(); }
 
     // The text that is complete, in `text_`; false if there is no memory for it.
     bool copy_text() {
@@ -518,19 +524,22 @@ public:
     // Says whether there is room for another frame from now on; without it a new frame is answered NAK.
     void set_room(bool room) noexcept { lis_receiver_set_room(get(), room); }
     // Says how ENQ is answered from now on.
-    void set_ready(lis_ready readiness) noexcept { lis_receiver_set_ready(get(), readiness); }
+    void set_ready(lis_ready readiness) noexcept { (void)lis_receiver_set_ready(get(), readiness); }
     // Makes room for so many more bytes of text.
-    lis_status try_reserve(std::uint64_t bytes) noexcept { return lis_receiver_reserve(get(), bytes); }
+    [[nodiscard]] lis_status try_reserve(std::uint64_t bytes) noexcept { return lis_receiver_reserve(get(), bytes); }
     // Sets how long the text of a frame may be, LIS_LIMIT_FRAME_TEXT or LIS_LIMIT_LONG_FRAME_TEXT, and makes the
     // receiver new.
-    lis_status try_set_frame_limit(std::size_t limit) noexcept { return lis_receiver_set_limit(get(), limit); }
+    [[nodiscard]] lis_status try_set_frame_limit(std::size_t limit) noexcept {
+        return lis_receiver_set_limit(get(), limit);
+    }
 #if defined(__cpp_exceptions)
     void reserve(std::uint64_t bytes) { detail::check(try_reserve(bytes)); }                  // as try_reserve
     void set_frame_limit(std::size_t limit) { detail::check(try_set_frame_limit(limit)); }    // as try_set_frame_limit
 #endif
-    bool is_open() noexcept { return lis_receiver_is_open(get()); }               // whether its timer runs
-    std::uint64_t accepted() noexcept { return lis_receiver_accepted(get()); }    // frames, since the line was opened
-    std::uint64_t held() noexcept { return lis_receiver_held(get()); }            // bytes of a text that isn't complete
+    bool is_open() const noexcept { return lis_receiver_is_open(get()); }    // whether its timer runs
+    // How many frames were accepted since the line was opened.
+    std::uint64_t accepted() const noexcept { return lis_receiver_accepted(get()); }
+    std::uint64_t held() const noexcept { return lis_receiver_held(get()); }    // bytes of a text that isn't complete
 };
 
 // Reads the records of a stream that comes in pieces: for (auto &record : reader.feed(bytes)) ..
@@ -538,8 +547,12 @@ class reader {
     detail::owner<lis_reader, lis_reader_size, lis_reader_align, lis_reader_init, lis_reader_end> own_;
     lis_found found_{};
     lis_delimiters delimiters_{'|', '\\', '^', '&'};
-    std::size_t before_ = 0;         // how many bytes of the record came in earlier pieces: the library holds them
+    std::string held_;               // the bytes of a record that came in earlier pieces, which the library holds too
     std::string copy_;               // the text of a record that began in an earlier piece
+    std::string_view left_;          // of the last piece, from a record on that can't be read
+    std::uint64_t read_ = 0;         // how many bytes were read, up to the end of a record
+    bool searches_ = false;          // whether a header is searched for
+    bool begins_ = false;            // and then whether a record begins with the next byte
     std::string_view text_;          // of the record that was read last
     std::vector<lis_part> parts_;
     std::size_t count_ = 0;
@@ -549,17 +562,28 @@ class reader {
 
     // The record that ended: its text, and the delimiters that a header declares.
     void take(std::string_view text) {
-        std::size_t before = std::exchange(before_, 0), size = 0;
+        read_ += held_.size() + text.size() + 1;
         split_ = false;
         text_ = text;
-        if (before > 0) {
-            copy_.resize(before + text.size());
-            lis_reader_text(get(), detail::at(copy_), copy_.size(), &size);
+        if (!held_.empty()) {
+            copy_.swap(held_);
+            held_.clear();
+            copy_ += text;
             text_ = copy_;
         }
         lis_record header;
         if (found_.letter == 'H')
-            lis_header_read(detail::at(text_), text_.size(), &delimiters_, &header);
+            (void)lis_header_read(detail::at(text_), text_.size(), &delimiters_, &header);
+    }
+
+    // Takes what comes before the next header, if one is searched for.
+    void search(std::string_view &bytes) noexcept {
+        if (!searches_)
+            return;
+        std::size_t before = lis_header_find(detail::at(bytes), bytes.size(), &begins_);
+        searches_ = before == bytes.size();
+        read_ += before;
+        bytes.remove_prefix(before);
     }
 
     // All parts of the record. It has fewer than it has bytes.
@@ -569,25 +593,28 @@ class reader {
         if (parts_.size() < text_.size())
             parts_.resize(text_.size());
         lis_table table;
-        lis_reader_parts(get(), parts_.data(), parts_.size(), &table);
+        (void)lis_reader_parts(get(), parts_.data(), parts_.size(), &table);
         count_ = table.count;
         split_ = true;
     }
 
     // Reads on to the end of a record; false if there is none in these bytes, or one that can't be read.
     bool next(std::string_view &bytes) {
+        search(bytes);
         std::string_view rest = bytes;
         while (!rest.empty()) {
             rest.remove_prefix(lis_reader_read(get(), detail::at(rest), rest.size(), &found_));
-            if (found_.kind == LIS_FOUND_REFUSED)
+            if (found_.kind == LIS_FOUND_REFUSED) {
+                left_ = bytes;
                 return false;
+            }
             if (found_.kind == LIS_FOUND_RECORD) {
                 take(bytes.substr(0, bytes.size() - rest.size() - 1));
                 bytes = rest;
                 return true;
             }
         }
-        before_ += bytes.size();
+        held_ += bytes;
         bytes = rest;
         return false;
     }
@@ -624,7 +651,7 @@ public:
             std::string out(raw(part));
             std::size_t size = out.size();
             if (part.flags & LIS_PART_ESCAPED)
-                lis_part_decode(&delimiters(), detail::at(raw(part)), part.len, detail::at(out), part.len, &size);
+                (void)lis_part_decode(&delimiters(), detail::at(raw(part)), part.len, detail::at(out), part.len, &size);
             out.resize(size);
             return out;
         }
@@ -704,13 +731,31 @@ public:
     records<false> try_feed(std::string_view bytes) noexcept { return {*this, bytes}; }
     template <class Bytes, detail::if_dies<Bytes> = 0> void try_feed(Bytes &&) = delete;
     // The end of the stream: LIS_STATUS_UNFINISHED if a message or a record isn't ended.
-    lis_status try_finish() noexcept { return lis_reader_finish(get(), &found_); }
+    [[nodiscard]] lis_status try_finish() noexcept { return lis_reader_finish(get(), &found_); }
     // The record that can't be read, of the last piece or of the end.
     std::optional<lis_found> refused() const noexcept {
         if (found_.kind == LIS_FOUND_REFUSED)
             return found_;
         return std::nullopt;
     }
+    // After a record that can't be read: goes on at the next header, which may be that record. It gives the bytes of
+    // the last piece that are left, to be fed again. The message that was open is dropped: it has no end.
+    [[nodiscard]] std::string_view resume() {
+        begins_ = lis_reader_resume(get());
+        searches_ = true;
+        found_ = lis_found{};
+        std::string held;
+        held.swap(held_);
+        std::string_view header = held;
+        search(header);
+        if (!header.empty()) {    // the library holds it again
+            lis_reader_read(get(), detail::at(header), header.size(), &found_);
+            held_.swap(held);
+        }
+        return std::exchange(left_, std::string_view());
+    }
+    // How many bytes of the stream were read: up to the end of the last record, or up to the one that can't be read.
+    std::uint64_t read() const noexcept { return read_; }
 };
 
 // A message as places in its text: its records, each with the one that it is under. No byte is copied: the text stays
@@ -724,7 +769,7 @@ class message {
 public:
     // Reads the message that a text begins with, and takes it from the front of the text; false where the text is empty
     // or doesn't begin with a whole message: then `refused` has why. The message is the one that was read last.
-    bool try_read(std::string_view &text) {
+    [[nodiscard]] bool try_read(std::string_view &text) {
         auto read = [&](std::size_t room) {
             places_.resize(room);
             return lis_message_places(detail::at(text), text.size(), places_.data(), room, &told_, &found_);
@@ -739,13 +784,18 @@ public:
     }
 #if defined(__cpp_exceptions)
     // As try_read; a text that doesn't begin with a whole message throws message_error, and false is for an empty one.
-    bool read(std::string_view &text) {
+    [[nodiscard]] bool read(std::string_view &text) {
         bool has = try_read(text);
         if (found_.kind == LIS_FOUND_REFUSED)
             throw message_error(found_);
         return has;
     }
 #endif
+    // Takes what can't be read from the front of a text, up to the next header.
+    static void skip(std::string_view &text) noexcept {
+        bool begins = false;
+        text.remove_prefix(lis_header_find(detail::at(text), text.size(), &begins));
+    }
     // The record that can't come next, or where the text ended too early.
     std::optional<lis_found> refused() const noexcept {
         return found_.kind == LIS_FOUND_REFUSED ? std::optional(found_) : std::nullopt;
@@ -789,6 +839,7 @@ class writer {
     std::size_t field_ = 0;
 
     lis_writer *get() noexcept { return own_.get(); }
+    const lis_writer *get() const noexcept { return own_.get(); }
 
 public:
 #if defined(__cpp_exceptions)
@@ -798,23 +849,27 @@ public:
     explicit operator bool() const noexcept { return static_cast<bool>(own_); }    // false if there was no memory
 
     // Drops all that was written, and begins with these delimiters.
-    lis_status try_start(const lis_delimiters &delimiters) noexcept { return lis_writer_start(get(), &delimiters); }
+    [[nodiscard]] lis_status try_start(const lis_delimiters &delimiters) noexcept {
+        return lis_writer_start(get(), &delimiters);
+    }
     // Begins a record by the letter of its kind.
-    lis_status try_record(char letter) noexcept { return lis_writer_record(get(), static_cast<std::uint8_t>(letter)); }
+    [[nodiscard]] lis_status try_record(char letter) noexcept {
+        return lis_writer_record(get(), static_cast<std::uint8_t>(letter));
+    }
     // Writes a component that another one of the same repeat follows.
-    lis_status try_component(std::string_view bytes) noexcept {
+    [[nodiscard]] lis_status try_component(std::string_view bytes) noexcept {
         return lis_writer_component(get(), detail::at(bytes), bytes.size());
     }
     // Writes the last component of a repeat that another repeat of the field follows.
-    lis_status try_repeat(std::string_view bytes) noexcept {
+    [[nodiscard]] lis_status try_repeat(std::string_view bytes) noexcept {
         return lis_writer_repeat(get(), detail::at(bytes), bytes.size());
     }
     // Writes the last component of a field, for most fields the only one.
-    lis_status try_field(std::string_view bytes) noexcept {
+    [[nodiscard]] lis_status try_field(std::string_view bytes) noexcept {
         return lis_writer_field(get(), detail::at(bytes), bytes.size());
     }
     // Puts the record after the others.
-    lis_status try_put() noexcept { return lis_writer_put(get(), &field_); }
+    [[nodiscard]] lis_status try_put() noexcept { return lis_writer_put(get(), &field_); }
     // The field that the last put failed for, 0 if none is at fault.
     std::size_t field_at_fault() const noexcept { return field_; }
 #if defined(__cpp_exceptions)
@@ -831,9 +886,9 @@ public:
         return detail::check(status, field_, 0, at_fault::field), *this;
     }
 #endif
-    std::size_t size() noexcept { return lis_writer_texts(get()); }    // how many records were put
+    std::size_t size() const noexcept { return lis_writer_texts(get()); }    // how many records were put
     // The text of a record that was put, with its CR, by its place from 0; none if there are not so many.
-    std::optional<std::string> text(std::size_t place) {
+    std::optional<std::string> text(std::size_t place) const {
         std::string out(lis_writer_text_len(get(), place), '\0');
         std::size_t size = 0;
         if (lis_writer_text(get(), place, detail::at(out), out.size(), &size) != LIS_STATUS_OK)

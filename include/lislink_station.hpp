@@ -19,6 +19,7 @@ class station {
     bool spent_ = true;     // whether a late reply may come
 
     lis_station *get() noexcept { return own_.get(); }
+    const lis_station *get() const noexcept { return own_.get(); }
 
     // The text that is complete, in `text_`; false if there is no memory for it.
     bool copy_text() {
@@ -92,7 +93,7 @@ public:
     void begin(lis_role role, std::size_t limit = LIS_LIMIT_FRAME_TEXT) { detail::check(try_begin(role, limit)); }
     void add(std::string_view text) { detail::check(try_add(text)); }    // as try_add
     // Asks for the line, as try_start; returns ENQ.
-    std::string_view start() {
+    [[nodiscard]] std::string_view start() {
         std::string_view enq;
         lis_status status = try_start(enq);
         detail::check(status, fault_.index, fault_.place, at_fault::text);
@@ -104,8 +105,9 @@ public:
     explicit station(std::nothrow_t) noexcept : own_(std::nothrow) {}
     explicit operator bool() const noexcept { return static_cast<bool>(own_); }    // false if there was no memory
 
-    // As begin. If there is no memory it throws std::bad_alloc, and the station is as it was.
-    lis_status try_begin(lis_role role, std::size_t limit = LIS_LIMIT_FRAME_TEXT) {
+    // As begin. If there is no memory it throws std::bad_alloc, and the station is as it was. With the long limit its
+    // calls need a stack of a megabyte.
+    [[nodiscard]] lis_status try_begin(lis_role role, std::size_t limit = LIS_LIMIT_FRAME_TEXT) {
         std::string room(limit == LIS_LIMIT_LONG_FRAME_TEXT ? LIS_LIMIT_LONG_FRAME_BYTES : 0, '\0');
         bool session = phase() != LIS_PHASE_NEUTRAL;
         lis_status status = lis_station_begin(get(), role, limit);
@@ -122,13 +124,13 @@ public:
         spent_ = false;
     }
     // Adds a copy of a text to the next session.
-    lis_status try_add(std::string_view text) noexcept {
+    [[nodiscard]] lis_status try_add(std::string_view text) noexcept {
         return lis_station_add_text(get(), detail::at(text), text.size());
     }
     void clear() noexcept { lis_station_clear(get()); }    // drops the texts of the next session
     // Asks for the line: `out` is ENQ. LIS_STATUS_OLD_LINE before `connected`, and, from when a session timed out or
     // was given up, until `connected` is called again; LIS_STATUS_LINE_OPEN while the other side has the line.
-    lis_status try_start(std::string_view &out) noexcept {
+    [[nodiscard]] lis_status try_start(std::string_view &out) noexcept {
         out = std::string_view();
         fault_ = lis_place{};
         if (spent_)
@@ -140,6 +142,9 @@ public:
     }
     // Which text and which byte of it the last start failed for.
     lis_place fault() const noexcept { return fault_; }
+    // Whether a late reply could meet the next ENQ, that of a start or the one after a wait: over a line that answers
+    // late, connect it anew first.
+    bool needs_new_line() const noexcept { return spent_ || phase() != LIS_PHASE_NEUTRAL; }
 
     // Hears bytes up to the first answer, or all of them if there is none, and takes them from the front of `bytes`. If
     // there is no memory for a text, the line is closed, and the note says so.
@@ -164,17 +169,17 @@ public:
         return answer_due(*this, answer_.send.len > 0);
     }
     // How long the timer runs before it is over; none if no timer runs.
-    std::optional<std::chrono::seconds> patience() noexcept {
+    std::optional<std::chrono::seconds> patience() const noexcept {
         std::uint32_t seconds = 0;
         return lis_station_timer_seconds(get(), &seconds) ? std::optional(std::chrono::seconds(seconds)) : std::nullopt;
     }
     // How long the line should be left to the other side, which waits for its turn; none if it doesn't wait.
-    std::optional<std::chrono::seconds> turn() noexcept {
+    std::optional<std::chrono::seconds> turn() const noexcept {
         std::uint32_t seconds = lis_station_turn_seconds(get());
         return seconds > 0 ? std::optional(std::chrono::seconds(seconds)) : std::nullopt;
     }
     // Whether the other side asked for its turn, and hasn't had the line since.
-    bool turn_asked() noexcept { return lis_station_turn_asked(get()); }
+    bool turn_asked() const noexcept { return lis_station_turn_asked(get()); }
     // While the other side has the line: asks it to let this side send.
     void ask_turn() noexcept { lis_station_ask_turn(get()); }
 
@@ -192,17 +197,17 @@ public:
     // Says whether the other side gets the line from now on: its ENQ is answered ACK, or NAK.
     void set_ready(bool ready) noexcept { lis_station_set_ready(get(), ready); }
     // Makes room for so many more bytes of text.
-    lis_status try_reserve(std::uint64_t bytes) noexcept { return lis_station_reserve(get(), bytes); }
+    [[nodiscard]] lis_status try_reserve(std::uint64_t bytes) noexcept { return lis_station_reserve(get(), bytes); }
 
-    bool awaits_reply() noexcept { return lis_station_awaits_reply(get()); }    // whether the next byte is a reply
-    lis_phase phase() noexcept { return lis_station_phase(get()); }             // what its sender waits for
-    lis_outcome outcome() noexcept { return lis_station_outcome(get()); }       // how its last session ended
+    bool awaits_reply() const noexcept { return lis_station_awaits_reply(get()); }    // the next byte is a reply
+    lis_phase phase() const noexcept { return lis_station_phase(get()); }             // what its sender waits for
+    lis_outcome outcome() const noexcept { return lis_station_outcome(get()); }       // how its last session ended
     // How many frames of its own session are acknowledged.
-    std::uint64_t acknowledged() noexcept { return lis_station_acknowledged(get()); }
-    bool is_open() noexcept { return lis_station_is_open(get()); }    // whether the other side has the line
+    std::uint64_t acknowledged() const noexcept { return lis_station_acknowledged(get()); }
+    bool is_open() const noexcept { return lis_station_is_open(get()); }    // whether the other side has the line
     // How many frames were accepted since the other side got the line.
-    std::uint64_t accepted() noexcept { return lis_station_accepted(get()); }
-    std::uint64_t held() noexcept { return lis_station_held(get()); }    // bytes of a text that isn't complete
+    std::uint64_t accepted() const noexcept { return lis_station_accepted(get()); }
+    std::uint64_t held() const noexcept { return lis_station_held(get()); }    // bytes of a text that isn't complete
 };
 
 } // namespace lislink

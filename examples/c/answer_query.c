@@ -1,11 +1,12 @@
 /* A computer that answers queries on the line that is its standard input: answer_query FILE <>/dev/ttyUSB0. It appends
- * each text to a file before it is acknowledged, and sends the orders for the sample that the analyzer asked for (Q) in
- * a session of its own. Make a serial port raw first (quick_receive.c says how).
+ * each text to a file before it is acknowledged, and sends the orders for the samples that the analyzer asked for (Q)
+ * in a session of its own. Make a serial port raw first (quick_receive.c says how).
  *
  * It ends, with status 1, if a session of its own failed, a text can't be kept, or a reply would be late: the line is
  * then taken anew. */
+#include "keep.h"
+
 #include <lislink.h>
-#include <fcntl.h>
 #include <poll.h>
 #include <stdio.h>
 #include <stdlib.h>
@@ -13,19 +14,26 @@
 #include <time.h>
 #include <unistd.h>
 
-enum { LATE = LIS_SECONDS_REPLY * 2 / 3, SAMPLE = 24 };
+enum { LATE = LIS_SECONDS_REPLY * 2 / 3 };
 
 typedef struct computer {
     lis_station station;
-    int store;
-    char sample[SAMPLE + 1];    /* what the session that goes on asks for; empty if nothing */
-    bool is_asked, is_sending;  /* whether orders are to be sent, or are being sent */
+    lis_reader reader;          /* of the analyzer's session, at its end */
+    lis_writer orders;          /* those that are to be sent, without the message's end */
+    text_file store;
+    uint8_t *texts;             /* of the session that goes on */
+    size_t len, asked;          /* how many bytes these are; for how many samples there are orders */
+    bool is_sending;            /* whether orders are being sent */
     long long due, free_at;     /* when the timer is over, less than 0 if none runs; when the line is this side's */
 } computer;
 
+#ifndef CLOCK_BOOTTIME
+#define CLOCK_BOOTTIME CLOCK_MONOTONIC
+#endif
+
 static long long now(void) {
     struct timespec now;
-    clock_gettime(CLOCK_MONOTONIC, &now);
+    clock_gettime(CLOCK_BOOTTIME, &now);    /* it runs on while the machine is suspended */
     return now.tv_sec * 1000LL + now.tv_nsec / 1000000;
 }
 
@@ -35,25 +43,66 @@ static void run_timer(computer *its) {
     its->due = lis_station_timer_seconds(&its->station, &seconds) ? now() + seconds * 1000LL : -1;
 }
 
-/* The sample that a query is for: the second component of field 3. */
-static void read_query(computer *its, const uint8_t *text, size_t len) {
-    static const lis_delimiters usual = {'|', '\\', '^', '&'};
-    size_t size;
-    if (len > 1 && text[0] == 'Q'
-        && lis_record_part(&usual, text, len - 1, 3, 0, 1, (uint8_t *)its->sample, SAMPLE, &size) == LIS_STATUS_OK)
-        its->sample[size] = 0;
+/* Parts of the record that is being written; whether there is memory for them. */
+static bool field(lis_writer *orders, const void *bytes, size_t len) {
+    return lis_writer_field(orders, bytes, len) == LIS_STATUS_OK;
 }
 
-/* Appends the text that is complete to the file; whether it is on the disk. */
+static bool blank(lis_writer *orders) {
+    return lis_writer_component(orders, (const uint8_t *)"", 0) == LIS_STATUS_OK;
+}
+
+static bool put(lis_writer *orders) {
+    size_t fault;
+    return lis_writer_put(orders, &fault) == LIS_STATUS_OK;
+}
+
+static bool begin(lis_writer *orders, uint8_t letter) {
+    return lis_writer_record(orders, letter) == LIS_STATUS_OK;
+}
+
+/* Writes an order of glucose for a sample; whether it could. */
+static bool add_order(computer *its, const uint8_t *sample, size_t len) {
+    lis_writer *to = &its->orders;
+    char number[24];
+    if (its->asked == 0 && !(begin(to, 'H') && put(to)))
+        return false;
+    int digits = snprintf(number, sizeof number, "%zu", ++its->asked);
+    return begin(to, 'P') && field(to, number, (size_t)digits) && put(to)
+        && begin(to, 'O') && field(to, "1", 1) && field(to, sample, len) && field(to, "", 0)
+        && blank(to) && blank(to) && blank(to) && field(to, "GLU", 3) && put(to);
+}
+
+/* Writes an order for each sample that the session asked for: the second component of field 3 of a query. */
+static bool add_orders(computer *its) {
+    uint8_t *sample = malloc(its->len + 1);
+    bool good = sample != NULL;
+    lis_found found = {0};
+    size_t size;
+    lis_reader_end(its->reader);
+    lis_reader_init(its->reader.at);
+    for (size_t read = 0; good && read < its->len && found.kind != LIS_FOUND_REFUSED;) {
+        read += lis_reader_read(&its->reader, its->texts + read, its->len - read, &found);
+        if (found.kind == LIS_FOUND_RECORD && found.letter == 'Q'
+            && lis_reader_part(&its->reader, 3, 0, 1, sample, its->len, &size) == LIS_STATUS_OK && size > 0)
+            good = add_order(its, sample, size);
+    }
+    free(sample);
+    return good;
+}
+
+/* Appends the text that is complete to the file, and to those of its session; whether it is on the disk. */
 static bool keep(computer *its) {
     size_t len = lis_station_text_len(&its->station);
-    uint8_t *text = malloc(len + 1);
-    bool kept = text != NULL && lis_station_text(&its->station, text, len) == LIS_STATUS_OK
-                && write(its->store, text, len) == (ssize_t)len && fsync(its->store) == 0;
-    if (kept)
-        read_query(its, text, len);
-    free(text);
-    return kept;
+    uint8_t *texts = realloc(its->texts, its->len + len + 1);
+    if (texts == NULL)
+        return false;
+    its->texts = texts;
+    if (lis_station_text(&its->station, texts + its->len, len) != LIS_STATUS_OK
+        || !keep_text(&its->store, texts + its->len, len))
+        return false;
+    its->len += len;
+    return true;
 }
 
 /* Keeps what an answer delivers, and sends what it says; whether both went well, in time. */
@@ -63,30 +112,33 @@ static bool take(computer *its, const lis_answer *answer, long long since, int l
     if (answer->send.len > 0 && write(line, answer->send.bytes, answer->send.len) != (ssize_t)answer->send.len)
         return false;
     if (answer->step.note == LIS_NOTE_OPENED)
-        its->sample[0] = 0;                                               /* a session that failed comes again, whole */
-    if (answer->step.note == LIS_NOTE_ENDED)
-        its->is_asked = its->is_asked || its->sample[0] != 0;
+        its->len = 0;                                                     /* a session that failed comes again, whole */
+    if (answer->step.note == LIS_NOTE_ENDED && !add_orders(its))
+        return false;
     if (!answer->is_step || answer->step.note != LIS_NOTE_QUIET)
         run_timer(its);
     return true;
 }
 
-/* Starts a session with an order of glucose for the sample; whether ENQ goes out. */
+/* Starts a session with the orders; whether ENQ goes out. */
 static bool start(computer *its, int line) {
-    char order[SAMPLE + 20];
-    const char *texts[] = {"H|\\^&\r", "P|1\r", order, "L|1|F\r"};
+    static const lis_delimiters usual = {'|', '\\', '^', '&'};
+    static uint8_t text[LIS_LIMIT_RECORD_BYTES + 1];
     lis_bytes out;
     lis_place fault;
-    snprintf(order, sizeof order, "O|1|%s||^^^GLU\r", its->sample);
-    for (size_t i = 0; i < sizeof texts / sizeof *texts; i++)
-        if (lis_station_add_text(&its->station, (const uint8_t *)texts[i], strlen(texts[i])) != LIS_STATUS_OK)
+    size_t size;
+    if (!(begin(&its->orders, 'L') && field(&its->orders, "1", 1) && field(&its->orders, "F", 1) && put(&its->orders)))
+        return false;
+    for (size_t i = 0; i < lis_writer_texts(&its->orders); i++)
+        if (lis_writer_text(&its->orders, i, text, sizeof text, &size) != LIS_STATUS_OK
+            || lis_station_add_text(&its->station, text, size) != LIS_STATUS_OK)
             return false;
     if (lis_station_start(&its->station, &out, &fault) != LIS_STATUS_OK || write(line, out.bytes, out.len) != 1)
         return false;
-    its->is_asked = false;
+    its->asked = 0;
     its->is_sending = true;
     run_timer(its);
-    return true;
+    return lis_writer_start(&its->orders, &usual) == LIS_STATUS_OK;
 }
 
 /* Looks how a session of its own ended, and starts one, if the line is free; whether the line can be used on. */
@@ -99,7 +151,7 @@ static bool turn(computer *its, int line) {
         if (lis_station_outcome(&its->station) != LIS_OUTCOME_DONE)
             return false;                                                 /* a late reply may be on its way */
     }
-    if (!its->is_asked || its->is_sending || is_open || (left > 0 && now() < its->free_at))
+    if (its->asked == 0 || its->is_sending || is_open || (left > 0 && now() < its->free_at))
         return true;
     return start(its, line);
 }
@@ -144,14 +196,22 @@ static int run(computer *its, int line) {
 
 int main(int count, char **words) {
     computer its = {.due = -1};
-    its.store = count == 2 ? open(words[1], O_WRONLY | O_CREAT | O_APPEND, 0600) : -1;
     its.station.at = malloc(lis_station_size());
-    if (its.store < 0 || its.station.at == NULL)
+    its.reader.at = malloc(lis_reader_size());
+    its.orders.at = malloc(lis_writer_size());
+    if (count != 2 || !its.station.at || !its.reader.at || !its.orders.at || !open_texts(&its.store, words[1]))
         return 1;
     lis_station_init(its.station.at);                                     /* a computer's */
+    lis_reader_init(its.reader.at);
+    lis_writer_init(its.orders.at);
     int status = run(&its, 0);
     lis_station_end(its.station);
+    lis_reader_end(its.reader);
+    lis_writer_end(its.orders);
     free(its.station.at);
-    close(its.store);
+    free(its.reader.at);
+    free(its.orders.at);
+    free(its.texts);
+    close(its.store.file);
     return status;
 }

@@ -67,8 +67,9 @@ rattle_tried rattle_realloc(uint8_t *p, size_t kept, size_t size, size_t align) 
     return answer;
 }
 
-/* The blocks; `run` compares their sizes with what the library asks for. */
-static _Alignas(16) uint8_t scanner_block[320], sender_block[128], receiver_block[512];
+/* The blocks, by the constants of the header. */
+static _Alignas(LIS_BLOCK_ALIGN) uint8_t scanner_block[LIS_SCANNER_BLOCK], sender_block[LIS_SENDER_BLOCK];
+static _Alignas(LIS_BLOCK_ALIGN) uint8_t receiver_block[LIS_RECEIVER_BLOCK];
 static lis_bytes out;
 static lis_signal signal;
 static uint8_t text[1000];
@@ -77,7 +78,7 @@ static int hear_a_frame(void) {
     static const uint8_t header[] = "H|\\^&\r";
     lis_scanner scanner = {scanner_block};
     size_t place;
-    if (lis_scanner_size() > sizeof scanner_block || 16 % lis_scanner_align() != 0)
+    if (lis_scanner_size() > sizeof scanner_block || LIS_BLOCK_ALIGN % lis_scanner_align() != 0)
         return 1;
     lis_scanner_init(scanner.at);
     if (lis_frame_write(1, true, header, 6, &out, &place) != LIS_STATUS_OK)

@@ -36,9 +36,13 @@ typedef bool host_takes(void *keeper, const uint8_t *text, size_t len);
  * memory. */
 int host(int line, host_takes *takes, void *keeper, int percent);
 
+#ifndef CLOCK_BOOTTIME
+#define CLOCK_BOOTTIME CLOCK_MONOTONIC
+#endif
+
 static inline long long milliseconds(void) {
     struct timespec now;
-    clock_gettime(CLOCK_MONOTONIC, &now);
+    clock_gettime(CLOCK_BOOTTIME, &now);    /* it runs on while the machine is suspended */
     return now.tv_sec * 1000LL + now.tv_nsec / 1000000;
 }
 

@@ -33,16 +33,21 @@ int main(void) {
     static uint8_t input[1 << 20];
     static lis_record_place places[sizeof input / 2];    /* a record has two bytes at least */
     size_t len = fread(input, 1, sizeof input, stdin), done = 0;
+    bool good = true;
     lis_message message;
     lis_found found;
     lis_status status;
     while ((status = lis_message_places(input + done, len - done, places, sizeof places / sizeof *places, &message,
-                                        &found)) == LIS_STATUS_OK) {
-        print_results(&message, input + done, places);
-        done += message.len;
+                                        &found)) != LIS_STATUS_NO_RECORD) {
+        bool begins = false;
+        if (status == LIS_STATUS_OK) {
+            print_results(&message, input + done, places);
+            done += message.len;
+            continue;
+        }
+        fprintf(stderr, "record %u: %s\n", (unsigned)found.number, lis_reason_text(found.reason));
+        done += lis_header_find(input + done, len - done, &begins);    /* the next message */
+        good = false;
     }
-    if (status == LIS_STATUS_NO_RECORD)    /* nothing is left */
-        return 0;
-    fprintf(stderr, "record %u: %s\n", (unsigned)found.number, lis_reason_text(found.reason));
-    return 1;
+    return good ? 0 : 1;
 }

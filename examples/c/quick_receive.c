@@ -1,30 +1,30 @@
 /* Receives texts on the line that is its standard input, and appends them to a file: quick_receive FILE <>/dev/ttyUSB0.
  * Make a serial port raw first: stty -F /dev/ttyUSB0 9600 cs8 -parenb -cstopb clocal raw -echo -iexten; or open it as
  * serial.c does. Each text is on the disk before it is acknowledged. (host.c runs the receiver's timer too.) */
+#include "keep.h"
+
 #include <lislink.h>
-#include <fcntl.h>
 #include <poll.h>
 #include <stdlib.h>
 #include <time.h>
 #include <unistd.h>
 
+#ifndef CLOCK_BOOTTIME
+#define CLOCK_BOOTTIME CLOCK_MONOTONIC
+#endif
+
 static time_t now(void) {
     struct timespec now;
-    clock_gettime(CLOCK_MONOTONIC, &now);
+    clock_gettime(CLOCK_BOOTTIME, &now);    /* it runs on while the machine is suspended */
     return now.tv_sec;
 }
 
-/* Appends the text that is complete to a file, or leaves the file as it was. */
-static bool keep(lis_receiver *receiver, int store) {
+/* Appends the text that is complete to the file; whether it is on the disk. */
+static bool keep(lis_receiver *receiver, text_file *store) {
     size_t len = lis_receiver_text_len(receiver);
     uint8_t *text = malloc(len + 1);
-    off_t end = lseek(store, 0, SEEK_END);
-    bool got = text != NULL && lis_receiver_text(receiver, text, len) == LIS_STATUS_OK;
-    ssize_t put = got ? write(store, text, len) : -1;
-    bool kept = put == (ssize_t)len && fsync(store) == 0;
+    bool kept = text != NULL && lis_receiver_text(receiver, text, len) == LIS_STATUS_OK && keep_text(store, text, len);
     free(text);
-    if (!kept && put > 0 && ftruncate(store, end) != 0)
-        exit(1);                                                          /* half a text stays: keep nothing after it */
     return kept;
 }
 
@@ -34,7 +34,8 @@ static bool is_late(time_t since) {
 }
 
 /* Hears bytes that came after a time; whether the line takes the replies. */
-static bool hear(lis_receiver *receiver, const uint8_t *bytes, size_t got, time_t since, int line, int store) {
+static bool hear(lis_receiver *receiver, const uint8_t *bytes, size_t got, time_t since, int line,
+                 text_file *store) {
     lis_step step;
     for (size_t heard = 0; heard < got;) {
         heard += lis_receiver_hear(receiver, bytes + heard, got - heard, &step);
@@ -60,19 +61,19 @@ static ssize_t read_some(int line, uint8_t *bytes, size_t room, time_t *since, t
 }
 
 int main(int count, char **words) {
-    int store = count == 2 ? open(words[1], O_WRONLY | O_CREAT | O_APPEND, 0600) : -1;
+    text_file store;
     lis_receiver receiver = {malloc(lis_receiver_size())};                /* a block of the caller's */
     uint8_t bytes[512];
     ssize_t got;
     time_t since = now(), next;
-    if (store < 0 || receiver.at == NULL)
+    if (count != 2 || !open_texts(&store, words[1]) || receiver.at == NULL)
         return 1;
     lis_receiver_init(receiver.at);
     while ((got = read_some(0, bytes, sizeof bytes, &since, &next)) > 0
-           && hear(&receiver, bytes, (size_t)got, since, 0, store))
+           && hear(&receiver, bytes, (size_t)got, since, 0, &store))
         since = next;
     lis_receiver_end(receiver);                                           /* the block is the caller's again */
     free(receiver.at);
-    close(store);
+    close(store.file);
     return got == 0 ? 0 : 1;
 }

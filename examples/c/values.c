@@ -57,20 +57,38 @@ static bool may_come(lis_reader *reader, size_t len) {
     return false;
 }
 
+/* Drops bytes from the front of the piece; answers how many are left. */
+static size_t drop(size_t done, size_t len) {
+    memmove(piece, piece + done, len - done);
+    return len - done;
+}
+
+/* Prints the results of the piece; after a record that can't come it goes on at the next header, of this piece or the
+ * next one. Answers how many bytes are left: the beginning of the next record. */
+static size_t read_piece(lis_reader *reader, size_t len, bool *searches, bool *begins, bool *good) {
+    for (;;) {
+        size_t done = *searches ? lis_header_find(piece, len, begins) : 0;
+        *searches = *searches && done == len;
+        len = drop(done, len);
+        len = drop(*searches ? 0 : print_results(reader, len), len);
+        if (*searches || may_come(reader, len))
+            return len;
+        *good = false;
+        *begins = lis_reader_resume(reader);    /* a session that broke off costs its own message alone */
+        *searches = true;
+    }
+}
+
 int main(void) {
     lis_reader reader = {malloc(lis_reader_size())};
     lis_found found;
     size_t left = 0, got;
-    bool good = true;
+    bool good = true, searches = false, begins = false;
     if (reader.at == NULL)
         return 2;
     lis_reader_init(reader.at);
-    while (good && (got = fread(piece + left, 1, sizeof piece - left, stdin)) > 0) {
-        size_t done = print_results(&reader, left + got);
-        left = left + got - done;
-        memmove(piece, piece + done, left);    /* the beginning of the next record */
-        good = may_come(&reader, left);
-    }
+    while ((got = fread(piece + left, 1, sizeof piece - left, stdin)) > 0)
+        left = read_piece(&reader, left + got, &searches, &begins, &good);
     good = good && left == 0 && lis_reader_finish(&reader, &found) == LIS_STATUS_OK;
     lis_reader_end(reader);
     free(reader.at);

@@ -6,13 +6,13 @@
 // be late.
 #include <lislink_station.hpp>
 
+#include "keep.hpp"
 #include "port.hpp"
 
 #include <cerrno>
 #include <chrono>
 #include <cstdio>
 #include <cstdlib>
-#include <fcntl.h>
 #include <sys/socket.h>
 #include <sys/time.h>
 #include <unistd.h>
@@ -29,7 +29,7 @@ static constexpr auto pause_time = milliseconds(1000);
 static std::vector<std::string> asked_for(std::string_view texts) {
     std::vector<std::string> samples;
     lislink::reader reader;
-    for (auto &record : reader.feed(texts))
+    for (auto &record : reader.try_feed(texts))    // up to one that can't be read
         if (record.letter() == 'Q')
             if (auto sample = record.part(3, 0, 1); sample && !sample->empty())
                 samples.push_back(*sample);
@@ -52,7 +52,8 @@ static void add_orders(lislink::station &station, const std::vector<std::string>
 
 // The computer's side of one line.
 class computer {
-    int line_, store_;
+    int line_;
+    text_file &store_;
     lislink::station station_{LIS_ROLE_COMPUTER};
     std::string texts_;                       // of the analyzer's session
     std::vector<std::string> samples_;        // what it asked for
@@ -62,7 +63,7 @@ class computer {
 
     bool keep(std::string_view text) {
         texts_ += text;
-        return write(store_, text.data(), text.size()) == static_cast<ssize_t>(text.size()) && fsync(store_) == 0;
+        return store_.keep(text);
     }
 
     void run_timer() {
@@ -126,7 +127,7 @@ class computer {
     }
 
 public:
-    computer(int line, int store) : line_(line), store_(store) { station_.connected(); }
+    computer(int line, text_file &store) : line_(line), store_(store) { station_.connected(); }
 
     // Hears and sends until the line is closed or given up.
     void run() {
@@ -150,8 +151,8 @@ public:
 int main(int count, char **words) {
     if (count != 3)
         return std::fputs("usage: answer_query PORT FILE\n", stderr), 2;
-    int store = open(words[2], O_WRONLY | O_APPEND | O_CREAT, 0600);
-    int line = store < 0 ? -1 : accept_one(static_cast<unsigned short>(std::atoi(words[1])));
+    text_file store(words[2]);
+    int line = store ? accept_one(static_cast<unsigned short>(std::atoi(words[1]))) : -1;
     if (line < 0)
         return std::perror("answer_query"), 1;
     computer(line, store).run();

@@ -6,6 +6,7 @@
 // a timer that cancels it after a second, and async_write, and `store` posts to a thread pool; `session` stays as it is.
 #include <lislink.hpp>
 
+#include "keep.hpp"
 #include "port.hpp"
 
 #include <cerrno>
@@ -13,7 +14,6 @@
 #include <cstdio>
 #include <cstdlib>
 #include <deque>
-#include <fcntl.h>
 #include <functional>
 #include <optional>
 #include <sys/socket.h>
@@ -29,13 +29,10 @@ static constexpr auto late = std::chrono::seconds(10);
 static std::deque<std::function<void()>> events;
 
 struct store {
-    int file;
+    text_file &file;
 
     void async_keep(std::string_view text, handler done) {
-        off_t end = lseek(file, 0, SEEK_END);
-        bool good = write(file, text.data(), text.size()) == static_cast<ssize_t>(text.size()) && fsync(file) == 0;
-        if (!good && ftruncate(file, end) != 0)    // no half of a text stays
-            std::perror("later");
+        bool good = file.keep(text);
         events.push_back([done, good] { done(good); });
     }
 };
@@ -122,8 +119,9 @@ static int line_of(unsigned short port) {
 int main(int count, char **words) {
     if (count != 3)
         return std::fputs("usage: later PORT FILE\n", stderr), 2;
-    store kept{open(words[2], O_WRONLY | O_APPEND | O_CREAT, 0600)};
-    line analyzer{kept.file < 0 ? -1 : line_of(static_cast<unsigned short>(std::atoi(words[1])))};
+    text_file file(words[2]);
+    store kept{file};
+    line analyzer{file ? line_of(static_cast<unsigned short>(std::atoi(words[1]))) : -1};
     if (analyzer.socket < 0)
         return std::perror("later"), 1;
     session its(analyzer, kept);

@@ -2,24 +2,14 @@
 // quick_receive PORT FILE; port 0 is one that is free, and is printed. The receiver's timer runs too.
 #include <lislink.hpp>
 
+#include "keep.hpp"
 #include "port.hpp"
 
 #include <chrono>
 #include <cstdlib>
-#include <fcntl.h>
 #include <poll.h>
 
 using clock_type = std::chrono::steady_clock;
-
-// Appends a text to a file, or leaves the file as it was.
-static bool keep(int store, std::string_view text) {
-    off_t end = lseek(store, 0, SEEK_END);
-    ssize_t put = write(store, text.data(), text.size());
-    bool kept = put == static_cast<ssize_t>(text.size()) && fsync(store) == 0;
-    if (!kept && put > 0 && ftruncate(store, end) != 0)
-        std::exit(1);    // half a text stays: keep nothing after it
-    return kept;
-}
 
 // Whether bytes come within a second, or the end of the line.
 static bool comes(int line) {
@@ -28,10 +18,12 @@ static bool comes(int line) {
 }
 
 int main(int count, char **words) {
-    int store = count == 3 ? open(words[2], O_WRONLY | O_CREAT | O_APPEND, 0600) : -1;
-    int line = store < 0 ? -1 : accept_one(static_cast<unsigned short>(std::atoi(words[1])));
+    if (count != 3)
+        return std::fputs("usage: quick_receive PORT FILE\n", stderr), 2;
+    text_file store(words[2]);
+    int line = store ? accept_one(static_cast<unsigned short>(std::atoi(words[1]))) : -1;
     if (line < 0)
-        return std::fputs("usage: quick_receive PORT FILE\n", stderr), 1;
+        return std::perror("quick_receive"), 1;
     lislink::receiver receiver;
     char bytes[512];
     auto empty = clock_type::now(), meant = empty;    // when the line was last seen empty; when bytes meant something
@@ -47,7 +39,7 @@ int main(int count, char **words) {
             return got == 0 ? 0 : 1;
         auto send = [&](std::uint8_t reply) { return put(line, {reinterpret_cast<const char *>(&reply), 1}); };
         auto each = [&](const lis_step &) { meant = clock_type::now(); };
-        auto kept = [&](std::string_view text) { return keep(store, text); };
+        auto kept = [&](std::string_view text) { return store.keep(text); };
         receiver.hear_since(empty, {bytes, static_cast<std::size_t>(got)}, kept, send, each);    // keep, then reply
         if (got < static_cast<ssize_t>(sizeof bytes))    // a full buffer may have left some
             empty = before;

@@ -6,10 +6,13 @@ orders for the samples that an analyzer asked for (Q), in a session of its own.
 
 The line is given up, for a new connection, where a session of its own failed or a reply would be late.
 """
-import os
+import contextlib
 import socket
 import sys
 import time
+from typing import Optional
+
+from keep import TextFile
 
 import lislink
 
@@ -17,13 +20,17 @@ LATE = 10  # seconds: a reply that goes out later could come after the analyzer'
 PAUSE = 1  # second: a line that is idle is looked at so often
 
 
-def asked_for(texts):
-    """The samples that the queries of a session are for."""
-    rows = lislink.records(texts)
-    return [sample for sample in (row.part(3, component=1) for row in rows if row.letter == "Q") if sample]
+def asked_for(texts: list[bytes]) -> list[bytes]:
+    """The samples that the queries of a session are for, up to a record that can't be read."""
+    samples = []
+    with lislink.Reader() as reader, contextlib.suppress(lislink.MessageError):
+        for row in reader.feed(b"".join(texts)):
+            if row.letter == "Q" and (sample := row.part(3, component=1)):
+                samples.append(sample)
+    return samples
 
 
-def orders(samples):
+def orders(samples: list[bytes]) -> list[bytes]:
     """The texts of a message with an order of glucose for each sample."""
     with lislink.Writer() as writer:
         writer.record("H", [])
@@ -37,21 +44,18 @@ def orders(samples):
 class Computer:
     """The computer's side of one line."""
 
-    def __init__(self, line, store):
+    def __init__(self, line: socket.socket, store: TextFile) -> None:
         self.line, self.store, self.station = line, store, lislink.Station(lislink.Role.COMPUTER)
-        self.texts, self.samples = [], []       # of the analyzer's session; what it asked for
-        self.is_sending, self.due, self.free_at = False, None, 0.0
+        self.texts: list[bytes] = []            # of the analyzer's session
+        self.samples: list[bytes] = []          # what it asked for
+        self.due: Optional[float] = None
+        self.is_sending, self.free_at = False, 0.0
 
-    def keep(self, text):
-        self.store.write(text)
-        self.store.flush()
-        os.fsync(self.store.fileno())           # keep, then send: where this fails, nothing is sent
-        self.texts.append(text)
-
-    def take(self, answer):
+    def take(self, answer: lislink.Answer) -> None:
         """Keeps an answer's text, sends its bytes, and lets the timer begin anew."""
         if answer.text is not None:
-            self.keep(answer.text)
+            self.store.keep(answer.text)        # keep, then send: where this fails, nothing is sent
+            self.texts.append(answer.text)
         self.line.sendall(answer.send)
         if answer.note is lislink.Note.OPENED:
             self.texts = []                     # an analyzer whose session failed sends it all again
@@ -59,11 +63,11 @@ class Computer:
             self.samples += asked_for(self.texts)
         self.run_timer()
 
-    def run_timer(self):
+    def run_timer(self) -> None:
         seconds = self.station.seconds
         self.due = None if seconds is None else time.monotonic() + seconds
 
-    def settle(self):
+    def settle(self) -> bool:
         """Looks how a session of its own ended; whether the line can be used on."""
         if self.is_sending and self.station.phase is lislink.Phase.NEUTRAL:
             self.is_sending = False
@@ -71,7 +75,7 @@ class Computer:
             return self.station.outcome is lislink.Outcome.DONE
         return True
 
-    def start(self):
+    def start(self) -> None:
         """Sends the orders, if there are any, the line is free, and the analyzer doesn't wait for its turn."""
         its_turn = self.station.turn_seconds is not None and time.monotonic() < self.free_at
         if self.samples and not (self.is_sending or self.station.is_open or its_turn):
@@ -79,7 +83,7 @@ class Computer:
             self.is_sending, self.samples = True, []
             self.run_timer()
 
-    def read(self):
+    def read(self) -> Optional[bytes]:
         """What came; None if nothing did for a while."""
         left = PAUSE if self.due is None else min(PAUSE, self.due - time.monotonic())
         self.line.settimeout(max(left, 0.001))
@@ -88,7 +92,7 @@ class Computer:
         except socket.timeout:
             return None
 
-    def run(self):
+    def run(self) -> None:
         """Hears and sends until the line is closed or given up."""
         seen_empty = time.monotonic()           # bytes came after this
         while self.settle():
@@ -109,10 +113,10 @@ class Computer:
                     seen_empty = before
 
 
-def main():
+def main() -> None:
     server = socket.create_server(("127.0.0.1", int(sys.argv[1])))
     print("port", server.getsockname()[1], flush=True)
-    with open(sys.argv[2], "ab") as store:
+    with contextlib.closing(TextFile(sys.argv[2])) as store:
         line, _ = server.accept()
         with line:
             Computer(line, store).run()

@@ -8,8 +8,10 @@ A step is answered before the receiver hears on: keep, then reply. An error betw
 reply goes out.
 """
 import asyncio
-import os
+import contextlib
 import sys
+
+from keep import TextFile
 
 import lislink
 
@@ -17,13 +19,7 @@ LATE = 10  # seconds: a reply that goes out later could come after the analyzer'
 PAUSE = 1  # second: a line that is idle is looked at so often
 
 
-def keep(store, text):
-    store.write(text)
-    store.flush()
-    os.fsync(store.fileno())
-
-
-async def receive(reader, writer, store):
+async def receive(reader: asyncio.StreamReader, writer: asyncio.StreamWriter, store: TextFile) -> None:
     loop = asyncio.get_running_loop()
     seen_empty = loop.time()                    # bytes came after this
     with lislink.Receiver() as receiver:
@@ -38,7 +34,7 @@ async def receive(reader, writer, store):
                 return
             for step in receiver.hear(data):
                 if step.text is not None and not is_late:
-                    await loop.run_in_executor(None, keep, store, step.text)
+                    await loop.run_in_executor(None, store.keep, step.text)
                 is_late = is_late or loop.time() - seen_empty > LATE
                 if not is_late:
                     writer.write(step.reply)
@@ -49,11 +45,11 @@ async def receive(reader, writer, store):
                 seen_empty = before
 
 
-async def main():
-    with open(sys.argv[2], "ab") as store:
+async def main() -> None:
+    with contextlib.closing(TextFile(sys.argv[2])) as store:
         done = asyncio.Event()
 
-        async def serve(reader, writer):
+        async def serve(reader: asyncio.StreamReader, writer: asyncio.StreamWriter) -> None:
             try:
                 await receive(reader, writer, store)
             except OSError as fault:

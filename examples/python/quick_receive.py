@@ -7,34 +7,34 @@ letters of a session's records at its end.
 `lislab serve` has what a laboratory needs besides: the receiver's timer, many lines, messages that are marked when they
 come again, and no reply that is late.
 """
-import os
+import contextlib
 import socket
 import sys
+
+from keep import TextFile
 
 import lislink
 
 
-def receive(line, store):
-    texts = []
+def receive(line: socket.socket, store: TextFile) -> None:
+    texts: list[bytes] = []
     with lislink.Receiver() as receiver:
         while data := line.recv(4096):
             for step in receiver.hear(data):
                 if step.note is lislink.Note.OPENED:
                     texts = []                  # an analyzer whose session failed sends it all again
                 if step.text is not None:
-                    store.write(step.text)
-                    store.flush()
-                    os.fsync(store.fileno())    # keep, then reply: where this fails, no reply goes out
+                    store.keep(step.text)       # keep, then reply: where this fails, no reply goes out
                     texts.append(step.text)
                 line.sendall(step.reply)
                 if step.note is lislink.Note.ENDED:
                     print(*(record.letter for record in lislink.records(texts)), flush=True)
 
 
-def main():
+def main() -> None:
     server = socket.create_server(("127.0.0.1", int(sys.argv[1])))
     print("port", server.getsockname()[1], flush=True)
-    with open(sys.argv[2], "ab") as store:
+    with contextlib.closing(TextFile(sys.argv[2])) as store:
         line, _ = server.accept()
         with line:
             receive(line, store)

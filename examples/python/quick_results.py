@@ -1,10 +1,23 @@
 #!/usr/bin/env python3
-"""Prints the results of the messages on standard input, each with its unit: quick_results.py < samples/panel.records"""
+"""Prints the results of the messages on standard input, each with its unit: quick_results.py < samples/panel.records
+
+A message that can't be read, as one whose session broke off, is named on standard error.
+"""
 import sys
+from typing import Optional
 
 import lislink
 
-for rows in lislink.messages(iter(lambda: sys.stdin.buffer.read(4096), b"")):
+
+def text(part: Optional[bytes]) -> str:
+    return (part or b"").decode("latin-1")
+
+
+def report(fault: lislink.MessageError) -> None:
+    print(fault, file=sys.stderr)
+
+
+for rows in lislink.messages(iter(lambda: sys.stdin.buffer.read(4096), b""), on_fault=report):
     for row in rows:
         if row.letter == "R":
-            print(*(part.decode() for part in (row.part(3, component=3), row.part(4), row.part(5))))
+            print(text(row.part(3, component=3)), text(row.part(4)), text(row.part(5)))

@@ -5,7 +5,12 @@ import sys
 
 import lislink
 
-for message in lislink.message_places(sys.stdin.buffer.read()):
+
+def report(fault: lislink.MessageError) -> None:
+    print(fault, file=sys.stderr)
+
+
+for message in lislink.message_places(sys.stdin.buffer.read(), on_fault=report):
     for patient, order, result in message.results:
         parts = patient.part(4), order.part(3), result.part(3, component=3), result.part(4)
         print(*(part.decode("latin-1") if part else "" for part in parts))

@@ -10,6 +10,7 @@ import lislink
 for found in lislink.read_all(sys.stdin.buffer.read(), encoding="latin-1"):
     if isinstance(found, lislink.Found):
         for patient, order, result in found.message.results():
-            print(order.specimen_id, result.part(3, component=3).decode(), result.value, result.unit)
+            test = result.part(3, component=3) or b""
+            print(order.specimen_id, test.decode("latin-1"), result.value, result.unit)
     else:
         print(f"record {found.error.number}: {found.error.reason.name}", file=sys.stderr)

@@ -3,19 +3,26 @@
 #![tactic(auto)]
 
 use lis_link::{Receiver, Step};
+use std::alloc::Global;
 use std::env;
 use std::fs::File;
 use std::io::{self, Read, Write};
 use std::mem::drop;
+
+const CR: u8 = 0x0d;
+
+const LF: u8 = 0x0a;
 
 fn main(rt: HostRuntime) -> io::Result<()> {
     let Some(path) = env::args(&rt)?.nth(1) else {
         return eprintln!(rt; "usage: receive FILE");
     };
     let mut store = File::options()
+        .read(true)
         .append(true)
         .create(true)
         .open(&rt, path.as_str())?;
+    cut_back(rt.alloc(), &mut store)?;
     let mut receiver = Receiver::new(rt.alloc());
     let mut line = rt.reader();
     let mut replies = io::writer(&rt);
@@ -46,6 +53,26 @@ fn heard(receiver: &mut Receiver, byte: u8, store: &mut File) -> io::Result<Opti
     }
     receiver.restart(); // no reply: the analyzer still has the text, and sends it again
     Ok(None)
+}
+
+/// Cuts off half a text that a power failure left after the last CR.
+fn cut_back(alloc: Global, store: &mut File) -> io::Result<()> {
+    if store.metadata()?.len() == 0 {
+        return Ok(());
+    }
+    let mut kept = Vec::new(alloc);
+    store.read_to_end(&mut kept)?;
+    let end = match kept.iter().rposition(|byte| *byte == CR) {
+        Some(place) => place + 1,
+        None => 0,
+    };
+    if kept[end..].contains(&LF) {
+        return Err(io::ErrorKind::InvalidData.into()); // it is no file of texts
+    }
+    if end < kept.len() {
+        store.set_len(end as u64)?;
+    }
+    Ok(())
 }
 
 /// Appends a text to a file, or leaves the file as it was; whether it is on the disk.

@@ -1,5 +1,5 @@
-/* A sender and the connection that it uses: a reply of an earlier connection is dropped, and no session starts if a
- * late reply could meet it. Part of liblislink. Plain C over the proved calls: it is tested and not proved. */
+/* A sender or a station and the connection that it uses: no session starts if a late reply could meet it. Part of
+ * liblislink. Plain C over the proved calls: it is tested and not proved. */
 #include "lislink.h"
 
 /* Notes whether a late reply may come on this connection: the session that just ended was not answered. */
@@ -42,7 +42,7 @@ void lis_line_reply(lis_line *line, uint64_t connection, uint8_t byte, lis_bytes
     lis_sender_reply(&line->sender, byte, out);
 }
 
-lis_status lis_line_frame(lis_line *line, uint64_t connection, uint8_t *out, size_t out_len, size_t *size) {
+lis_status lis_line_frame(const lis_line *line, uint64_t connection, uint8_t *out, size_t out_len, size_t *size) {
     *size = 0;
     if (connection != line->connection || line->spent)
         return LIS_STATUS_ABSENT;
@@ -61,4 +61,44 @@ void lis_line_restart(lis_line *line) {
     lis_sender_restart(&line->sender);
     if (session)
         settle(line);
+}
+
+bool lis_sender_timer_seconds(const lis_sender *s, uint32_t *seconds) {
+    lis_phase phase = lis_sender_phase(s);
+    *seconds = phase == LIS_PHASE_NEUTRAL      ? 0
+               : phase == LIS_PHASE_BUSY       ? LIS_SECONDS_BUSY
+               : phase == LIS_PHASE_CONTENTION ? LIS_SECONDS_CONTENTION
+                                               : LIS_SECONDS_REPLY;
+    return phase != LIS_PHASE_NEUTRAL;
+}
+
+bool lis_receiver_timer_seconds(const lis_receiver *s, uint32_t *seconds) {
+    bool runs = lis_receiver_is_open(s);
+    *seconds = runs ? LIS_SECONDS_RECEIVER : 0;
+    return runs;
+}
+
+void lis_station_line_init(lis_station_line *line, lis_station station) {
+    line->station = station;
+    line->is_new = false;
+}
+
+void lis_station_line_connected(lis_station_line *line) {
+    lis_station_restart(&line->station);
+    line->is_new = true;
+}
+
+bool lis_station_line_needs_new(const lis_station_line *line) {
+    lis_outcome outcome = lis_station_outcome(&line->station);
+    return !line->is_new && outcome != LIS_OUTCOME_DONE && outcome != LIS_OUTCOME_SIX_TRIES;
+}
+
+lis_status lis_station_line_start(lis_station_line *line, lis_bytes *out, lis_place *fault) {
+    bool session = lis_station_phase(&line->station) != LIS_PHASE_NEUTRAL;
+    fault->index = fault->place = 0;
+    if (!session && lis_station_line_needs_new(line))
+        return LIS_STATUS_OLD_LINE;
+    lis_status status = lis_station_start(&line->station, out, fault);
+    line->is_new = line->is_new && status != LIS_STATUS_OK;
+    return status;
 }

@@ -1,5 +1,6 @@
-/* The records of a piece of a stream in one call, with all their parts. Part of liblislink. The call that it makes for
- * each record is proved, this loop is not: the tests compare it with one call for each record and part. */
+/* The records of a piece of a stream in one call, with all their parts; and where to go on after a fault. Part of
+ * liblislink. The call for each record is proved, these loops are not: the tests compare the first with one call for
+ * each record and part. */
 #include <string.h>
 
 #include "lislink.h"
@@ -31,4 +32,23 @@ size_t lis_reader_records(lis_reader *s, const uint8_t *bytes, size_t bytes_len,
         ++*count;
     }
     return at;
+}
+
+bool lis_reader_resume(lis_reader *s) {
+    lis_found found;
+    lis_reader_finish(s, &found);
+    lis_reader_end(*s);
+    lis_reader_init(s->at);
+    return found.reason == LIS_REASON_SECOND_HEADER;
+}
+
+size_t lis_header_find(const uint8_t *bytes, size_t bytes_len, bool *begins) {
+    for (size_t at = 0; at < bytes_len;) {
+        if (*begins && (bytes[at] == 'H' || bytes[at] == 'h')) return at;
+        const uint8_t *end = memchr(bytes + at, '\r', bytes_len - at);
+        *begins = end != NULL;
+        if (end == NULL) break;
+        at = (size_t)(end - bytes) + 1;
+    }
+    return bytes_len;
 }

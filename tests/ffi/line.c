@@ -1,5 +1,5 @@
-/* The calls of src/c/connection.c: a reply of an earlier connection is dropped, and no session starts where a late
- * reply could meet it. Prints how many things were compared. */
+/* The calls of src/c/connection.c: a reply of an earlier connection is dropped, and no session of a sender or a station
+ * starts where a late reply could meet it; and the seconds of timers. Prints how many things were compared. */
 #include "lislink.h"
 #include <stdio.h>
 #include <stdlib.h>
@@ -128,6 +128,91 @@ static void of_tries(void) {
     is_done(first);
 }
 
+/* A session of a station, which sends ENQ; or none, since a late reply could come. */
+static void station_starts(lis_station_line *both, lis_status status) {
+    SAME(lis_station_add_text(&both->station, (const uint8_t *)"L|1\r", 4), LIS_STATUS_OK);
+    fault.index = fault.place = 9;
+    out.len = 9;
+    SAME(lis_station_line_start(both, &out, &fault), status);
+    SAME(fault.index + fault.place, 0);
+    SAME(out.len, status == LIS_STATUS_OK ? 1 : 9);
+    if (status != LIS_STATUS_OK)
+        lis_station_clear(&both->station);
+}
+
+/* A station hears a byte; how its last session ended. */
+static lis_outcome hears(lis_station_line *both, uint8_t byte) {
+    lis_answer answer;
+    lis_station_byte(&both->station, byte, &answer);
+    return lis_station_outcome(&both->station);
+}
+
+static void of_station(void) {
+    lis_station station = {malloc(lis_station_size())};
+    lis_station_line both;
+    lis_answer answer;
+    if (station.at == NULL)
+        exit(2);
+    lis_station_init(station.at);
+    lis_station_line_init(&both, station);
+    SAME(lis_station_line_needs_new(&both), true);
+    station_starts(&both, LIS_STATUS_OLD_LINE);         /* a new process: there is no connection yet */
+    lis_station_line_connected(&both);
+    SAME(lis_station_line_needs_new(&both), false);
+    SAME(lis_station_line_start(&both, &out, &fault), LIS_STATUS_NO_TEXT);
+    station_starts(&both, LIS_STATUS_OK);
+    SAME(lis_station_line_needs_new(&both), true);      /* of an ENQ after a wait */
+    station_starts(&both, LIS_STATUS_IN_SESSION);
+    hears(&both, ACK);
+    SAME(hears(&both, ACK), LIS_OUTCOME_DONE);
+    SAME(lis_station_line_needs_new(&both), false);     /* after a session that is done the connection is good */
+    station_starts(&both, LIS_STATUS_OK);
+    lis_station_timer(&both.station, &answer);
+    SAME(lis_station_outcome(&both.station), LIS_OUTCOME_TIMED_OUT);
+    station_starts(&both, LIS_STATUS_OLD_LINE);
+    lis_station_line_connected(&both);
+    station_starts(&both, LIS_STATUS_OK);
+    lis_station_give_up(&both.station);
+    station_starts(&both, LIS_STATUS_OLD_LINE);
+    lis_station_line_connected(&both);
+    hears(&both, ENQ);
+    station_starts(&both, LIS_STATUS_LINE_OPEN);
+    SAME(lis_station_line_needs_new(&both), false);
+    lis_station_line_connected(&both);                  /* it is restarted: the other side hasn't the line */
+    station_starts(&both, LIS_STATUS_OK);
+    lis_station_end(both.station);
+    free(both.station.at);
+}
+
+/* How long each timer runs. */
+static void of_seconds(void) {
+    lis_receiver receiver = {malloc(lis_receiver_size())};
+    lis_step step;
+    uint32_t seconds = 9;
+    uint64_t first = lis_line_connected(&line);
+    if (receiver.at == NULL)
+        exit(2);
+    SAME(lis_sender_timer_seconds(&line.sender, &seconds), false);
+    SAME(seconds, 0);
+    starts();
+    SAME(lis_sender_timer_seconds(&line.sender, &seconds) && seconds == LIS_SECONDS_REPLY, true);
+    lis_line_reply(&line, first, NAK, &out);
+    SAME(lis_sender_timer_seconds(&line.sender, &seconds) && seconds == LIS_SECONDS_BUSY, true);
+    lis_line_timer(&line, &out);
+    lis_line_reply(&line, first, ENQ, &out);
+    SAME(lis_sender_timer_seconds(&line.sender, &seconds) && seconds == LIS_SECONDS_CONTENTION, true);
+    lis_line_timer(&line, &out);
+    lis_line_reply(&line, first, ACK, &out);
+    SAME(lis_sender_timer_seconds(&line.sender, &seconds) && seconds == LIS_SECONDS_REPLY, true);
+    lis_receiver_init(receiver.at);
+    SAME(lis_receiver_timer_seconds(&receiver, &seconds), false);
+    SAME(seconds, 0);
+    lis_receiver_byte(&receiver, ENQ, &step);
+    SAME(lis_receiver_timer_seconds(&receiver, &seconds) && seconds == LIS_SECONDS_RECEIVER, true);
+    lis_receiver_end(receiver);
+    free(receiver.at);
+}
+
 int main(void) {
     lis_sender sender = {malloc(lis_sender_size())};
     if (sender.at == NULL)
@@ -137,6 +222,8 @@ int main(void) {
     of_timeouts();
     of_restarts();
     of_tries();
+    of_station();
+    of_seconds();
     lis_sender_end(line.sender);
     free(line.sender.at);
     printf("%d compared\n", compared);

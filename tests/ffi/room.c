@@ -1,5 +1,5 @@
-/* The room of a text is used again: once two texts of a length were delivered, a receiver takes no more memory for texts
- * that are no longer. A message is read as places without any. Counts the calls of the heap. */
+/* The room of a text is used again: once two texts of a length were delivered, a receiver and a station take no more
+ * memory for texts that are no longer. A message is read as places without any. Counts the calls of the heap. */
 #include "../../examples/c/refusing_heap.h"
 #include <stdio.h>
 #include <string.h>
@@ -35,6 +35,39 @@ static unsigned hears(lis_receiver *receiver, unsigned from, unsigned to) {
     return texts;
 }
 
+/* The same of a station. */
+static unsigned station_hears(lis_station *station, unsigned from, unsigned to) {
+    uint8_t bytes[207];
+    unsigned texts = 0;
+    for (unsigned number = from; number < to; number++) {
+        size_t len = frame(bytes, number);
+        for (size_t heard = 0; heard < len;) {
+            lis_answer answer;
+            heard += lis_station_hear(station, bytes + heard, len - heard, &answer);
+            texts += answer.step.has_text && answer.step.reply == 6 && lis_station_text_len(station) == 200;
+        }
+    }
+    return texts;
+}
+
+/* Prints the calls of the heap that a station makes for texts once it has delivered two. */
+static void of_station(void) {
+    void *at = aligned_alloc(lis_station_align(), lis_station_size());
+    const uint8_t enq = 5;
+    lis_station station = {at};
+    lis_answer answer;
+    lis_station_init(at);
+    if (lis_station_reserve(&station, 1000) != LIS_STATUS_OK)
+        return;
+    lis_station_hear(&station, &enq, 1, &answer);
+    unsigned first = station_hears(&station, 1, 3);
+    size_t before = calls;
+    unsigned more = station_hears(&station, 3, 500);
+    printf("a station: %u texts, %zu calls of the heap for the last %u\n", first + more, calls - before, more);
+    lis_station_end(station);
+    free(at);
+}
+
 /* How many records a message of 1,000 results has, read as places. */
 static size_t records(void) {
     static char text[32000];
@@ -67,5 +100,6 @@ int main(void) {
     printf("%zu records, %zu calls of the heap\n", read, calls - before);
     lis_receiver_end(receiver);
     free(at);
+    of_station();
     return live != 0;
 }

@@ -59,7 +59,7 @@ class TwoWay:
 def start(near, far, texts):
     texts = model.texts_of(texts)
     try:
-        near.begin(texts, near.station.start(texts))
+        near.begin(texts, near.station.start(texts, is_quiet=True))
     except LinkError:
         pass
 

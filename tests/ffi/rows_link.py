@@ -66,7 +66,7 @@ def begun(sender, texts):
     for text in texts:
         sender.add_text(text)
     try:
-        return emit_word(sender.start())
+        return emit_word(sender.start(is_quiet=True))
     except LinkError as error:
         return f"fault {text_fault(error)}" if error.index == len(texts) - 1 else f"fault of text {error.index}"
 
@@ -105,7 +105,7 @@ class Link:
         for text in texts_of(texts):
             self.sender.add_text(text)
         try:
-            emitted = self.sender.start()
+            emitted = self.sender.start(is_quiet=True)
         except LinkError:
             self.sender.clear()
             return
@@ -310,7 +310,7 @@ class Ends:
         for text in texts_of(texts):
             self.sender.add_text(text)
         try:
-            emitted = emit_word(self.sender.start())
+            emitted = emit_word(self.sender.start(is_quiet=True))
         except LinkError as error:
             why = {Status.IN_SESSION: "InSession", Status.NO_TEXT: "NoText"}.get(error.status)
             emitted = f"refused:{why or f'BadText.{error.index}.{text_fault(error)}'}:{texts}"

@@ -98,7 +98,7 @@ static void throw_in_start(lislink::sender &sender) {
     sender.connected();
     add(sender, {"H|\\^&\r", "P|1\nx\r"});
     try {
-        sender.start();
+        (void)sender.start();
         SAME(!"LF is refused");
     } catch (const lislink::error &refused) {
         SAME(refused.status() == LIS_STATUS_FORBIDDEN && refused.index() == 1 && refused.place() == 3);
@@ -266,7 +266,7 @@ static void place_message() {
     SAME(!message.part(3, 9) && !message.part(0, 3) && message.delimiters().field == '|');
     SAME(!message.try_read(rest) && rest == "H|" && message.refused()->number == 1 && message.size() == 0);
     try {
-        message.read(rest);
+        (void)message.read(rest);
         SAME(!"a message that isn't ended is refused");
     } catch (const lislink::message_error &refused) {
         SAME(refused.reason() == LIS_REASON_UNFINISHED);
@@ -279,6 +279,43 @@ static void place_message() {
     many += "L|1\r";
     rest = many;
     SAME(message.read(rest) && message.size() == 102 && rest.empty());
+}
+
+// The letters of the records in pieces of a size, and a ! at each that can't be read, after which the reader goes on.
+static std::string letters_of(const std::string &stream, std::size_t size) {
+    lislink::reader reader;
+    std::string letters;
+    for (std::size_t at = 0; at < stream.size(); at += size) {
+        std::string_view rest = std::string_view(stream).substr(at, size);
+        for (bool goes_on = true; goes_on;) {
+            for (auto &record : reader.try_feed(rest))
+                letters += record.letter();
+            goes_on = reader.refused().has_value();
+            if (goes_on) {
+                SAME(reader.read() == (letters == "HPLHPO" ? 28u : letters == "HPLHPO!HPLH" ? 48u : reader.read()));
+                letters += '!';
+                rest = reader.resume();
+            }
+        }
+    }
+    SAME(reader.read() == stream.size() && reader.try_finish() == LIS_STATUS_OK);
+    return letters;
+}
+
+// After a message that broke off, or has a record that can't be read, the others are read.
+static void go_on() {
+    const std::string stream = "H|\\^&\rP|1\rL|1\rH|\\^&\rP|2\rO|1\rH|\\^&\rP|3\rL|1\rH|\\^&\rX|1\rL|1\rH|\\^&\rL|4\r";
+    for (std::size_t size = 1; size <= stream.size(); size++)
+        SAME(letters_of(stream, size) == "HPLHPO!HPLH!HL");
+    std::string_view rest = stream;
+    lislink::message message;
+    int read = 0, refused = 0;
+    while (!rest.empty())
+        if (message.try_read(rest))
+            read++;
+        else if (refused++; message.refused())
+            lislink::message::skip(rest);
+    SAME(read == 3 && refused == 2);
 }
 
 int main() {
@@ -300,5 +337,6 @@ int main() {
     SAME(sender.outcome() == LIS_OUTCOME_DONE && !sender.patience());
     read_back(store);
     place_message();
+    go_on();
     return 0;
 }

@@ -45,19 +45,22 @@ static bool of_station() {
         || !is(station.try_begin(LIS_ROLE_ANALYZER, LIS_LIMIT_LONG_FRAME_TEXT) == LIS_STATUS_OK)
         || !is(station.try_add("a") == LIS_STATUS_OK && station.try_start(enq) == LIS_STATUS_OLD_LINE))
         return false;
+    bool needs = station.needs_new_line();
     station.connected();
-    if (!is(sent(station, "\x05") == "\x06" && station.try_start(enq) == LIS_STATUS_LINE_OPEN && enq.empty()))
+    if (!is(needs && !station.needs_new_line())
+        || !is(sent(station, "\x05") == "\x06" && station.try_start(enq) == LIS_STATUS_LINE_OPEN && enq.empty()))
         return false;
     { auto dropped = station.next_answer(bytes); }    // its text is not kept, and no reply goes out
     if (!is(!station.is_open() && bytes.empty()) || !is(station.try_start(enq) == LIS_STATUS_OK && enq == "\x05")
         || !is(sent(station, "\x05").empty() && station.patience() == std::chrono::seconds(1))
-        || !is(station.turn() == std::chrono::seconds(15) && !station.turn_asked()))
+        || !is(station.turn() == std::chrono::seconds(15) && !station.turn_asked() && station.needs_new_line()))
         return false;
     bool asks = station.timer().send() == "\x05";    // that isn't sent: the session is given up
     return is(asks && station.outcome() == LIS_OUTCOME_RESTARTED && station.try_start(enq) == LIS_STATUS_OLD_LINE)
         && is((station.connected(), station.try_add("a")) == LIS_STATUS_OK)
         && is(station.try_start(enq) == LIS_STATUS_OK && sent(station, "\x06\x06") == first + "\x04")
-        && is(station.outcome() == LIS_OUTCOME_DONE && station.acknowledged() == 1 && !station.patience());
+        && is(station.outcome() == LIS_OUTCOME_DONE && station.acknowledged() == 1 && !station.patience())
+        && is(!station.needs_new_line());
 }
 
 static bool of_records() {

@@ -52,7 +52,7 @@ class Line:
         """A new connection: nothing of the old one comes, and both sides begin anew."""
         self.way, self.connections = [], self.connections + 1
         for side in self.sides:
-            side.station.restart()
+            side.station.connected()
             self.settle(side)
             side.due = None
 
@@ -87,10 +87,10 @@ class Line:
         side = self.sides[place]
         if side.sent is not None or side.station.is_open or self.now < side.free_at:
             return
-        if is_late and side.station.outcome in (Outcome.TIMED_OUT, Outcome.RESTARTED, Outcome.SIX_TRIES):
+        if is_late and side.station.needs_new_line:
             self.connect()
         side.sent = [self.text() for _ in range(self.random.randint(1, 3))]
-        self.put(place, side.station.start(side.sent))
+        self.put(place, side.station.start(side.sent, is_quiet=not is_late))
         self.run_timer(side)
 
     def text(self):

@@ -1,10 +1,14 @@
 """Calls of the Python package, at values known from outside: each error, and each call on its happy path."""
+import copy
+import pickle
+import threading
+
 from tests import kit
 
 kit.library()
 from lislink import (LONG_FRAME_TEXT, FrameFault, Kind, LinkError, MessageError, Note, Outcome, Phase,  # noqa: E402
                      Readiness, Reason, Reader, Receiver, Record, Role, Scanner, Sender, Station, Status, Writer,
-                     frame_bytes, messages, records)
+                     WrongThread, frame_bytes, message_places, messages, next_header, read_all, records)
 
 FIRST = bytes.fromhex("0231487c5c5e260d0345350d0a")
 LONG = b"\x021" + b"a" * 63993 + b"\x03%02X\r\n" % ((ord("1") + 63993 * ord("a") + 3) % 256)
@@ -112,6 +116,8 @@ class Calls(kit.Test):
             sender.add_text(b"bad\n")
             self.rejects(sender.start, Status.FORBIDDEN, 1, 3)
             sender.clear()
+            self.rejects(lambda: sender.add_text(b"a" * 1048577), Status.TOO_LONG)
+            self.rejects(sender.start, Status.NO_TEXT, 0, 0)
             sender.add_text(b"H|\\^&\r")
             self.gives((sender.start(), sender.phase, sender.seconds), (b"\x05", Phase.AWAIT_LINE, 15))
             sender.add_text(b"later")
@@ -125,10 +131,71 @@ class Calls(kit.Test):
             sender.restart()
             self.gives((sender.phase, sender.outcome, sender.seconds), (Phase.NEUTRAL, Outcome.RESTARTED, None))
 
+    def test_old_lines(self):
+        """No session starts on a connection where one failed, until it is connected anew."""
+        with Sender() as sender:
+            sender.add_text(b"a\r")
+            self.gives((sender.start(), sender.reply(6) != b"", sender.reply(6)), (b"\x05", True, b"\x04"))
+            sender.add_text(b"a\r")
+            self.gives((sender.needs_new_line, sender.start(), sender.timer()), (False, b"\x05", b"\x04"))
+            sender.add_text(b"a\r")
+            self.rejects(sender.start, Status.OLD_LINE)
+            self.gives((sender.needs_new_line, sender.start(is_quiet=True)), (True, b"\x05"))
+            sender.add_text(b"b\r")
+            sender.connected()
+            self.gives((sender.outcome, sender.needs_new_line), (Outcome.RESTARTED, False))
+            self.gives((sender.start(), sender.needs_new_line), (b"\x05", True))
+        with Station(Role.ANALYZER) as station:
+            self.gives((station.start([b"a\r"]), station.timer().send), (b"\x05", b"\x04"))
+            self.rejects(lambda: station.start([b"a\r"]), Status.OLD_LINE)
+            station.connected()
+            self.gives(station.start([b"a\r"]), b"\x05")
+            station.give_up()
+            self.rejects(lambda: station.start([b"a\r"]), Status.OLD_LINE)
+            self.gives(station.start([b"a\r"], is_quiet=True), b"\x05")
+
+    def test_copies(self):
+        """An owner can't be copied: its block would be freed twice. An error can be pickled."""
+        for kind in (Scanner, Sender, Receiver, Reader, Writer, lambda: Station(Role.COMPUTER)):
+            with kind() as owner:
+                for call in (copy.copy, copy.deepcopy, pickle.dumps):
+                    with self.assertRaises(TypeError):
+                        call(owner)
+                self.gives(owner.waiting, 0)
+        errors = LinkError(Status.FORBIDDEN, 1, 3), LinkError(Status.FULL), MessageError(2, Reason.BAD_RECORD, 4, 3)
+        for error in errors:
+            again = pickle.loads(pickle.dumps(error))
+            self.gives((type(again), str(again), vars(again)), (type(error), str(error), vars(error)))
+
+    def test_threads(self):
+        """An owner goes to the thread that calls it first, once it is given away; not to two."""
+        receiver, found = Receiver(), []
+
+        def hear():
+            try:
+                found.extend(step.note for step in receiver.hear_all(b"\x05"))
+            except WrongThread:
+                found.append(WrongThread)
+
+        def in_another():
+            thread = threading.Thread(target=hear)
+            thread.start()
+            thread.join()
+
+        in_another()
+        receiver.hand_over()
+        in_another()
+        hear()
+        self.gives(found, [WrongThread, Note.OPENED, WrongThread])
+        for call in (receiver.hand_over, receiver.close):
+            with self.assertRaises(WrongThread):
+                call()
+
     def test_station(self):
         with Station(Role.ANALYZER) as station:
             self.rejects(lambda: station.start([]), Status.NO_TEXT, 0, 0)
             self.rejects(lambda: station.start([b"ok", b"bad\n"]), Status.FORBIDDEN, 1, 3)
+            self.rejects(lambda: station.start([b"ok", b"a" * 1048577]), Status.TOO_LONG)
             self.gives((station.start([b"H|\\^&\r"]), station.phase, station.seconds), (b"\x05", Phase.AWAIT_LINE, 15))
             self.rejects(lambda: station.start([b"later"]), Status.IN_SESSION, 0, 0)
             self.gives(list(station.hear(b"\x06")), [(FIRST, None)])
@@ -289,3 +356,26 @@ class Calls(kit.Test):
         self.gives(read_error([b"H|\\^&\rP|"]), (2, Reason.UNFINISHED, 0, 0))
         self.gives(read_error([b"H|\\^&\rP|" + b"1" * 65536]), (2, Reason.TOO_LONG, 0, 0))
         self.gives(read_error([]), None)
+
+    def test_resume(self):
+        """After a message that broke off, and after one that can't be read, the others are read: in pieces of any size,
+        and the place of what can't be read is known."""
+        whole = [b"H|\\^&\rP|%d\rL|1\r" % number for number in range(3)]
+        parts = [whole[0], b"H|\\^&\rP|7\rO|1\r", whole[1], b"H|\\^&\rX|1\rL|1\rH||\r", whole[2], b"h|\\^&\rP|"]
+        stream = b"".join(parts)
+        faults = [Reason.SECOND_HEADER, Reason.BAD_RECORD, Reason.BAD_RECORD, Reason.UNFINISHED]
+        for size in range(1, len(stream) + 1):
+            pieces, found = [stream[at:at + size] for at in range(0, len(stream), size)], []
+            told = messages(pieces, on_fault=lambda error: found.append(error.reason))
+            joined = [b"".join(row.text + b"\r" for row in rows) for rows in told]
+            self.gives((joined, found), (whole, faults))
+        found = []
+        told = message_places(stream, on_fault=lambda error: found.append(error.reason))
+        self.gives(([stream[it.start:it.end] for it in told], found), (whole, faults))
+        self.gives((next_header(b"H|\rh|\r", 0), next_header(b"H|\rP|\r", 3), next_header(b"", 0)), (3, 6, 0))
+        self.gives(len(list(messages(whole[0]))) + len(list(read_all(whole))) + len(list(records(whole[0]))), 7)
+        with Reader() as reader:
+            self.gives(error_of(lambda: list(reader.feed(stream[:38])))[1], Reason.SECOND_HEADER)
+            self.gives(reader.read, len(parts[0] + parts[1]))
+            reader.resume()
+            self.gives(([row.text for row in reader.feed(b"L|2\r")], reader.waiting), ([b"H|\\^&", b"P|1", b"L|2"], 0))

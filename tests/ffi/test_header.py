@@ -3,6 +3,7 @@ the code of C and Python that a page quotes is in a sample."""
 import glob
 import os
 import re
+import subprocess
 import textwrap
 
 from tests import ROOT, kit
@@ -46,8 +47,11 @@ def sources():
 def exports(text):
     """What the header is to declare: the functions, each as its parameters, and the structs, each as its fields."""
     functions, structs = {}, {}
-    for name, words, result in re.findall(
-            r'#\[unsafe\(no_mangle\)\]\s*pub (?:unsafe )?extern "C" fn (\w+)\(([^)]*)\)(?: -> (\w+))?', text):
+    for name, words, result, contract in re.findall(
+            r'#\[unsafe\(no_mangle\)\]\s*pub (?:unsafe )?extern "C" fn (\w+)\(([^)]*)\)(?: -> (\w+))?(.*?)\n\{\n', text,
+            re.S):
+        if "ensures same { s.new.state ≡ s.old.state }" in contract:  # such a call takes its handle as const
+            words = words.replace("s: &mut Lis", "s: &Lis")
         pairs = [word.strip().split(": ", 1) for word in words.split(",") if word.strip()]
         taken = [one for pair in pairs for one in c_parameters(*pair)]
         functions[name] = (NUMBERS[result] if result else "void", taken or ["void"])
@@ -82,9 +86,10 @@ def declared(text):
 
 
 def plain():
-    """What the library has in plain C: its functions, which a compiler compares with the header, and their struct."""
+    """What the library has in plain C: its functions, which a compiler compares with the header, and their structs."""
     texts = "".join(open(path).read() for path in glob.glob(f"{OURS}/*.c"))
-    return {"lis_line", "lis_entry", *re.findall(r"^\w[\w *]*?(lis_\w+)\([^;]*?\) \{$", texts, re.M)}
+    functions = re.findall(r"^\w[\w *]*?(lis_\w+)\([^;]*?\) \{$", texts, re.M)
+    return {"lis_line", "lis_station_line", "lis_entry", *functions}
 
 
 class Header(kit.Test):
@@ -112,6 +117,15 @@ class Header(kit.Test):
         file = ["-pedantic", *WARNINGS, "-c", f"{work}/header.c", "-o", f"{work}/header.o"]
         self.runs(["gcc", "-std=c99", *file])
         self.runs(["g++", "-std=c++11", "-x", "c++", *file])
+        with open(f"{work}/ignores.c", "w") as other:
+            other.write('#include "lislink.h"\nvoid ignores(lis_reader *s, lis_found *out);\n'
+                        "void ignores(lis_reader *s, lis_found *out) { lis_reader_finish(s, out); }\n"
+                        "#if defined LIS_ENUM || defined LIS_ENUM_END || defined LIS_LOOKED_AT\n"
+                        "#error a macro stays\n#endif\n")
+        words = ["-c", f"{work}/ignores.c", "-o", f"{work}/ignores.o"]
+        self.runs(["gcc", "-std=c99", *WARNINGS, *words])
+        ran = subprocess.run(["g++", "-std=c++17", "-x", "c++", *WARNINGS, *words], capture_output=True, text=True)
+        self.has("a status that isn't looked at, in C++17", ran.stderr, "nodiscard")
 
     def test_quotations(self):
         """Each block of C or Python on a page is in a sample, whole and in its order, at one depth."""

@@ -8,11 +8,9 @@ import threading
 import time
 
 from tests import ROOT, kit
-from tests.ffi.test_samples import ACK, ENQ, EOT, InPython, ask, frame, kept, told
+from tests.ffi.test_samples import ACK, CPP, ENQ, EOT, InPython, ask, frame, kept, told
 
 NAK = b"\x15"
-CPP = ["g++", "-std=c++17", "-Wall", "-Wextra", "-Werror", "-pedantic", f"-I{ROOT}/include", "-g", "-O1",
-       "-fsanitize=address,undefined", "-fno-sanitize-recover=all"]
 PANEL = os.path.join(ROOT, "samples/panel.records")
 #: How long a sender takes that asks a busy computer three times: at least, and at most.
 LEAST, MOST = 29, 60

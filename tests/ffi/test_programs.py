@@ -2,6 +2,7 @@
 undefined behavior; one without a C library; those of examples/python over the package."""
 import os
 import re
+import subprocess
 import sys
 
 from tests import ROOT, kit
@@ -12,14 +13,17 @@ VALUES = "".join(" ".join(line.split(" ")[:2]) + " \n" for line in RESULTS.split
 WHOSE = "".join(f"{whose} {line.strip()}\n" for whose, line in zip([*["4711 S7"] * 3, "4712 S8"], VALUES.splitlines()))
 #: Each program: its files, those of this folder with their path, and the pattern of what it prints.
 PROGRAMS = {"values": (["values.c", "names.c", "pieces.c", "heap.c"], re.escape(VALUES)),
-            "patients": (["patients.c", "names.c", "heap.c"], re.escape(WHOSE)),
+            "patients": (["patients.c", "names.c", "pieces.c", "heap.c"], re.escape(WHOSE)),
+            "resume": (["../../tests/ffi/resume.c", "pieces.c", "heap.c"], r"\d+ compared\n"),
             "null": (["../../tests/ffi/null.c", "heap.c"], r"\d+ compared\n"),
             "long": (["../../tests/ffi/long.c"], r"\d+ compared\n"),
             "station": (["../../tests/ffi/station.c"], r"\d+ compared\n"),
             "parts": (["../../tests/ffi/parts.c", "heap.c"], r"\d+ compared\n"),
-            "stack": (["../../tests/ffi/stack.c", "heap.c"], r"lis_long_frame_write: under 64 KiB\n"),
+            "stack": (["../../tests/ffi/stack.c", "heap.c"], "lis_long_frame_write: under 64 KiB\n"
+                      "the usual limit: under 64 KiB\nthe long limit: under 1000 KiB\n"),
             "room": (["../../tests/ffi/room.c"],
-                     r"499 texts, 0 calls of the heap for the last 497\n1004 records, 0 calls of the heap\n"),
+                     r"499 texts, 0 calls of the heap for the last 497\n1004 records, 0 calls of the heap\n"
+                     r"a station: 499 texts, 0 calls of the heap for the last 497\n"),
             "last": (["../../tests/ffi/last.c", "heap.c"], r"\d+ compared\n"),
             "serial": (["../../tests/ffi/serial.c", "serial.c"], r"in out\n"),
             "line": (["../../tests/ffi/line.c", "connection.c", "heap.c"], r"\d+ compared\n"),
@@ -57,6 +61,32 @@ class Programs(kit.Test):
             if self.runs([*C11, *SANITIZERS, *paths, self.archive, "-o", f"{work}/{name}"]):
                 with open(self.panel if name in ("values", "patients") else f"{work}/link") as given:
                     self.runs([f"{work}/{name}"], re.compile(said), stdin=given)
+
+    def test_broken_off(self):
+        """A session that broke off, and its message again: each sample that reads names the first and goes on."""
+        work, whose, values = kit.folder_of(self), WHOSE.splitlines(keepends=True), VALUES.splitlines(keepends=True)
+        library = shared(self, self.archive, work)
+        with open(self.panel, "rb") as file:
+            panel = file.read()
+        with open(f"{work}/broken", "wb") as file:
+            file.write(panel[:panel.index(b"R|3")] + panel)
+        samples = {"values": values[:2] + values, "patients": whose}
+        for name, wanted in samples.items():
+            paths = [source(file) for file in PROGRAMS[name][0]]
+            self.runs([*C11, *SANITIZERS, *paths, self.archive, "-o", f"{work}/{name}"])
+            self.names_one([f"{work}/{name}"], f"{work}/broken", "".join(wanted), 1)
+        for name, wanted in (("quick_results", RESULTS), ("read_places", WHOSE), ("read_results", None)):
+            words = [sys.executable, f"{IN_PYTHON}/{name}.py"]
+            self.names_one(words, f"{work}/broken", wanted, 0, **python_over(library))
+
+    def names_one(self, words, path, wanted, status, **how):
+        """Whether a sample prints this, and one line on standard error of a record that can't be read."""
+        with open(path) as given:
+            ran = subprocess.run(words, stdin=given, capture_output=True, text=True, timeout=60, **how)
+        self.same(f"{words[-1]}: its status", ran.returncode, status)
+        if wanted is not None:
+            self.same(f"{words[-1]}: what it prints", ran.stdout, wanted)
+        self.check(re.fullmatch(r"record \d+: .*\n", ran.stderr), f"{words[-1]}: what it names", ran.stderr)
 
     def test_bare(self):
         work = kit.folder_of(self)

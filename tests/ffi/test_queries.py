@@ -1,6 +1,6 @@
-"""The samples that answer a query, in C, C++, Rust and Python: an analyzer asks for samples and takes their orders.
-Each is killed after each text; both ask for the line at once; a text can't be kept; nobody takes the orders; and it is
-stopped for so long that its reply would be late. The bytes are those of LIS01-A2, 6.2 to 6.5."""
+"""The samples that answer a query, in C, C++, Rust and Python: an analyzer asks for samples, in each form that a query
+may have, and takes their orders; both ask for the line at once; and nobody takes the orders. The bytes are those of
+LIS01-A2, 6.2 to 6.5. What they keep is tried in test_keeps.py."""
 import os
 import shutil
 import subprocess
@@ -8,13 +8,10 @@ import sys
 import time
 
 from tests import ROOT, kit
-from tests.ffi import test_samples as samples
 from tests.ffi.c import C11, IN_C, SANITIZERS, python_over
-from tests.ffi.test_samples import ACK, ENQ, EOT, InC, InPython, ask, frame, kept, told
+from tests.ffi.test_samples import ACK, CPP, ENQ, EOT, InC, InPython, ask, frame, kept, told
 
 NAK = b"\x15"
-CPP = ["g++", "-std=c++17", "-Wall", "-Wextra", "-Werror", "-pedantic", f"-I{ROOT}/include", "-g", "-O1",
-       "-fsanitize=address,undefined", "-fno-sanitize-recover=all"]
 RUST = os.path.join(ROOT, "bindings/rust")
 
 
@@ -23,9 +20,20 @@ def query(sample):
     return [b"H|\\^&\r", b"Q|1|^%s||ALL\r" % sample, b"L|1|N\r"]
 
 
-def orders(sample):
+#: Forms of a query: its session's texts, and the samples that it asks for.
+FORMS = {"all records in one text": ([b"".join(query(b"S7"))], [b"S7"]),
+         "other delimiters": ([b"H!\\~&\r", b"Q!1!~S7!!ALL\r", b"L!1!N\r"], [b"S7"]),
+         "two queries": ([b"H|\\^&\r", b"Q|1|^S7\rQ|2|^S8\r", b"L|1|N\r"], [b"S7", b"S8"]),
+         "a sample with an escape": (query(b"S&S&7"), [b"S&S&7"]),
+         "a record after it that can't be read": ([*query(b"S7")[:2], b"X|1\r", b"L|1|N\r"], [b"S7"]),
+         "a long sample": (query(b"7" * 100), [b"7" * 100])}
+
+
+def orders(*samples):
     """The texts of the answer."""
-    return [b"H|\\^&\r", b"P|1\r", b"O|1|%s||^^^GLU\r" % sample, b"L|1|F\r"]
+    each = [text for number, sample in enumerate(samples, 1)
+            for text in (b"P|%d\r" % number, b"O|1|%s||^^^GLU\r" % sample)]
+    return [b"H|\\^&\r", *each, b"L|1|F\r"]
 
 
 def asks(line, texts):
@@ -45,15 +53,6 @@ def takes(line, texts):
     return good and ask(line, ACK, EOT)
 
 
-def is_killed(start, path, cut):
-    """Killed after the acknowledgement of so many texts of a query, it has kept these."""
-    samples.TEXTS, whole = query(b"S7"), samples.TEXTS
-    try:
-        return samples.killed(start, path, cut)
-    finally:
-        samples.TEXTS = whole
-
-
 def of_queries(test, name, start, path):
     """Two queries, one after the other, each answered in a session of its own."""
     sample = start(f"{path}-answered")
@@ -63,6 +62,15 @@ def of_queries(test, name, start, path):
     test.check(ask(sample.line, ENQ, ACK) and ask(sample.line, EOT, b""), f"{name}: a session without a query")
     sample.end()
     test.check(kept(f"{path}-answered") == b"".join(query(b"S7") + query(b"S8")), f"{name}: what it keeps")
+
+
+def of_forms(test, name, start, path):
+    """Each form of a query is answered."""
+    sample = start(f"{path}-forms")
+    for form, (texts, samples) in FORMS.items():
+        good = asks(sample.line, texts) and told(sample.line, 1) == ENQ and takes(sample.line, orders(*samples))
+        test.check(good, f"{name}: a query as {form}")
+    sample.end()
 
 
 def of_contention(test, name, start, path):
@@ -99,26 +107,13 @@ def takes_rest(line, texts):
 
 
 def of_failures(test, name, start, path):
-    """A frame that is rejected six times, and a text that can't be kept: the line is given up, and nothing more is
-    sent."""
+    """A frame that is rejected six times: the line is given up, and nothing more is sent."""
     sample, first = start(f"{path}-failed"), frame(1, orders(b"S7")[0])
     good = asks(sample.line, query(b"S7")) and told(sample.line, 1) == ENQ and ask(sample.line, ACK, first)
     for _ in range(5):
         good = good and ask(sample.line, NAK, first)
     good = good and ask(sample.line, NAK, EOT) and told(sample.line, 1) == b""
     test.check(gives_up(sample) and good, f"{name}: six tries")
-    full = start("/dev/full")
-    good = ask(full.line, ENQ, ACK) and ask(full.line, frame(1, query(b"S7")[0]), b"")
-    test.check(good, f"{name}: a text that can't be kept is acknowledged")
-    full.end()
-
-
-def is_silent_late(sample, good, since):
-    """It goes on when its reply could come after the sender's timer: it sends none, and gives the line up."""
-    time.sleep(max(0.0, since + 12 - time.monotonic()))
-    sample.process.send_signal(samples.signal.SIGCONT)
-    good = good and told(sample.line, 1, 3.0) == b""
-    return gives_up(sample) and good
 
 
 def gives_up(sample):
@@ -142,12 +137,8 @@ class Queries(kit.Test):
     def tried(self, name, start):
         """All of it with one sample."""
         path = f"{kit.folder_of(self)}/kept"
-        late = samples.paused(start(f"{path}-late"))
-        for cut in range(len(query(b"S7")) + 1):
-            self.check(is_killed(start, path, cut), f"{name}, killed after {cut} texts")
-        for part in (of_queries, of_contention, of_turns, of_failures):
+        for part in (of_queries, of_forms, of_contention, of_turns, of_failures):
             part(self, name, start, path)
-        self.check(is_silent_late(*late), f"{name}, stopped for 12 seconds, sends a late reply")
 
     def over_tcp(self, program):
         """How a program over the shared library is started."""

@@ -1,8 +1,6 @@
-"""The samples that keep a text and then reply, killed in mid-session and with a text that can't be kept; and
-quick_send."""
+"""The samples host.c and quick_send.c: a text that can't be kept, a timer, a host that takes nothing or is busy. What
+the samples keep is tried in test_keeps.py, which takes the words of a session from here."""
 import os
-import resource
-import signal
 import socket
 import subprocess
 import sys
@@ -12,9 +10,10 @@ import time
 from tests import ROOT, kit
 from tests.ffi.c import C11, SANITIZERS, python_over, shared, source
 
-RECEIVE, LATER = (os.path.join(ROOT, f"examples/python/{it}_receive.py") for it in ("quick", "async"))
-PROGRAMS = {"quick_send": ["examples/c/quick_send.c"], "quick_receive": ["examples/c/quick_receive.c"],
-            "host": ["tests/ffi/host.c", "examples/c/host.c"]}
+RECEIVE = os.path.join(ROOT, "examples/python/quick_receive.py")
+PROGRAMS = {"quick_send": ["examples/c/quick_send.c"], "host": ["tests/ffi/host.c", "examples/c/host.c"]}
+CPP = ["g++", "-std=c++17", "-Wall", "-Wextra", "-Werror", "-pedantic", f"-I{ROOT}/include", "-g", "-O1",
+       "-fsanitize=address,undefined", "-fno-sanitize-recover=all"]
 TEXTS = [b"H|\\^&|||Analyzer\r", b"P|1\r", b"O|1|S7\r", b"R|1|^^^GLU|" + b"5" * 200 + b"\r", b"L|1|N\r"]
 ACK, ENQ, EOT = b"\x06", b"\x05", b"\x04"
 
@@ -50,7 +49,7 @@ class InC:
 
     def __init__(self, words, **how):
         self.line, other = socket.socketpair()
-        self.process = subprocess.Popen(words, stdin=other, stdout=subprocess.PIPE, **how)
+        self.process = subprocess.Popen(words, stdin=other, stdout=subprocess.PIPE, stderr=subprocess.DEVNULL, **how)
         other.close()
 
     def end(self):
@@ -70,51 +69,6 @@ class InPython(InC):
 def kept(path):
     with open(path, "rb") as file:
         return file.read()
-
-
-def killed(start, path, cut):
-    """Killed after the acknowledgement of so many texts, it has kept these."""
-    if os.path.exists(path):
-        os.remove(path)
-    sample = start(path)
-    good = ask(sample.line, ENQ, ACK)
-    for number, text in enumerate(TEXTS[:cut], 1):
-        good = good and ask(sample.line, frame(number, text), ACK)
-    sample.process.send_signal(signal.SIGKILL)
-    sample.end()
-    return good and kept(path) == b"".join(TEXTS[:cut])
-
-
-def whole(start, path, said):
-    """A session that is given up after a text, and sent again whole, to its end; what is printed."""
-    os.remove(path)
-    sample = start(path)
-    good = ask(sample.line, ENQ, ACK) and ask(sample.line, frame(1, TEXTS[0]), ACK) and ask(sample.line, ENQ, ACK)
-    for number, text in enumerate(TEXTS, 1):
-        good = good and ask(sample.line, frame(number, text), ACK)
-    sample.line.sendall(EOT)
-    good = sample.end() == 0 and good and kept(path) == TEXTS[0] + b"".join(TEXTS)
-    return good and sample.process.stdout.read() == said
-
-
-def of_receivers(test, work, how):
-    path = f"{work}/kept"
-    starts = {"quick_receive.c": lambda to: InC([f"{work}/quick_receive", to]),
-              "quick_receive.cpp": lambda to: InPython([f"{work}/quick_receive_cpp", "0", to]),
-              "quick_receive.py": lambda to: InPython([sys.executable, RECEIVE, "0", to], **how),
-              "async_receive.py": lambda to: InPython([sys.executable, LATER, "0", to], **how)}
-    for name, start in starts.items():
-        for cut in range(len(TEXTS) + 1):
-            test.check(killed(start, path, cut), f"{name}, killed after {cut} texts")
-        said = b"H P O R L\n" if name == "quick_receive.py" else b""
-        test.check(whole(start, path, said), f"{name}, a whole session")
-        sample = start("/dev/full")
-        test.check(ask(sample.line, ENQ, ACK) and ask(sample.line, frame(1, TEXTS[0]), b""),
-                    f"{name}: what can't be kept is acknowledged")
-        if name.endswith((".c", ".cpp")):
-            again = ask(sample.line, frame(1, TEXTS[0]), b"") and ask(sample.line, ENQ, ACK)
-            test.check(again, f"{name}, behind a text that can't be kept")
-        sample.end()
 
 
 def of_host(test, work):
@@ -176,56 +130,15 @@ def gives_up(sample, host, heard):
     return (status, len(heard)) == (1, 3)
 
 
-def paused(sample):
-    """A sample that is stopped before a frame comes; and since when."""
-    good = ask(sample.line, ENQ, ACK) and ask(sample.line, frame(1, TEXTS[0]), ACK)
-    sample.process.send_signal(signal.SIGSTOP)
-    sample.line.sendall(frame(2, TEXTS[1]))
-    return sample, good, time.monotonic()
-
-
-def is_silent_late(sample, good, since):
-    """It goes on when its reply could come after the sender's timer: it sends none. It hears the next session, which
-    begins once it has seen the line empty."""
-    time.sleep(max(0.0, since + 12 - time.monotonic()))
-    sample.process.send_signal(signal.SIGCONT)
-    good = good and told(sample.line, 1, 3.0) == b"" and ask(sample.line, ENQ, ACK)
-    sample.end()
-    return good
-
-
-def of_short_write(test, work):
-    """quick_receive.c, whose file may not grow past the middle of the second text: it keeps the first, and no half."""
-    path, most = f"{work}/short", len(TEXTS[0]) + 2
-    sample = InC([f"{work}/quick_receive", path], restore_signals=False,
-                 preexec_fn=lambda: resource.setrlimit(resource.RLIMIT_FSIZE, (most, most)))
-    good = ask(sample.line, ENQ, ACK) and ask(sample.line, frame(1, TEXTS[0]), ACK)
-    good = good and ask(sample.line, frame(2, TEXTS[1]), b"") and ask(sample.line, ENQ, ACK)
-    test.check(good and kept(path) == TEXTS[0], "quick_receive.c: half a text that can't be kept stays in the file")
-    sample.end()
-
-
 class Samples(kit.Test):
     def test_samples(self):
         archive, work = kit.built("archive"), kit.folder_of(self)
         library = shared(self, archive, work)
         built = [self.runs([*C11, *SANITIZERS, *(os.path.join(ROOT, it) for it in files), source("heap.c"), archive,
                             "-o", f"{work}/{name}"]) for name, files in PROGRAMS.items()]
-        sources = [os.path.join(ROOT, it) for it in ("examples/cpp/quick_receive.cpp", "src/c/connection.c")]
-        words = ["g++", "-std=c++17", "-g", "-I", os.path.join(ROOT, "include"), *SANITIZERS]
-        built.append(self.runs([*words, "-x", "c++", sources[0], "-x", "c", sources[1], "-x", "none", source("heap.c"),
-                                source("names.c"), archive, "-o", f"{work}/quick_receive_cpp"]))
         if not library or not all(built):
             return
         asks = busy(InC([f"{work}/quick_send", "text"]))
-        how, late = python_over(library), paused(InC([f"{work}/quick_receive", f"{work}/late"]))
-        late_in_cpp = paused(InPython([f"{work}/quick_receive_cpp", "0", f"{work}/late_in_cpp"]))
-        late_too = paused(InPython([sys.executable, LATER, "0", f"{work}/late_too"], **how))
-        of_receivers(self, work, how)
         of_host(self, work)
-        of_sender(self, work, how)
-        of_short_write(self, work)
+        of_sender(self, work, python_over(library))
         self.check(gives_up(*asks), "quick_send.c to a host that is busy: three ENQs")
-        self.check(is_silent_late(*late), "quick_receive.c, stopped for 12 seconds, sends a late reply")
-        self.check(is_silent_late(*late_in_cpp), "quick_receive.cpp, stopped for 12 seconds, sends a late reply")
-        self.check(is_silent_late(*late_too), "async_receive.py, stopped for 12 seconds, sends a late reply")

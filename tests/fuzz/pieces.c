@@ -1,6 +1,6 @@
 /* A stream of records by the call for a piece, in pieces and arrays of any size, against a plain loop
- * (tests/ffi/parts.h): the records that it gives are the lines of the stream, each with all its parts; where it stops for
- * good, lis_reader_read says why. */
+ * (tests/ffi/parts.h): the records that it gives are the lines of the stream, each with all its parts; where it stops,
+ * lis_reader_read says why, and it goes on at the next header. */
 #include "fuzz.h"
 
 #include "../ffi/parts_check.h"
@@ -19,31 +19,39 @@ static size_t check_entry(const lis_entry *entry, const uint8_t *line, size_t le
 }
 
 /* The line that was not read can't come next, and lis_reader_read says why; or it isn't whole. */
-static void check_rest(lis_reader *reader, const uint8_t *rest, size_t left) {
+static bool is_refused(lis_reader *reader, const uint8_t *rest, size_t left) {
     const uint8_t *end = memchr(rest, '\r', left);
     lis_found found;
     if (end == NULL)
-        return;
+        return false;
     size_t len = (size_t)(end - rest), read = len > 0 ? lis_reader_read(reader, rest, len, &found) : 0;
     if (len == 0 || found.kind != LIS_FOUND_REFUSED) {
         CHECK(read == len);
         lis_reader_read(reader, end, 1, &found);
     }
     CHECK(found.kind == LIS_FOUND_REFUSED);
+    return true;
 }
 
-static void read_stream(const uint8_t *stream, size_t len, uint32_t seed) {
-    lis_reader reader = {block(lis_reader_size())};
+/* Goes on after the line that can't come: at a line that begins with H, which is that line or a later one. */
+static size_t go_on(lis_reader *reader, const uint8_t *rest, size_t left) {
+    bool begins = lis_reader_resume(reader), is_first = begins;
+    size_t before = lis_header_find(rest, left, &begins);
+    CHECK(before == left || ((rest[before] & 0xdf) == 'H' && (before == 0 ? is_first : rest[before - 1] == '\r')));
+    return before;
+}
+
+/* Reads on to a line that can't come, or to the end; how many bytes were read. */
+static size_t read_on(lis_reader *reader, const uint8_t *stream, size_t len, uint32_t seed) {
     size_t most = 1 + seed % 5, done = 0, given = 0, count;
     lis_entry *entries = block(most * sizeof *entries);
-    lis_reader_init(reader.at);
     while (given < len) {
         given += piece_of(&seed, 997, len - given);
         uint8_t *piece = copy_of(stream + done, given - done);
         size_t at = 0, read;
         do {
             size_t room = MOST_PARTS + (next(&seed) >> 16) % MOST_PARTS, end = at;
-            read = lis_reader_records(&reader, piece + at, given - done - at, entries, most, parts, room, &count);
+            read = lis_reader_records(reader, piece + at, given - done - at, entries, most, parts, room, &count);
             CHECK(count <= most && (read > 0) == (count > 0));
             for (size_t i = 0; i < count; i++) {
                 CHECK(entries[i].offset == end - at);
@@ -57,10 +65,21 @@ static void read_stream(const uint8_t *stream, size_t len, uint32_t seed) {
         if (memchr(stream + done, '\r', given - done) != NULL)
             break;
     }
-    check_rest(&reader, stream + done, given - done);
+    free(entries);
+    return done;
+}
+
+static void read_stream(const uint8_t *stream, size_t len, uint32_t seed) {
+    lis_reader reader = {block(lis_reader_size())};
+    size_t done = 0;
+    lis_reader_init(reader.at);
+    for (bool more = true; more;) {
+        done += read_on(&reader, stream + done, len - done, seed);
+        more = is_refused(&reader, stream + done, len - done);
+        done += more ? go_on(&reader, stream + done, len - done) : 0;
+    }
     lis_reader_end(reader);
     free(reader.at);
-    free(entries);
 }
 
 int LLVMFuzzerTestOneInput(const uint8_t *data, size_t size) {

@@ -19,6 +19,10 @@ fn main() {
         }
         println!("cargo:rerun-if-changed={}", archive.display());
         println!("cargo:rustc-link-search=native={folder}");
+    } else {
+        println!(
+            "cargo:warning=liblislink is looked for where the linker looks: set LISLINK_LIB_DIR to its folder"
+        );
     }
     println!("cargo:rustc-link-lib={kind}=lislink");
 }

@@ -107,6 +107,14 @@ pub const LIS_LIMIT_TEXTS: u64 = 65536;
 pub const LIS_LIMIT_TEXT_BYTES: u64 = 1048576;
 pub const LIS_LIMIT_RECORD_BYTES: u64 = 65536;
 
+pub const LIS_SCANNER_BLOCK: u64 = 512;
+pub const LIS_SENDER_BLOCK: u64 = 256;
+pub const LIS_RECEIVER_BLOCK: u64 = 640;
+pub const LIS_STATION_BLOCK: u64 = 896;
+pub const LIS_READER_BLOCK: u64 = 256;
+pub const LIS_WRITER_BLOCK: u64 = 384;
+pub const LIS_BLOCK_ALIGN: u64 = 16;
+
 pub const LIS_PART_ESCAPED: u64 = 1;
 
 #[repr(C)]
@@ -190,6 +198,13 @@ pub struct lis_answer {
 #[derive(Clone, Copy, Debug)]
 pub struct lis_station {
     pub at: *mut c_void,
+}
+
+#[repr(C)]
+#[derive(Clone, Copy, Debug)]
+pub struct lis_station_line {
+    pub station: lis_station,
+    pub is_new: bool,
 }
 
 #[repr(C)]
@@ -292,8 +307,8 @@ extern "C" {
         bytes_len: usize,
         out: *mut lis_signal,
     ) -> usize;
-    pub fn lis_scanner_text_len(s: *mut lis_scanner) -> usize;
-    pub fn lis_scanner_text(s: *mut lis_scanner, out: *mut u8, out_len: usize) -> lis_status;
+    pub fn lis_scanner_text_len(s: *const lis_scanner) -> usize;
+    pub fn lis_scanner_text(s: *const lis_scanner, out: *mut u8, out_len: usize) -> lis_status;
     pub fn lis_frame_write(
         number: u8,
         last: bool,
@@ -333,16 +348,16 @@ extern "C" {
     ) -> lis_status;
     pub fn lis_sender_reply(s: *mut lis_sender, byte: u8, out: *mut lis_bytes);
     pub fn lis_sender_frame(
-        s: *mut lis_sender,
+        s: *const lis_sender,
         out: *mut u8,
         out_len: usize,
         size: *mut usize,
     ) -> lis_status;
     pub fn lis_sender_timer(s: *mut lis_sender, out: *mut lis_bytes);
     pub fn lis_sender_restart(s: *mut lis_sender);
-    pub fn lis_sender_phase(s: *mut lis_sender) -> lis_phase;
-    pub fn lis_sender_outcome(s: *mut lis_sender) -> lis_outcome;
-    pub fn lis_sender_acknowledged(s: *mut lis_sender) -> u64;
+    pub fn lis_sender_phase(s: *const lis_sender) -> lis_phase;
+    pub fn lis_sender_outcome(s: *const lis_sender) -> lis_outcome;
+    pub fn lis_sender_acknowledged(s: *const lis_sender) -> u64;
     pub fn lis_line_init(line: *mut lis_line, sender: lis_sender);
     pub fn lis_line_connected(line: *mut lis_line) -> u64;
     pub fn lis_line_start(
@@ -359,7 +374,7 @@ extern "C" {
     ) -> lis_status;
     pub fn lis_line_reply(line: *mut lis_line, connection: u64, byte: u8, out: *mut lis_bytes);
     pub fn lis_line_frame(
-        line: *mut lis_line,
+        line: *const lis_line,
         connection: u64,
         out: *mut u8,
         out_len: usize,
@@ -367,6 +382,7 @@ extern "C" {
     ) -> lis_status;
     pub fn lis_line_timer(line: *mut lis_line, out: *mut lis_bytes);
     pub fn lis_line_restart(line: *mut lis_line);
+    pub fn lis_sender_timer_seconds(s: *const lis_sender, seconds: *mut u32) -> bool;
     pub fn lis_receiver_size() -> usize;
     pub fn lis_receiver_align() -> usize;
     pub fn lis_receiver_init(at: *mut c_void);
@@ -384,11 +400,12 @@ extern "C" {
     pub fn lis_receiver_set_room(s: *mut lis_receiver, room: bool);
     pub fn lis_receiver_set_ready(s: *mut lis_receiver, readiness: lis_ready) -> lis_status;
     pub fn lis_receiver_reserve(s: *mut lis_receiver, bytes: u64) -> lis_status;
-    pub fn lis_receiver_is_open(s: *mut lis_receiver) -> bool;
-    pub fn lis_receiver_accepted(s: *mut lis_receiver) -> u64;
-    pub fn lis_receiver_held(s: *mut lis_receiver) -> u64;
-    pub fn lis_receiver_text_len(s: *mut lis_receiver) -> usize;
-    pub fn lis_receiver_text(s: *mut lis_receiver, out: *mut u8, out_len: usize) -> lis_status;
+    pub fn lis_receiver_is_open(s: *const lis_receiver) -> bool;
+    pub fn lis_receiver_timer_seconds(s: *const lis_receiver, seconds: *mut u32) -> bool;
+    pub fn lis_receiver_accepted(s: *const lis_receiver) -> u64;
+    pub fn lis_receiver_held(s: *const lis_receiver) -> u64;
+    pub fn lis_receiver_text_len(s: *const lis_receiver) -> usize;
+    pub fn lis_receiver_text(s: *const lis_receiver, out: *mut u8, out_len: usize) -> lis_status;
     pub fn lis_station_size() -> usize;
     pub fn lis_station_align() -> usize;
     pub fn lis_station_init(at: *mut c_void);
@@ -413,9 +430,9 @@ extern "C" {
         out: *mut lis_answer,
     ) -> usize;
     pub fn lis_station_timer(s: *mut lis_station, out: *mut lis_answer);
-    pub fn lis_station_timer_seconds(s: *mut lis_station, seconds: *mut u32) -> bool;
+    pub fn lis_station_timer_seconds(s: *const lis_station, seconds: *mut u32) -> bool;
     pub fn lis_station_frame(
-        s: *mut lis_station,
+        s: *const lis_station,
         out: *mut u8,
         out_len: usize,
         size: *mut usize,
@@ -425,18 +442,26 @@ extern "C" {
     pub fn lis_station_restart(s: *mut lis_station);
     pub fn lis_station_set_ready(s: *mut lis_station, ready: bool);
     pub fn lis_station_ask_turn(s: *mut lis_station);
-    pub fn lis_station_turn_asked(s: *mut lis_station) -> bool;
-    pub fn lis_station_turn_seconds(s: *mut lis_station) -> u32;
-    pub fn lis_station_awaits_reply(s: *mut lis_station) -> bool;
+    pub fn lis_station_turn_asked(s: *const lis_station) -> bool;
+    pub fn lis_station_turn_seconds(s: *const lis_station) -> u32;
+    pub fn lis_station_awaits_reply(s: *const lis_station) -> bool;
     pub fn lis_station_reserve(s: *mut lis_station, bytes: u64) -> lis_status;
-    pub fn lis_station_phase(s: *mut lis_station) -> lis_phase;
-    pub fn lis_station_outcome(s: *mut lis_station) -> lis_outcome;
-    pub fn lis_station_acknowledged(s: *mut lis_station) -> u64;
-    pub fn lis_station_is_open(s: *mut lis_station) -> bool;
-    pub fn lis_station_accepted(s: *mut lis_station) -> u64;
-    pub fn lis_station_held(s: *mut lis_station) -> u64;
-    pub fn lis_station_text_len(s: *mut lis_station) -> usize;
-    pub fn lis_station_text(s: *mut lis_station, out: *mut u8, out_len: usize) -> lis_status;
+    pub fn lis_station_phase(s: *const lis_station) -> lis_phase;
+    pub fn lis_station_outcome(s: *const lis_station) -> lis_outcome;
+    pub fn lis_station_acknowledged(s: *const lis_station) -> u64;
+    pub fn lis_station_is_open(s: *const lis_station) -> bool;
+    pub fn lis_station_accepted(s: *const lis_station) -> u64;
+    pub fn lis_station_held(s: *const lis_station) -> u64;
+    pub fn lis_station_text_len(s: *const lis_station) -> usize;
+    pub fn lis_station_text(s: *const lis_station, out: *mut u8, out_len: usize) -> lis_status;
+    pub fn lis_station_line_init(line: *mut lis_station_line, station: lis_station);
+    pub fn lis_station_line_connected(line: *mut lis_station_line);
+    pub fn lis_station_line_start(
+        line: *mut lis_station_line,
+        out: *mut lis_bytes,
+        fault: *mut lis_place,
+    ) -> lis_status;
+    pub fn lis_station_line_needs_new(line: *const lis_station_line) -> bool;
     pub fn lis_header_read(
         text: *const u8,
         text_len: usize,
@@ -504,7 +529,7 @@ extern "C" {
         out: *mut lis_found,
     ) -> usize;
     pub fn lis_reader_part(
-        s: *mut lis_reader,
+        s: *const lis_reader,
         field: usize,
         repeat: usize,
         component: usize,
@@ -513,13 +538,13 @@ extern "C" {
         size: *mut usize,
     ) -> lis_status;
     pub fn lis_reader_parts(
-        s: *mut lis_reader,
+        s: *const lis_reader,
         out: *mut lis_part,
         out_len: usize,
         table: *mut lis_table,
     ) -> lis_status;
     pub fn lis_reader_text(
-        s: *mut lis_reader,
+        s: *const lis_reader,
         out: *mut u8,
         out_len: usize,
         size: *mut usize,
@@ -543,7 +568,9 @@ extern "C" {
         parts_len: usize,
         count: *mut usize,
     ) -> usize;
-    pub fn lis_reader_finish(s: *mut lis_reader, out: *mut lis_found) -> lis_status;
+    pub fn lis_reader_finish(s: *const lis_reader, out: *mut lis_found) -> lis_status;
+    pub fn lis_reader_resume(s: *mut lis_reader) -> bool;
+    pub fn lis_header_find(bytes: *const u8, bytes_len: usize, begins: *mut bool) -> usize;
     pub fn lis_message_places(
         text: *const u8,
         text_len: usize,
@@ -566,10 +593,10 @@ extern "C" {
     pub fn lis_writer_repeat(s: *mut lis_writer, bytes: *const u8, bytes_len: usize) -> lis_status;
     pub fn lis_writer_field(s: *mut lis_writer, bytes: *const u8, bytes_len: usize) -> lis_status;
     pub fn lis_writer_put(s: *mut lis_writer, field: *mut usize) -> lis_status;
-    pub fn lis_writer_texts(s: *mut lis_writer) -> usize;
-    pub fn lis_writer_text_len(s: *mut lis_writer, place: usize) -> usize;
+    pub fn lis_writer_texts(s: *const lis_writer) -> usize;
+    pub fn lis_writer_text_len(s: *const lis_writer, place: usize) -> usize;
     pub fn lis_writer_text(
-        s: *mut lis_writer,
+        s: *const lis_writer,
         place: usize,
         out: *mut u8,
         out_len: usize,

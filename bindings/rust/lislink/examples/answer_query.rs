@@ -4,20 +4,18 @@
 //!
 //! The line is given up, for a new connection, where a session of its own failed or a reply would be late.
 
+mod port;
+
 use lislink::{FrameLimit, Note, Outcome, Phase, Reader, Role, Station, StationAnswer, Writer};
-use std::fs::{File, OpenOptions};
+use port::{TextFile, PAUSE};
 use std::io::{self, ErrorKind, Read, Write};
-use std::net::{TcpListener, TcpStream};
-use std::os::unix::fs::OpenOptionsExt;
+use std::net::TcpStream;
 use std::time::{Duration, Instant};
 
 /// A reply that goes out later could come after the analyzer's timer, which is 15 seconds.
 const LATE: Duration = Duration::from_secs(10);
 
-/// How long a read waits: a line that is idle is looked at so often.
-const PAUSE: Duration = Duration::from_secs(1);
-
-/// The samples that the queries of a session are for.
+/// The samples that the queries of a session are for, up to a record that can't be read.
 fn asked_for(texts: &[u8]) -> Vec<Vec<u8>> {
     let mut reader = Reader::new();
     let records = reader.feed(texts).map_while(Result::ok);
@@ -42,7 +40,7 @@ fn orders(samples: &[Vec<u8>]) -> Result<Vec<Vec<u8>>, lislink::Error> {
 /// The computer's side of one line.
 struct Computer {
     line: TcpStream,
-    store: File,
+    store: TextFile,
     texts: Vec<u8>,
     samples: Vec<Vec<u8>>,
     is_sending: bool,
@@ -54,8 +52,7 @@ impl Computer {
     /// Keeps an answer's text, and then sends its bytes.
     fn take(&mut self, answer: StationAnswer<'_>) -> io::Result<()> {
         if let Some(text) = answer.text() {
-            self.store.write_all(text)?;
-            self.store.sync_all()?; // keep, then send: after an error nothing goes out
+            self.store.keep(text)?; // keep, then send: after an error nothing goes out
             self.texts.extend_from_slice(text);
         }
         self.line.write_all(answer.send())?;
@@ -163,15 +160,7 @@ impl Computer {
 }
 
 fn main() -> io::Result<()> {
-    let words: Vec<String> = std::env::args().collect();
-    let [_, port, path] = words.as_slice() else {
-        return Err(io::Error::other("usage: answer_query PORT FILE"));
-    };
-    let port: u16 = port.parse().map_err(io::Error::other)?;
-    let store = OpenOptions::new().append(true).create(true).mode(0o600).open(path)?;
-    let server = TcpListener::bind(("127.0.0.1", port))?;
-    println!("port {}", server.local_addr()?.port());
-    let (line, _) = server.accept()?;
+    let (line, store) = port::line_and_store("answer_query")?;
     let (texts, samples) = (Vec::new(), Vec::new());
     let mut computer =
         Computer { line, store, texts, samples, is_sending: false, due: None, free_at: None };

@@ -8,7 +8,7 @@
 mod port;
 
 use lislink::Receiver;
-use std::fs::File;
+use port::TextFile;
 use std::future::Future;
 use std::io::{self, ErrorKind, Read, Write};
 use std::net::TcpStream;
@@ -42,13 +42,12 @@ impl Line for TcpStream {
     }
 }
 
-async fn keep(store: &mut File, text: &[u8]) -> io::Result<()> {
-    store.write_all(text)?;
-    store.sync_all()
+async fn keep(store: &mut TextFile, text: &[u8]) -> io::Result<()> {
+    store.keep(text)
 }
 
 /// Keeps each text and replies, until the line is closed.
-async fn receive(line: &mut impl Line, store: &mut File) -> io::Result<()> {
+async fn receive(line: &mut impl Line, store: &mut TextFile) -> io::Result<()> {
     let (mut receiver, mut room) = (Receiver::new(), [0; 4096]);
     let mut seen_empty = Instant::now(); // bytes came after this
     loop {

@@ -39,7 +39,7 @@ fn main() -> io::Result<()> {
         if got == 0 {
             return Ok(());
         }
-        let keep = |text: &[u8]| store.write_all(text).and_then(|()| store.sync_all()).is_ok();
+        let keep = |text: &[u8]| store.keep(text).is_ok();
         let send = |reply| line.write_all(&[reply]).is_ok();
         let heard = receiver.hear_since(empty, &bytes[..got], keep, send); // keep, then reply in time
         empty = next;

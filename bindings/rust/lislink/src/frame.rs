@@ -32,6 +32,15 @@ impl std::fmt::Debug for Bytes {
 }
 
 /// The bytes of a frame with this number and text; `last` if it ends its message.
+///
+/// ```
+/// let bytes = lislink::frame(1, true, b"H|\\^&\r").unwrap();
+/// assert_eq!(&bytes[..], b"\x021H|\\^&\r\x03E5\r\n");
+/// ```
+///
+/// # Errors
+///
+/// The text is too long, or has a byte that no text may hold; or the number is over 7.
 pub fn frame(number: u8, last: bool, text: &[u8]) -> Result<Bytes, Error> {
     let (mut out, mut place) = (Bytes::none(), 0);
     let status = unsafe {
@@ -46,7 +55,7 @@ pub fn frame(number: u8, last: bool, text: &[u8]) -> Result<Bytes, Error> {
 pub enum FrameLimit {
     /// 240, as the standard has it.
     Usual,
-    /// 63,993.
+    /// 63,993. A sender or a station then needs a stack of a megabyte.
     Long,
 }
 
@@ -60,6 +69,10 @@ impl FrameLimit {
 }
 
 /// As [`frame`], for a text of up to 63,993 bytes.
+///
+/// # Errors
+///
+/// Those of [`frame`].
 pub fn long_frame(number: u8, last: bool, text: &[u8]) -> Result<Vec<u8>, Error> {
     let mut out = vec![0; text.len() + 7];
     let (mut size, mut place) = (0, 0);
@@ -111,11 +124,16 @@ impl Default for Scanner {
 
 impl Scanner {
     /// A scanner that has read nothing.
+    #[must_use]
     pub fn new() -> Self {
         Scanner(Block::new())
     }
 
-    /// A scanner of frames whose texts have at most so many bytes; an error if there is no memory for it.
+    /// A scanner of frames whose texts have at most so many bytes.
+    ///
+    /// # Errors
+    ///
+    /// There is no memory for the long limit.
     pub fn with_frame_limit(limit: FrameLimit) -> Result<Self, Error> {
         let mut scanner = Self::new();
         let status = unsafe { sys::lis_scanner_set_limit(scanner.0.get(), limit.bytes()) };

@@ -1,5 +1,5 @@
-//! The analyzer side of the laboratory link of CLSI LIS01-A2 (ASTM E1381), and the records of CLSI LIS02-A2
-//! (ASTM E1394), over the C calls of liblislink. The C calls are proved; this crate is tested and not proved.
+//! Both ends, analyzer and computer, of the laboratory link of CLSI LIS01-A2 (ASTM E1381), and the records of CLSI
+//! LIS02-A2 (ASTM E1394), over the C calls of liblislink. The C calls are proved; this crate is tested and not proved.
 //!
 //! - A [`Receiver`] hears bytes. [`Receiver::hear`] keeps each text before it gives the reply that acknowledges it.
 //! - A [`Sender`] sends texts. A session starts only on a [`Connection`] on which no late reply can come.
@@ -11,6 +11,8 @@
 //!
 //! Each of these is `Send` and not `Sync`: one thread at a time uses it.
 #![deny(missing_docs)]
+#![warn(missing_debug_implementations)]
+#![warn(clippy::missing_errors_doc, clippy::must_use_candidate)]
 
 mod block;
 mod codes;
@@ -32,6 +34,21 @@ pub use station::{Station, StationAnswer};
 pub use writer::{Delimiters, Writer};
 
 use std::fmt;
+
+/// `Debug` prints the name of an owner alone: what it has are patients' texts.
+macro_rules! opaque {
+    ($($name:literal: $type:ty),*) => {
+        $(impl fmt::Debug for $type {
+            fn fmt(&self, f: &mut fmt::Formatter<'_>) -> fmt::Result {
+                f.debug_struct($name).finish_non_exhaustive()
+            }
+        })*
+    };
+}
+
+opaque!("Scanner": Scanner, "Sender": Sender<'_>, "Receiver": Receiver, "Station": Station);
+opaque!("Reader": Reader, "Writer": Writer, "Records": Records<'_>, "Text": Text<'_>);
+opaque!("Answer": Answer<'_>, "StationAnswer": StationAnswer<'_>);
 
 /// Why a call did nothing: its status, and which text, field or byte is at fault (0 if none is). It prints the status
 /// in words and, if the call has it, the place.
@@ -100,6 +117,7 @@ impl fmt::Display for Error {
 impl std::error::Error for Error {}
 
 /// The release of the library.
+#[must_use]
 pub fn version() -> &'static str {
     codes::words(unsafe { lislink_sys::lis_version() })
 }

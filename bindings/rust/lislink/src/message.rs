@@ -13,7 +13,17 @@ pub struct Message<'t> {
 
 impl<'t> Message<'t> {
     /// Reads the message that a text begins with, and answers it with the bytes after it; none where the text is empty.
-    /// An error says which record can't come next, or that the text ends before the message does.
+    ///
+    /// # Errors
+    ///
+    /// Which record can't come next, or that the text ends before the message does.
+    ///
+    /// ```
+    /// let text = b"H|\\^&\rP|1\rO|1|S7\rR|1|^^^GLU|5.4\rL|1\r";
+    /// let (message, _) = lislink::Message::read(text).unwrap().unwrap();
+    /// let result = message.results().next().unwrap();
+    /// assert_eq!(result.order.part(3, 0, 0).as_deref(), Some(&b"S7"[..]));
+    /// ```
     pub fn read(text: &'t [u8]) -> Result<Option<(Self, &'t [u8])>, MessageError> {
         let mut places = vec![no_place(); 16];
         let mut told =
@@ -37,17 +47,27 @@ impl<'t> Message<'t> {
         Ok(Some((Message { text, places, delimiters }, following)))
     }
 
+    /// The bytes of a text from the next header on, after a message that can't be read; none are left if there is none.
+    #[must_use]
+    pub fn skip(text: &[u8]) -> &[u8] {
+        let mut begins = false;
+        &text[unsafe { sys::lis_header_find(text.as_ptr(), text.len(), &mut begins) }..]
+    }
+
     /// The delimiters that it is read under.
+    #[must_use]
     pub fn delimiters(&self) -> Delimiters {
         self.delimiters
     }
 
     /// Its text, with the CR of each record.
+    #[must_use]
     pub fn text(&self) -> &'t [u8] {
         self.text
     }
 
     /// Its records, from the header to the terminator.
+    #[must_use]
     pub fn entries(&self) -> impl ExactSizeIterator<Item = Entry<'_, 't>> + '_ {
         (0..self.places.len()).map(|index| Entry { message: self, index })
     }
@@ -85,22 +105,26 @@ impl<'m, 't> Entry<'m, 't> {
     }
 
     /// Its place in the message, from 0 for the header.
+    #[must_use]
     pub fn index(&self) -> usize {
         self.index
     }
 
     /// Its letter in upper case.
+    #[must_use]
     pub fn letter(&self) -> char {
         self.place().letter.into()
     }
 
     /// Its text, without the CR.
+    #[must_use]
     pub fn text(&self) -> &'t [u8] {
         let place = self.place();
         &self.message.text[place.start..place.start + place.len as usize]
     }
 
     /// The record that it is under; the header is under itself.
+    #[must_use]
     pub fn parent(&self) -> Entry<'m, 't> {
         Entry { index: self.place().parent, ..*self }
     }
@@ -118,6 +142,7 @@ impl<'m, 't> Entry<'m, 't> {
 
     /// The bytes that a component means; none if there is no such part. Fields are counted as the standard does: the
     /// first after the letter is 2, after a header's delimiters 3; repeats and components from 0.
+    #[must_use]
     pub fn part(&self, field: usize, repeat: usize, component: usize) -> Option<Vec<u8>> {
         let text = self.text();
         let (mut out, mut size) = (vec![0; text.len()], 0);

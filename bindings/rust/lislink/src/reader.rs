@@ -52,6 +52,7 @@ pub struct Part<'r> {
 
 impl<'r> Part<'r> {
     /// The bytes that it means: its escapes are decoded.
+    #[must_use]
     pub fn bytes(&self) -> Cow<'r, [u8]> {
         if !self.escaped {
             return Cow::Borrowed(self.raw);
@@ -78,21 +79,25 @@ pub struct Record {
 
 impl Record {
     /// Its letter in upper case.
+    #[must_use]
     pub fn letter(&self) -> char {
         self.letter.into()
     }
 
     /// How many fields follow the letter, or a header's delimiters.
+    #[must_use]
     pub fn fields(&self) -> usize {
         self.fields
     }
 
     /// Its text, without the CR.
+    #[must_use]
     pub fn text(&self) -> &[u8] {
         &self.text
     }
 
     /// The delimiters of its message.
+    #[must_use]
     pub fn delimiters(&self) -> Delimiters {
         self.delimiters
     }
@@ -110,11 +115,13 @@ impl Record {
     }
 
     /// All components, in the order of the text.
+    #[must_use]
     pub fn parts(&self) -> impl ExactSizeIterator<Item = Part<'_>> + '_ {
         self.parts.iter().map(|part| self.part_of(part))
     }
 
     /// The bytes that a component means; none if there is no such part.
+    #[must_use]
     pub fn part(&self, field: usize, repeat: usize, component: usize) -> Option<Cow<'_, [u8]>> {
         let wanted = (field, repeat, component);
         let key =
@@ -128,6 +135,12 @@ impl Record {
 pub struct Reader {
     block: Block<sys::lis_reader>,
     parts: Vec<sys::lis_part>,
+    /// The bytes of a record that came in earlier pieces, which the library holds too.
+    held: Vec<u8>,
+    read: u64,
+    /// Whether a header is searched for, and then whether a record begins with the next byte.
+    searches: bool,
+    begins: bool,
 }
 
 impl Default for Reader {
@@ -138,17 +151,40 @@ impl Default for Reader {
 
 impl Reader {
     /// A reader at the start of a stream.
+    #[must_use]
     pub fn new() -> Self {
-        Reader { block: Block::new(), parts: Vec::new() }
+        let (block, parts, held) = (Block::new(), Vec::new(), Vec::new());
+        Reader { block, parts, held, read: 0, searches: false, begins: false }
     }
 
     /// The records that end in these bytes. One that can't be read is the last, and the reader gives that error for
-    /// good. Bytes that the iterator isn't asked for are not read.
+    /// good, unless [`Records::resume`] goes on. Bytes that the iterator isn't asked for are not read.
     pub fn feed<'a>(&'a mut self, bytes: &'a [u8]) -> Records<'a> {
-        Records { reader: self, rest: bytes }
+        Records { reader: self, rest: bytes, is_over: false }
     }
 
-    /// The end of the stream: an error if a message or a record isn't ended, or one couldn't be read.
+    /// How many bytes of the stream were read: up to the end of the last record, or up to the one that can't be read.
+    #[must_use]
+    pub fn read(&self) -> u64 {
+        self.read
+    }
+
+    /// How many bytes come before the next header, if one is searched for.
+    fn search(&mut self, bytes: &[u8]) -> usize {
+        if !self.searches {
+            return 0;
+        }
+        let before = unsafe { sys::lis_header_find(bytes.as_ptr(), bytes.len(), &mut self.begins) };
+        self.searches = before == bytes.len();
+        self.read += before as u64;
+        before
+    }
+
+    /// The end of the stream.
+    ///
+    /// # Errors
+    ///
+    /// A message or a record isn't ended, or one couldn't be read.
     pub fn finish(&mut self) -> Result<(), MessageError> {
         let mut found = nothing();
         match unsafe { sys::lis_reader_finish(self.block.get(), &mut found) } {
@@ -183,31 +219,79 @@ impl Reader {
 /// The records of some bytes.
 pub struct Records<'a> {
     reader: &'a mut Reader,
+    /// What follows the last record.
     rest: &'a [u8],
+    is_over: bool,
+}
+
+impl Records<'_> {
+    /// After an error: goes on at the next header, which may be the record that can't be read, in these bytes or in
+    /// those that the reader is fed with next. The message that was open is dropped: it has no end. So a session that
+    /// broke off costs its own message alone.
+    ///
+    /// ```
+    /// let mut reader = lislink::Reader::new();
+    /// let mut records = reader.feed(b"H|\\^&\rP|1\rH|\\^&\rL|1\r");
+    /// let mut letters = String::new();
+    /// while let Some(record) = records.next() {
+    ///     match record {
+    ///         Ok(record) => letters.push(record.letter()),
+    ///         Err(_) => records.resume(),
+    ///     }
+    /// }
+    /// assert_eq!(letters, "HPHL");
+    /// ```
+    pub fn resume(&mut self) {
+        let reader = &mut *self.reader;
+        reader.begins = unsafe { sys::lis_reader_resume(reader.block.get()) };
+        reader.searches = true;
+        self.is_over = false;
+        let held = std::mem::take(&mut reader.held);
+        if reader.search(&held) < held.len() {
+            // The header began in an earlier piece: the library holds its bytes again.
+            let (block, mut found) = (reader.block.get(), nothing());
+            unsafe { sys::lis_reader_read(block, held.as_ptr(), held.len(), &mut found) };
+            reader.held = held;
+        }
+    }
 }
 
 impl Iterator for Records<'_> {
     type Item = Result<Record, MessageError>;
 
     fn next(&mut self) -> Option<Self::Item> {
-        while !self.rest.is_empty() {
-            let mut found = nothing();
-            let (reader, rest) = (self.reader.block.get(), self.rest);
+        if self.is_over {
+            return None;
+        }
+        self.rest = &self.rest[self.reader.search(self.rest)..];
+        let mut rest = self.rest;
+        while !rest.is_empty() {
+            let (reader, mut found) = (self.reader.block.get(), nothing());
             let read =
                 unsafe { sys::lis_reader_read(reader, rest.as_ptr(), rest.len(), &mut found) };
-            self.rest = &rest[read..];
+            rest = &rest[read..];
             match found.kind {
-                sys::LIS_FOUND_RECORD => return Some(Ok(self.reader.record(&found))),
+                sys::LIS_FOUND_RECORD => {
+                    let here = self.rest.len() - rest.len();
+                    self.reader.read += (self.reader.held.len() + here) as u64;
+                    self.reader.held.clear();
+                    self.rest = rest;
+                    return Some(Ok(self.reader.record(&found)));
+                }
                 sys::LIS_FOUND_REFUSED => {
-                    self.rest = &[];
+                    self.is_over = true;
                     return Some(Err(fault_of(&found)));
                 }
                 _ => {}
             }
         }
+        self.reader.held.extend_from_slice(self.rest);
+        self.rest = rest;
         None
     }
 }
+
+impl std::iter::FusedIterator for Records<'_> {}
 
 fn no_part() -> sys::lis_part {
     sys::lis_part { offset: 0, len: 0, field: 0, repeat: 0, component: 0, flags: 0 }

@@ -25,6 +25,22 @@ pub enum Heard {
 }
 
 /// Receives texts: keeps each, and then replies.
+///
+/// ```
+/// let (mut kept, mut replies) = (Vec::new(), Vec::new());
+/// let keep = |text: &[u8]| {
+///     kept.push(text.to_vec());
+///     true // it is where it lasts: only then the reply goes out
+/// };
+/// let send = |reply| {
+///     replies.push(reply);
+///     true
+/// };
+/// let mut receiver = lislink::Receiver::new();
+/// let heard = receiver.hear(b"\x05\x021H|\\^&\r\x03E5\r\n\x04", keep, send);
+/// assert_eq!((heard, replies), (lislink::Heard::All, vec![6, 6]));
+/// assert_eq!(kept, [b"H|\\^&\r"]);
+/// ```
 pub struct Receiver {
     block: Block<sys::lis_receiver>,
     text: Vec<u8>,
@@ -49,16 +65,19 @@ pub struct Answer<'a> {
 
 impl Answer<'_> {
     /// What the bytes meant.
+    #[must_use]
     pub fn step(&self) -> Step {
         self.step
     }
 
     /// The text that is complete, to be kept before the reply is sent.
+    #[must_use]
     pub fn text(&self) -> Option<&[u8]> {
         self.has_text.then_some(&self.receiver.text[..])
     }
 
     /// The byte that is to be sent.
+    #[must_use]
     pub fn reply(&self) -> Option<u8> {
         self.reply
     }
@@ -93,11 +112,16 @@ impl Drop for Guard<'_> {
 
 impl Receiver {
     /// A receiver that is ready, on a line that isn't open.
+    #[must_use]
     pub fn new() -> Self {
         Receiver { block: Block::new(), text: Vec::new() }
     }
 
-    /// A receiver of frames whose texts have at most so many bytes; an error if there is no memory for it.
+    /// A receiver of frames whose texts have at most so many bytes.
+    ///
+    /// # Errors
+    ///
+    /// There is no memory for the long limit.
     pub fn with_frame_limit(limit: FrameLimit) -> Result<Self, Error> {
         let mut receiver = Self::new();
         let status = unsafe { sys::lis_receiver_set_limit(receiver.block.get(), limit.bytes()) };
@@ -215,30 +239,41 @@ impl Receiver {
     }
 
     /// Says how ENQ is answered from now on.
+    ///
+    /// # Errors
+    ///
+    /// None of these answers is rejected.
     pub fn set_ready(&mut self, ready: Ready) -> Result<(), Error> {
         let status = unsafe { sys::lis_receiver_set_ready(self.block.get(), ready.number()) };
         Error::of(status)
     }
 
     /// Makes room for so many more bytes of text.
+    ///
+    /// # Errors
+    ///
+    /// No text may have so many bytes, or there is no memory.
     pub fn reserve(&mut self, bytes: u64) -> Result<(), Error> {
         let status = unsafe { sys::lis_receiver_reserve(self.block.get(), bytes) };
         Error::of(status)
     }
 
     /// Whether the line is open, and so the receiver's timer runs.
+    #[must_use]
     pub fn is_open(&self) -> bool {
-        unsafe { sys::lis_receiver_is_open(&mut self.block.handle()) }
+        unsafe { sys::lis_receiver_is_open(&self.block.handle()) }
     }
 
     /// How many frames were accepted since the line was opened.
+    #[must_use]
     pub fn accepted(&self) -> u64 {
-        unsafe { sys::lis_receiver_accepted(&mut self.block.handle()) }
+        unsafe { sys::lis_receiver_accepted(&self.block.handle()) }
     }
 
     /// How many bytes are held of a text that isn't complete.
+    #[must_use]
     pub fn held(&self) -> u64 {
-        unsafe { sys::lis_receiver_held(&mut self.block.handle()) }
+        unsafe { sys::lis_receiver_held(&self.block.handle()) }
     }
 }
 

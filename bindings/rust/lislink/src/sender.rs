@@ -23,6 +23,16 @@ impl<'t> From<&'t [u8]> for Text<'t> {
 }
 
 /// Sends texts. The bytes that a call returns are to be sent; there may be none.
+///
+/// ```
+/// let mut sender = lislink::Sender::new();
+/// let connection = sender.connected();
+/// sender.add(b"H|\\^&\r").unwrap();
+/// assert_eq!(&sender.start().unwrap()[..], b"\x05");
+/// assert_eq!(sender.reply(connection, 6), b"\x021H|\\^&\r\x03E5\r\n"); // ENQ was acknowledged
+/// assert_eq!(sender.reply(connection, 6), b"\x04"); // and so was the frame
+/// assert_eq!(sender.outcome(), lislink::Outcome::Done);
+/// ```
 pub struct Sender<'t> {
     line: sys::lis_line,
     _block: Block<sys::lis_sender>,
@@ -42,6 +52,7 @@ impl Default for Sender<'_> {
 
 impl<'t> Sender<'t> {
     /// A sender without a connection.
+    #[must_use]
     pub fn new() -> Self {
         let block = Block::new();
         let sender = block.handle();
@@ -52,6 +63,10 @@ impl<'t> Sender<'t> {
     }
 
     /// A sender of frames whose texts have at most so many bytes.
+    ///
+    /// # Errors
+    ///
+    /// There is no memory for the long limit.
     pub fn with_frame_limit(limit: FrameLimit) -> Result<Self, Error> {
         let mut sender = Self::new();
         let status = unsafe { sys::lis_sender_set_limit(&mut sender.line.sender, limit.bytes()) };
@@ -67,6 +82,10 @@ impl<'t> Sender<'t> {
     }
 
     /// Adds a copy of a text to the next session.
+    ///
+    /// # Errors
+    ///
+    /// No session takes a text as long, or one more text; or there is no memory.
     pub fn add(&mut self, text: &[u8]) -> Result<(), Error> {
         let status =
             unsafe { sys::lis_sender_add_text(&mut self.line.sender, text.as_ptr(), text.len()) };
@@ -78,9 +97,14 @@ impl<'t> Sender<'t> {
         unsafe { sys::lis_sender_clear(&mut self.line.sender) };
     }
 
-    /// Starts a session with the texts that were added: ENQ, to be sent. [`Status::OldLine`](crate::Status::OldLine)
-    /// before [`connected`](Self::connected), and, from when a session timed out or was restarted, until `connected` is
-    /// called again. Once a session is over, its texts are gone, however it ended.
+    /// Starts a session with the texts that were added: ENQ, to be sent. Once a session is over, its texts are gone,
+    /// however it ended.
+    ///
+    /// # Errors
+    ///
+    /// A session goes on; there is no text; which text, and which byte of it, no session takes.
+    /// [`Status::OldLine`](crate::Status::OldLine) before [`connected`](Self::connected), and, from when a session
+    /// timed out or was restarted, until `connected` is called again.
     pub fn start(&mut self) -> Result<Bytes, Error> {
         let (mut out, mut fault) = (Bytes::none(), sys::lis_place { index: 0, place: 0 });
         let status = unsafe { sys::lis_line_start(&mut self.line, out.get(), &mut fault) };
@@ -89,6 +113,10 @@ impl<'t> Sender<'t> {
     }
 
     /// Starts a session with texts that stay with their owner, and takes no memory.
+    ///
+    /// # Errors
+    ///
+    /// Those of [`start`](Self::start), or there are more texts than a session takes.
     pub fn start_lent(&mut self, texts: &'t [Text<'t>]) -> Result<Bytes, Error> {
         let (mut out, mut fault) = (Bytes::none(), sys::lis_place { index: 0, place: 0 });
         let (line, first) = (&mut self.line, texts.as_ptr().cast());
@@ -109,7 +137,7 @@ impl<'t> Sender<'t> {
         if out.is_empty() && self.limit == FrameLimit::Long {
             self.sent.resize(sys::LIS_LIMIT_LONG_FRAME_BYTES as usize, 0);
             let (to, room, mut size) = (self.sent.as_mut_ptr(), self.sent.len(), 0);
-            unsafe { sys::lis_line_frame(&mut self.line, from.0, to, room, &mut size) };
+            unsafe { sys::lis_line_frame(&self.line, from.0, to, room, &mut size) };
             self.sent.truncate(size);
         }
         &self.sent
@@ -129,28 +157,29 @@ impl<'t> Sender<'t> {
     }
 
     /// What the sender waits for.
+    #[must_use]
     pub fn phase(&self) -> Phase {
-        Phase::of(unsafe { sys::lis_sender_phase(&mut self.handle()) })
+        Phase::of(unsafe { sys::lis_sender_phase(&self.handle()) })
     }
 
     /// How the last session ended.
+    #[must_use]
     pub fn outcome(&self) -> Outcome {
-        Outcome::of(unsafe { sys::lis_sender_outcome(&mut self.handle()) })
+        Outcome::of(unsafe { sys::lis_sender_outcome(&self.handle()) })
     }
 
     /// How many frames of the session are acknowledged.
+    #[must_use]
     pub fn acknowledged(&self) -> u64 {
-        unsafe { sys::lis_sender_acknowledged(&mut self.handle()) }
+        unsafe { sys::lis_sender_acknowledged(&self.handle()) }
     }
 
     /// How long the phase lasts before its timer runs out; none if no timer runs.
+    #[must_use]
     pub fn patience(&self) -> Option<Duration> {
-        match self.phase() {
-            Phase::Neutral => None,
-            Phase::Busy => Some(Duration::from_secs(sys::LIS_SECONDS_BUSY)),
-            Phase::Contention => Some(Duration::from_secs(sys::LIS_SECONDS_CONTENTION)),
-            _ => Some(Duration::from_secs(sys::LIS_SECONDS_REPLY)),
-        }
+        let mut seconds = 0;
+        let runs = unsafe { sys::lis_sender_timer_seconds(&self.handle(), &mut seconds) };
+        runs.then(|| Duration::from_secs(seconds.into()))
     }
 
     /// A copy of the handle, for calls that change nothing.

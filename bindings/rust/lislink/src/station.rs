@@ -27,21 +27,25 @@ pub struct StationAnswer<'a> {
 
 impl StationAnswer<'_> {
     /// What the bytes meant to the receiver; none if they were for the sender.
+    #[must_use]
     pub fn step(&self) -> Option<Step> {
         self.step
     }
 
     /// Whether nothing happened: the timer runs on. After any other answer it begins anew.
+    #[must_use]
     pub fn is_quiet(&self) -> bool {
         self.step.is_some_and(|step| step.note == Note::Quiet)
     }
 
     /// The text that is complete, to be kept before anything is sent.
+    #[must_use]
     pub fn text(&self) -> Option<&[u8]> {
         self.has_text.then_some(&self.station.text[..])
     }
 
     /// The bytes that are to be sent.
+    #[must_use]
     pub fn send(&self) -> &[u8] {
         &self.station.send
     }
@@ -63,7 +67,11 @@ impl Drop for StationAnswer<'_> {
 }
 
 impl Station {
-    /// A station without a connection; an error if there is no memory for the long limit.
+    /// A station without a connection.
+    ///
+    /// # Errors
+    ///
+    /// There is no memory for the long limit.
     pub fn new(role: Role, limit: FrameLimit) -> Result<Self, Error> {
         let mut block = Block::new();
         let status = unsafe { sys::lis_station_begin(block.get(), role.number(), limit.bytes()) };
@@ -78,11 +86,14 @@ impl Station {
         self.spent = false;
     }
 
-    /// Asks for the line, to send these texts in one session: ENQ, to be sent. It fails, and the station is as before,
-    /// with [`Status::LineOpen`](crate::Status::LineOpen) while the other side has the line, and with
+    /// Asks for the line, to send these texts in one session: ENQ, to be sent. Only [`Outcome::Done`] says that all
+    /// texts were acknowledged: keep them until then.
+    ///
+    /// # Errors
+    ///
+    /// The station is as before: [`Status::LineOpen`](crate::Status::LineOpen) while the other side has the line;
     /// [`Status::OldLine`](crate::Status::OldLine) before [`connected`](Self::connected) and, from when a session timed
-    /// out or was given up, until `connected` is called again. Only [`Outcome::Done`] says that all texts were
-    /// acknowledged: keep them until then.
+    /// out or was given up, until `connected` is called again; a session goes on; or which text no session takes.
     pub fn start<T: AsRef<[u8]>>(
         &mut self,
         texts: impl IntoIterator<Item = T>,
@@ -94,6 +105,13 @@ impl Station {
         let started = self.add_all(texts).and_then(|()| self.start_added());
         self.clear();
         started
+    }
+
+    /// Whether a late reply could meet the next ENQ, that of a start or the one after a wait: over a line that answers
+    /// late, connect it anew first.
+    #[must_use]
+    pub fn needs_new_line(&self) -> bool {
+        self.spent || self.phase() != Phase::Neutral
     }
 
     fn add_all<T: AsRef<[u8]>>(&mut self, texts: impl IntoIterator<Item = T>) -> Result<(), Error> {
@@ -176,22 +194,24 @@ impl Station {
     }
 
     /// How long the timer runs before [`timer`](Self::timer) is due; none if no timer runs.
+    #[must_use]
     pub fn patience(&self) -> Option<Duration> {
         let mut seconds = 0;
-        let runs =
-            unsafe { sys::lis_station_timer_seconds(&mut self.block.handle(), &mut seconds) };
+        let runs = unsafe { sys::lis_station_timer_seconds(&self.block.handle(), &mut seconds) };
         runs.then(|| Duration::from_secs(seconds.into()))
     }
 
     /// How long the line should be left to the other side, which waits for its turn; none if it doesn't wait.
+    #[must_use]
     pub fn turn(&self) -> Option<Duration> {
-        let seconds = unsafe { sys::lis_station_turn_seconds(&mut self.block.handle()) };
+        let seconds = unsafe { sys::lis_station_turn_seconds(&self.block.handle()) };
         (seconds > 0).then(|| Duration::from_secs(seconds.into()))
     }
 
     /// Whether the other side asked for its turn, by EOT in reply to a frame, and hasn't had it since.
+    #[must_use]
     pub fn turn_asked(&self) -> bool {
-        unsafe { sys::lis_station_turn_asked(&mut self.block.handle()) }
+        unsafe { sys::lis_station_turn_asked(&self.block.handle()) }
     }
 
     /// While the other side has the line: asks it to let this side send. The next frame that is accepted is answered
@@ -223,44 +243,55 @@ impl Station {
     }
 
     /// Makes room for so many more bytes of text.
+    ///
+    /// # Errors
+    ///
+    /// No text may have so many bytes, or there is no memory.
     pub fn reserve(&mut self, bytes: u64) -> Result<(), Error> {
         let status = unsafe { sys::lis_station_reserve(self.block.get(), bytes) };
         Error::of(status)
     }
 
     /// Whether the next byte is a reply to its own ENQ or frame.
+    #[must_use]
     pub fn awaits_reply(&self) -> bool {
-        unsafe { sys::lis_station_awaits_reply(&mut self.block.handle()) }
+        unsafe { sys::lis_station_awaits_reply(&self.block.handle()) }
     }
 
     /// What its sender waits for; neutral if no session of its own goes on.
+    #[must_use]
     pub fn phase(&self) -> Phase {
-        Phase::of(unsafe { sys::lis_station_phase(&mut self.block.handle()) })
+        Phase::of(unsafe { sys::lis_station_phase(&self.block.handle()) })
     }
 
     /// How its own last session ended.
+    #[must_use]
     pub fn outcome(&self) -> Outcome {
-        Outcome::of(unsafe { sys::lis_station_outcome(&mut self.block.handle()) })
+        Outcome::of(unsafe { sys::lis_station_outcome(&self.block.handle()) })
     }
 
     /// How many frames of its own session are acknowledged.
+    #[must_use]
     pub fn acknowledged(&self) -> u64 {
-        unsafe { sys::lis_station_acknowledged(&mut self.block.handle()) }
+        unsafe { sys::lis_station_acknowledged(&self.block.handle()) }
     }
 
     /// Whether the other side has the line.
+    #[must_use]
     pub fn is_open(&self) -> bool {
-        unsafe { sys::lis_station_is_open(&mut self.block.handle()) }
+        unsafe { sys::lis_station_is_open(&self.block.handle()) }
     }
 
     /// How many frames were accepted since the other side got the line.
+    #[must_use]
     pub fn accepted(&self) -> u64 {
-        unsafe { sys::lis_station_accepted(&mut self.block.handle()) }
+        unsafe { sys::lis_station_accepted(&self.block.handle()) }
     }
 
     /// How many bytes are held of a text that isn't complete.
+    #[must_use]
     pub fn held(&self) -> u64 {
-        unsafe { sys::lis_station_held(&mut self.block.handle()) }
+        unsafe { sys::lis_station_held(&self.block.handle()) }
     }
 }
 

@@ -27,9 +27,17 @@ fn an_error_prints_its_place() {
     assert_eq!(said(sender.start()), format!("{words}, text 1, byte 3 from 0"));
     sender.clear();
     assert_eq!(said(sender.start()), "there is no text to send");
-    sender.add(&vec![b'a'; 1_048_577]).unwrap();
-    let long = "there are more bytes than the limit allows, text 0 from 0";
-    assert_eq!(said(sender.start()), long);
+    let long = "there are more bytes than the limit allows";
+    assert_eq!(said(sender.add(&vec![b'a'; 1_048_577])), long);
+    sender.add(&vec![b'a'; 1_048_576]).unwrap();
+    assert_eq!(&sender.start().unwrap()[..], b"\x05");
+    sender.restart();
+    let _ = sender.connected();
+    let text = vec![b'a'; 1_048_577];
+    let texts = [Text::from(&text[..])];
+    let mut lent = Sender::new();
+    let _ = lent.connected();
+    assert_eq!(said(lent.start_lent(&texts)), format!("{long}, text 0 from 0"));
     let mut writer = Writer::new();
     writer.record(b'H').unwrap().put().unwrap();
     writer.record(b'P').unwrap().field(b"1").unwrap().field(b"a\n").unwrap();
@@ -52,6 +60,50 @@ fn a_record_that_cant_be_read_prints_its_number_and_why() {
     assert_eq!(refused(b"H|\\^&\rX|1\r"), format!("{words}{letter}"));
     assert_eq!(refused(b"H|\\^&\rR|1\r"), "record 2: the record has no parent in the message, R");
     assert_eq!(refused(b"P|1\r"), "record 1: outside a message a header comes first");
+}
+
+#[test]
+fn a_reader_goes_on_after_a_message_that_broke_off() {
+    let parts: [&[u8]; 5] = [
+        b"H|\\^&\rP|1\rL|1\r",
+        b"H|\\^&\rP|2\rO|1\r",
+        b"H|\\^&\rP|3\rL|1\r",
+        b"H|\\^&\rX|1\rL|1\r",
+        b"H|\\^&\rL|4\r",
+    ];
+    let stream = parts.concat();
+    for size in 1..=stream.len() {
+        let (mut reader, mut letters) = (Reader::new(), String::new());
+        for piece in stream.chunks(size) {
+            let mut records = reader.feed(piece);
+            while let Some(record) = records.next() {
+                match record {
+                    Ok(record) => letters.push(record.letter()),
+                    Err(_) => {
+                        letters.push('!');
+                        assert!(records.next().is_none());
+                        records.resume();
+                    }
+                }
+            }
+        }
+        assert_eq!((letters.as_str(), reader.read()), ("HPLHPO!HPLH!HL", stream.len() as u64));
+        assert_eq!(reader.finish(), Ok(()));
+    }
+    let mut reader = Reader::new();
+    assert_eq!(reader.feed(&stream).filter(|record| record.is_err()).count(), 1);
+    assert_eq!(reader.read(), (parts[0].len() + parts[1].len()) as u64);
+    let (mut rest, mut read) = (&stream[..], Vec::new());
+    while !rest.is_empty() {
+        rest = match Message::read(rest) {
+            Ok(Some((message, following))) => {
+                read.push(message.text());
+                following
+            }
+            _ => Message::skip(rest),
+        };
+    }
+    assert_eq!(read, [parts[0], parts[2], parts[4]]);
 }
 
 #[test]
@@ -344,7 +396,9 @@ fn a_station_sends_and_receives() {
     let status =
         |started: Result<lislink::Bytes, lislink::Error>| started.err().map(|it| it.status);
     assert_eq!(status(station.start([b"a"])), Some(Status::OldLine));
+    assert!(station.needs_new_line());
     station.connected();
+    assert!(!station.needs_new_line());
     assert_eq!(status(station.start([b"a\n"])), Some(Status::Forbidden));
     assert_eq!(sent(&mut station, b"\x05"), b"\x06");
     assert_eq!(status(station.start([b"a"])), Some(Status::LineOpen));
@@ -359,11 +413,13 @@ fn a_station_sends_and_receives() {
         (Phase::Contention, Some(Duration::from_secs(1)))
     );
     assert_eq!((station.turn(), station.turn_asked()), (Some(Duration::from_secs(15)), false));
+    assert!(station.needs_new_line());
     let answer = station.timer();
     assert_eq!((answer.send(), answer.step()), (&b"\x05"[..], None));
     answer.sent();
     assert_eq!(sent(&mut station, b"\x06\x06"), [HEADER, b"\x04"].concat());
     assert_eq!((station.outcome(), station.acknowledged()), (Outcome::Done, 1));
+    assert!(!station.needs_new_line());
     station.set_ready(false);
     assert_eq!(sent(&mut station, b"\x05"), b"\x15");
     assert_eq!(station.reserve(1_048_577).err().map(|it| it.status), Some(Status::TooLong));
