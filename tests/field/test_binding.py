@@ -356,6 +356,13 @@ class Binding(FieldTest):
 
     def test_mypy(self):
         """The type hints, where mypy is."""
-        self.needs("mypy", shutil.which("mypy") is not None, 1, "the type hints")
-        done = subprocess.run(["mypy", "--no-incremental"], cwd=PYTHON, capture_output=True, text=True, check=False)
+        self.needs("mypy", shutil.which("mypy") is not None, 3, "the type hints")
+        how = {"capture_output": True, "text": True, "check": False, "env": {**os.environ, "MYPYPATH": f"{PYTHON}/src"}}
+        done = subprocess.run(["mypy", "--no-incremental"], cwd=PYTHON, **how)
         self.check(done.returncode == 0, "mypy", done.stdout[-2000:])
+        examples = sorted(glob.glob(os.path.join(ROOT, "examples/python/*.py")))
+        done = subprocess.run(["mypy", "--strict", *examples], **how)
+        self.check(done.returncode == 0, "mypy over the examples", done.stdout[-2000:])
+        caller = "import lislink\nwith lislink.Receiver() as receiver:\n    receiver.nonsense()\n"
+        done = subprocess.run(["mypy", "--strict", "-c", caller], **how)
+        self.check("has no attribute" in done.stdout, "mypy, over a caller of what isn't there", done.stdout[-2000:])

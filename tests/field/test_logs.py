@@ -10,6 +10,7 @@ import stat
 import subprocess
 
 from lislink.capture import read_capture
+from lislink.field import sniffers
 from tests import ROOT
 from tests.field import packets
 from tests.field.lab import FieldTest, lislab
@@ -262,6 +263,8 @@ class Logs(FieldTest):
             if not one_side and name not in BY_BYTES:
                 self.same(f"{name}: with its pieces", lislab("capture", path).text, wanted)
             self.same(f"{name}: status", ran.status, 0)
+            form = re.search(r"form: (\S+)", ran.error)[1]
+            self.check(form in (*sniffers.FORMS, "pcap", "raw"), f"{name}: --form takes the form that is named", form)
             shown = lislab("ladder", path)
             self.has(f"{name}: the reason in one command", shown.text, "rejected: checksum wrong: 05 found, 06 wanted")
             if not one_side:

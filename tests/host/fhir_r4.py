@@ -1,7 +1,9 @@
-"""The published structure of FHIR R4 (4.0.1), as far as a Bundle of Observations uses it: the elements of each type,
-how often each may be, their types, the required codes, and the invariants. It was written from memory, since the
-definitions could not be had on the machine, and over no code of this repository; nobody has compared it with them. It
-knows no terminology, no profile and no search."""
+"""The published structure of FHIR R4 (4.0.1), as far as a Bundle of Observations, Patients and DiagnosticReports uses it:
+the elements of each type, how often each may be, their types, the required codes, and the invariants. It was written
+from memory, since the definitions could not be had on the machine, and over no code of this repository; nobody has
+compared it with them. What it doesn't check: terminology (whether a code is in its system), profiles, searches (what
+`ifNoneExist` finds), extensions, contained resources, types of resources and elements that aren't used here, and the
+invariants of texts (dom-2 to dom-6, ele-1 of primitive types)."""
 import decimal
 import json
 import re
@@ -16,6 +18,7 @@ PRIMITIVES = {
     "uri": re.compile(r"\S+"),
     "code": re.compile(r"[^\s]+(\s[^\s]+)*"),
     "instant": re.compile(rf"{_DAY}-(0[1-9]|1[0-2])-(0[1-9]|[1-2][0-9]|3[0-1]){_CLOCK}"),
+    "date": re.compile(rf"{_DAY}(-(0[1-9]|1[0-2])(-(0[1-9]|[1-2][0-9]|3[0-1]))?)?"),
     "dateTime": re.compile(rf"{_DAY}(-(0[1-9]|1[0-2])(-(0[1-9]|[1-2][0-9]|3[0-1])({_CLOCK})?)?)?"),
 }
 #: Required bindings.
@@ -26,12 +29,16 @@ CODES = {
     "Observation.status": "registered preliminary final amended corrected cancelled entered-in-error unknown",
     "Quantity.comparator": "< <= >= >",
     "Identifier.use": "usual official temp secondary old",
+    "DiagnosticReport.status": """registered partial preliminary final amended corrected appended cancelled
+        entered-in-error unknown""",
+    "Patient.gender": "male female other unknown",
+    "HumanName.use": "usual official temp nickname anonymous old maiden",
 }
 #: The elements of each type: name, type, least, and whether it may be there more than once.
 TYPES = {
     "Bundle": """id:code:0 identifier:Identifier:0 type:code:1 timestamp:instant:0 total:decimal:0 link:Link:0*
         entry:Entry:0*""",
-    "Entry": "link:Link:0* fullUrl:uri:0 resource:Observation:0 request:Request:0",
+    "Entry": "link:Link:0* fullUrl:uri:0 resource:Resource:0 request:Request:0",
     "Request": """method:code:1 url:uri:1 ifNoneMatch:string:0 ifModifiedSince:instant:0 ifMatch:string:0
         ifNoneExist:string:0""",
     "Observation": """id:code:0 identifier:Identifier:0* basedOn:Reference:0* partOf:Reference:0* status:code:1
@@ -41,6 +48,14 @@ TYPES = {
         dataAbsentReason:CodeableConcept:0 interpretation:CodeableConcept:0* note:Annotation:0*
         bodySite:CodeableConcept:0 method:CodeableConcept:0 specimen:Reference:0 device:Reference:0
         referenceRange:ReferenceRange:0* hasMember:Reference:0* derivedFrom:Reference:0*""",
+    "DiagnosticReport": """id:code:0 identifier:Identifier:0* basedOn:Reference:0* status:code:1
+        category:CodeableConcept:0* code:CodeableConcept:1 subject:Reference:0 encounter:Reference:0
+        effectiveDateTime:dateTime:0 issued:instant:0 performer:Reference:0* resultsInterpreter:Reference:0*
+        specimen:Reference:0* result:Reference:0* imagingStudy:Reference:0* conclusion:string:0
+        conclusionCode:CodeableConcept:0*""",
+    "Patient": """id:code:0 identifier:Identifier:0* active:boolean:0 name:HumanName:0* telecom:ContactPoint:0*
+        gender:code:0 birthDate:date:0 address:Address:0*""",
+    "HumanName": "use:code:0 text:string:0 family:string:0 given:string:0* prefix:string:0* suffix:string:0*",
     "ReferenceRange": """low:Quantity:0 high:Quantity:0 type:CodeableConcept:0 appliesTo:CodeableConcept:0*
         text:string:0""",
     "Identifier": "use:code:0 type:CodeableConcept:0 system:uri:0 value:string:0 assigner:Reference:0",
@@ -54,7 +69,7 @@ _ELEMENTS = {
     kind: {name: (of, least, most) for name, of, least, most in re.findall(r"(\w+):(\w+):(\d)(\*?)", text)}
     for kind, text in TYPES.items()
 }
-_RESOURCES = ("Bundle", "Observation")
+_RESOURCES = ("Bundle", "Observation", "DiagnosticReport", "Patient")
 
 
 def faults(text):
@@ -78,6 +93,8 @@ def _of(kind, data, where):
         return [] if good else [f"{where}: {data!r} is no {kind}"]
     if not isinstance(data, dict) or not data:
         return [f"{where}: {data!r} is no {kind}"]
+    if kind == "Resource":
+        kind = data.get("resourceType") if data.get("resourceType") in _RESOURCES else "Observation"
     told, known = [], _ELEMENTS[kind]
     if kind in _RESOURCES and data.get("resourceType") != kind:
         told.append(f"{where}: it is no {kind}")
@@ -129,6 +146,20 @@ def _of_bundle(data):
     urls = [one.get("fullUrl") for one in entries]
     if len(set(urls)) != len(urls):
         told.append("bdl-7: a fullUrl is there twice")
+    for one in entries:
+        for found in _references(one.get("resource", {})):
+            if found not in urls:
+                told.append(f"a reference to {found}, which isn't in the Bundle")
     if any("/_history/" in str(one) for one in urls):
         told.append("bdl-8: a fullUrl with a version")
     return told
+
+
+def _references(data):
+    """The references below an element."""
+    if isinstance(data, list):
+        return [one for each in data for one in _references(each)]
+    if not isinstance(data, dict):
+        return []
+    own = [data["reference"]] if isinstance(data.get("reference"), str) else []
+    return own + [one for each in data.values() for one in _references(each)]

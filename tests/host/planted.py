@@ -9,7 +9,7 @@ import tempfile
 import unittest
 from typing import NamedTuple
 
-from tests.host import SOURCE, planted_delivery, planted_watch
+from tests.host import SOURCE, planted_delivery, planted_orders, planted_watch
 
 HERE = os.path.dirname(os.path.abspath(__file__))
 
@@ -33,12 +33,33 @@ WITH_THEIR_OWN = (
     "test_out.OutOfSqlite.test_hasty_delivery",
     "test_postgres.OutOfPostgres.test_hasty_delivery",
     "test_planted.Planted.test_table",
-    "test_units.Units.test_units",
 )
 #: The other tests, and what each must notice.
 FAULTS = {
+    "test_backup.Copies.test_under_load": Edit(
+        "host/backup.py", '"backup_file", ("", ".aside")', '"backup_file", ("",)'
+    ),
+    "test_backup.Copies.test_refusals": Edit("host/backup.py", "        if unnamed:\n", "        if not files:\n"),
+    "test_commits.Owed.test_one_that_fails": Edit(
+        "host/commits.py", "self._owed.extend(batch)\n", "self._owed.extendleft(reversed(batch))\n"
+    ),
+    "test_commits.Owed.test_said_once_kept": Edit(
+        "host/line.py",
+        "kept.add_done_callback(lambda done: None if done.cancelled() else self._note_ends(changes))",
+        "self._note_ends(changes)",
+    ),
+    "test_postgres.Postgres.test_a_unit_that_fails": Edit(
+        "host/postgresql.py", "if is_answered and self._db", "if not is_answered and self._db"
+    ),
+    "test_postgres.RepeatsOfPostgres.test_what_is_owed": Edit(
+        "host/sql.py", "if states.get(end.key) == WHOLE:  #", "if not states:  #"
+    ),
+    "test_repeats.RepeatsOfSqlite.test_what_is_owed": Edit("host/sql.py", " ON CONFLICT DO NOTHING", ""),
+    "test_repeats.RepeatsOfSpool.test_what_is_owed": Edit(
+        "host/spool.py", "            self._ended.update(ended)\n", ""
+    ),
     "test_connect.Connect.test_two_lines": Edit(
-        "host/serve.py", "in self._places.items() if isinstance(one, Listen)]", "in self._places.items() if one]"
+        "host/serve.py", "if isinstance(place, Listen):\n            self.room", "if place:\n            self.room"
     ),
     "test_connect.Connect.test_orders": Edit(
         "host/serve.py",
@@ -75,6 +96,7 @@ FAULTS = {
         "    finally:\n        os.replace(made, whole)\n    if not path:",
     ),
     "test_files.Whole.test_short_writes": Edit("host/files.py", "left = left[count:]", 'left = left[:0]'),
+    "test_intake.Streams.test_what_is_held": Edit("host/intake.py", " or more > self._left:", ":"),
     "test_intake.Streams.test_places": Edit("host/intake.py", "place = one.ended + error.place", "place = error.place"),
     "test_intake.Streams.test_random_streams": Edit(
         "host/intake.py",
@@ -88,13 +110,14 @@ FAULTS = {
     ),
     "test_kills.Kills.test_spool": Edit(
         "host/spool.py",
-        "for name in os.listdir(self._path(OPEN)):\n            os.unlink(self._path(OPEN, name))",
+        "for name in os.listdir(self._path(OPEN)):\n            if name.split(\".about\")[0] not in left:\n"
+        "                os.unlink(self._path(OPEN, name))",
         "for name in os.listdir(self._path(WHOLE)):\n            os.unlink(self._path(WHOLE, name))",
     ),
     "test_kills.Kills.test_failing_store": Edit(
         "host/commits.py",
-        "call_soon_threadsafe(_settle, done, fault, self._say)",
-        "call_soon_threadsafe(_settle, done, None, self._say)",
+        "for one in batch], fault, self._say)",
+        "for one in batch], None, self._say)",
     ),
     "test_kills.Kills.test_full_disk_of_sqlite": Edit(
         "host/sqlite.py",
@@ -103,8 +126,8 @@ FAULTS = {
     ),
     "test_kills.Kills.test_full_disk_of_spool": Edit(
         "host/spool.py",
-        'self._open[key].cut(self._open[key].good)\n            raise StoreError(f"{self.folder}: {error}") from None',
-        "self._open[key].cut(self._open[key].good)",
+        'self._ended.update(ended)\n            raise StoreError(f"{self.folder}: {error}") from None',
+        "self._ended.update(ended)",
     ),
     "test_lines.Lines.test_cuts": Edit(
         "host/line.py", "self._receiver.hear_placed(heard.data)", "self._receiver.hear_placed(heard.data[:64])"
@@ -119,7 +142,7 @@ FAULTS = {
     ),
     "test_lines.Lines.test_slow_lines": Edit("host/line.py", "TOGETHER = 1 << 16,", "TOGETHER = 1 << 40,"),
     "test_lines.Lines.test_limits": Edit(
-        "host/serve.py", "if len(lines) < self.limits.lines:", "if len(lines) <= self.limits.lines:"
+        "host/serve.py", "self._lines.values())) < limits.lines:", "self._lines.values())) <= limits.lines:"
     ),
     "test_lines.Lines.test_one_address": Edit(
         "host/serve.py", "key=lambda line: line.last_byte", "key=lambda line: -line.last_byte"
@@ -129,8 +152,15 @@ FAULTS = {
     "test_lines.Lines.test_quarantine": Edit(
         "host/intake.py", "one.fault or _after(one, reason), changes", "_after(one, reason), changes"
     ),
+    "test_lines.Lines.test_enq_behind_eot": Edit(
+        "host/line.py", "                if self._is_through():\n                    return\n", ""
+    ),
+    "test_lines.Lines.test_giving_way": Edit("host/line.py", "return self._is_through() or (", "return ("),
+    "test_lines_file.LinesFile.test_enq_behind_eot": Edit(
+        "host/line.py", "        if self._is_through():\n            return True\n        if self._pieces", "        if self._pieces"
+    ),
     "test_lines.Lines.test_stop": Edit(
-        "host/line.py", "(self._stopping and not self._is_busy())", "self._stopping"
+        "host/line.py", "return self._stopping and not self._is_busy()", "return self._stopping"
     ),
     "test_lines.Lines.test_capture": Edit(
         "host/line.py", 'self._tape.bytes("<", data)', 'self._tape.bytes("<", b"")'
@@ -162,7 +192,7 @@ FAULTS = {
     ),
     "test_lines_file.LinesFile.test_start": Edit("host/commands.py", "    if twice:\n", "    if twice and not read:\n"),
     "test_load.Load.test_200_analyzers": Edit(
-        "host/serve.py", "if len(lines) < self.limits.lines:", "if len(lines) < 100:"
+        "host/serve.py", "self._lines.values())) < limits.lines:", "self._lines.values())) < 100:"
     ),
     "test_load.Load.test_memory": Edit(
         "host/sql.py",
@@ -171,10 +201,7 @@ FAULTS = {
         '            self.__dict__.setdefault("units", []).append((units, bytes(1 << 17)))\n',
     ),
     "test_mends.Mends.test_each": Edit(
-        "host/mend.py", "for name in NAMES if name in self.names or name in more)", "for name in more)"
-    ),
-    "test_mends.Mends.test_last_records": Edit(
-        "host/mend.py", "_LAST.search(text, max(0, len(text) - 64))", "_LAST.search(text)"
+        "host/mender.py", "for name in NAMES if name in self.names or name in more)", "for name in more)"
     ),
     "test_mends.Mends.test_line_feeds": Edit(
         "host/feeds.py", "(int(digits, 16) + count) % 256", "sum(body[1:].replace(_LF, _VT) + end) % 256"
@@ -182,8 +209,11 @@ FAULTS = {
     "test_mends.Mends.test_not_mended": Edit(
         "host/mend.py", "gone_of_results(body, out) != _long_results(body, names) or", ""
     ),
-    "test_mends.Mends.test_query": Edit("host/duplex.py", "Asking().take(body[: QUERY + 1])", "Asking().take(body[:9])"),
-    "test_mends.Mends.test_repeats": Edit("host/line.py", "_join(part, await self._ends_now(text))", "_join(part, [])"),
+    "test_mends.Mends.test_query": Edit("host/duplex.py", ".take(body[: QUERY + 1])", ".take(body[:9])"),
+    "test_mends.Mends.test_repeats": Edit("host/commands.py", "place.name: place.mend for", "place.name: () for"),
+    "test_mends.Mends.test_left": Edit("host/left.py", 'one.body.endswith((b"\\r", b"\\n"))', "False"),
+    "test_mends.Mends.test_order": Edit("host/line.py", "            await self._mender.order.over()", "            pass"),
+    "test_mends.Mends.test_tries_delay_nobody": Edit("host/mender.py", 'self._run("tries", ', 'self._run("short", '),
     "test_mends.Mends.test_streams": Edit(
         "host/mend.py", "data[one.start : one.ends[-1]]", "data[one.start : one.ends[-1] - 1]"
     ),
@@ -211,107 +241,6 @@ FAULTS = {
         "host/notices.py",
         "            self._dropped[name, kind] += 1\n            self.not_said",
         "            self._dropped[name, kind] += 0\n            self.not_said",
-    ),
-    "test_orders.Files.test_files": Edit("orders/order.py", "elif len(row) > len(names):", "elif len(row) > len(names) + 9:"),
-    "test_orders.Files.test_records": Edit(
-        "orders/order.py", "for test in order.tests]", "for test in order.tests[:1]]"
-    ),
-    "test_orders.Files.test_nothing": Edit("orders/order.py", 'fields[12] = b"X"', 'fields[11] = b"X"'),
-    "test_orders.Files.test_queries": Edit("orders/query.py", '_CANCELS = "AX"', '_CANCELS = "A"'),
-    "test_orders.SqliteBooks.test_states": Edit(
-        "orders/book.py", "state = FAILED if 0 < most <= tries", "state = FAILED if 0 < most < tries"
-    ),
-    "test_orders.SqliteBooks.test_two_hosts": Edit(
-        "orders/book.py", "return f\"(holder = ''{left})\"", "return f\"(1 = 1{left})\""
-    ),
-    "test_orders.SqliteBooks.test_given_back": Edit(
-        "orders/book.py", "SET holder = '' WHERE holder = ?\"", "SET holder = '' WHERE holder <> ?\""
-    ),
-    "test_orders.Files.test_dates": Edit("orders/book.py", "over <= self.until", "over < self.until"),
-    "test_orders.SpoolBooks.test_states": Edit(
-        "orders/book.py", "wanted.is_then(date or _local(added))", "wanted.is_then(date)"
-    ),
-    "test_orders.SpoolBooks.test_two_hosts": Edit(
-        "orders/book.py", "return f\"(holder = ''{left})\"", "return f\"(1 = 1{left})\""
-    ),
-    "test_orders.SpoolBooks.test_given_back": Edit(
-        "orders/book.py", "SET holder = '' WHERE holder = ?\"", "SET holder = '' WHERE holder <> ?\""
-    ),
-    "test_orders.SpoolBooks.test_files": Edit(
-        "orders/folder.py", "WHERE file = ?\", (file,)).fetchone():", "WHERE file = ?\", (path,)).fetchone():"
-    ),
-    "test_orders.Answers.test_spool": Edit(
-        "orders/folder.py", "[self._take_file(name) for name in names]", "[name for name in names if not name]"
-    ),
-    "test_orders.SqliteBooks.test_two_connections_of_one_process": Edit(
-        "host/sqlite.py",
-        "with contextlib.suppress(FileExistsError):\n        os.close(os.open(path, os.O_RDWR | os.O_CREAT | os.O_EXCL",
-        "if path:\n        os.close(os.open(path, os.O_RDWR | os.O_CREAT",
-    ),
-    "test_orders.Commands.test_commands": Edit(
-        "orders/commands.py", "if good and (ask.some or not rejected):", "if good:"
-    ),
-    "test_orders.Answers.test_query": Edit("host/duplex.py", "self._outbox.sent(batch)", "self._outbox.stop"),
-    "test_orders.Answers.test_ways_to_say_nothing": Edit(
-        "orders/order.py", '    if way == "L-I":\n', "    if way:\n"
-    ),
-    "test_orders.Answers.test_an_order_that_cannot_be_written": Edit(
-        "host/outbox.py", "if placed and not good and query is not None", "if placed and good and query is not None"
-    ),
-    "test_orders.Answers.test_worklists": Edit(
-        "host/duplex.py", "if asked == self._site.place or (self._site.unasked and", "if asked == self._site.place or (not"
-    ),
-    "test_orders.Answers.test_command": Edit("host/outbox.py", "            if status:\n", "            if status > 9:\n"),
-    "test_orders.Answers.test_contention": Edit(
-        "host/duplex.py",
-        "elif self._station.phase is Phase.BUSY:\n            self._asked_in_vain()",
-        "elif self._station.phase in (Phase.BUSY, Phase.CONTENTION):\n            self._station.give_up()",
-    ),
-    "test_orders.Answers.test_a_busy_analyzer": Edit(
-        "host/duplex.py", "return self._station.seconds", "return self._station.seconds and 1"
-    ),
-    "test_orders.Answers.test_a_line_that_is_pulled": Edit(
-        "host/duplex.py",
-        'if self._sending is not None:\n            self._over_in_vain("the line was closed")',
-        "if self._sending is not None:\n            self._outbox.sent(self._sending)",
-    ),
-    "test_orders.Answers.test_asked_before_the_line_went": Edit(
-        "host/outbox.py", "            self._work.begin(self._left(site))", "            pass"
-    ),
-    "test_orders.Answers.test_a_query_that_is_taken_back": Edit(
-        "host/duplex.py", "            back.append(self._sending)\n            self._sending = None", "            pass"
-    ),
-    "test_orders.OnSerial.test_a_new_host": Edit("host/duplex.py", "if not self.is_tcp:", "if self.is_tcp:"),
-    "test_orders.Unheard.test_long_text": Edit("host/duplex.py", "PIECE = 1024", "PIECE = 1 << 20"),
-    "test_orders.Unheard.test_heard_first": Edit("host/duplex.py", "if self._pieces:", "if self._pieces is None:"),
-    "test_orders.Answers.test_last_try": Edit(
-        "host/outbox.py", "self._in_vain(site, batch.placed, why, self._tries)", "self._in_vain(site, batch.placed, why, 0)"
-    ),
-    "test_orders.Answers.test_a_whole_round": Edit(
-        "host/asker.py", "(one for one in tests if one in known)", "(one for one in tests if one not in known)"
-    ),
-    "test_orders.Fire.test_kills": Edit(
-        "host/duplex.py", "        self._sending, self._busy = batch, 0\n",
-        "        self._sending, self._busy = batch, 0\n        self._outbox.sent(batch)\n",
-    ),
-    "test_orders.Fire.test_late_and_noisy": Edit(
-        "host/duplex.py", "if outcome is Outcome.DONE:", "if outcome is not Outcome.NONE:"
-    ),
-    "test_orders.Fire.test_fifty_lines": Edit(
-        "orders/book.py", "AND seat IN ('', ?) AND", "AND (seat IN ('', ?) OR 1 = 1) AND"
-    ),
-    "test_orders_postgres.PostgresBooks.test_states": Edit(
-        "orders/book.py", "state = FAILED if 0 < most <= tries", "state = FAILED if 0 < most < tries"
-    ),
-    "test_orders_postgres.PostgresBooks.test_two_hosts": Edit(
-        "orders/book.py", "return f\"(holder = ''{left})\"", "return f\"(1 = 1{left})\""
-    ),
-    "test_orders_postgres.PostgresBooks.test_given_back": Edit(
-        "orders/book.py", "SET holder = '' WHERE holder = ?\"", "SET holder = '' WHERE holder <> ?\""
-    ),
-    "test_orders_postgres.PostgresBooks.test_two_hosts_are_killed": Edit(
-        "host/duplex.py", "        self._sending, self._busy = batch, 0\n",
-        "        self._sending, self._busy = batch, 0\n        self._outbox.sent(batch)\n",
     ),
     "test_out.Files.test_modes": Edit(
         "host/sqlite.py", "os.chmod(path, 0o600)", "os.chmod(path, 0o644)"
@@ -344,12 +273,12 @@ FAULTS = {
     ),
     "test_out.OutOfSpool.test_wanted": Edit("host/spool.py", '.split("-")[0]) > after]', '.split("-")[0]) >= after]'),
     "test_out.OutOfSqlite.test_delivery_to_a_command": Edit(
-        "host/deliver.py", "if done.returncode:", "if done.returncode < 0:"
+        "host/deliver.py", "        if status:\n", "        if status < 0:\n"
     ),
     "test_out.OutOfSqlite.test_delivery_to_a_directory": Edit(
         "host/deliver.py", 'take_lock(path + ".lock")', 'take_lock(f"{path}.{os.getpid()}.lock")'
     ),
-    "test_out.OutOfSqlite.test_export": Edit("host/export.py", "[*own, *row, mended]", "[*row, *own, mended]"),
+    "test_out.OutOfSqlite.test_export": Edit("host/export.py", "([*own, *row[:-1]", "([*row[:-1], *own"),
     "test_out.OutOfSqlite.test_one_host": Edit(
         "host/files.py", "fcntl.LOCK_EX | fcntl.LOCK_NB", "fcntl.LOCK_SH | fcntl.LOCK_NB"
     ),
@@ -378,7 +307,7 @@ FAULTS = {
         "host/sql.py", "WHERE message = ? ORDER BY place", "WHERE message = ? ORDER BY place DESC"
     ),
     "test_postgres.OutOfPostgres.test_export": Edit(
-        "host/sql.py", "first and first[0], number, end.key", "None, number, end.key"
+        "host/sql.py", "(end, first.get((end.line, end.digest)), number)", "(end, None, number)"
     ),
     "test_postgres.OutOfPostgres.test_sending": Edit(
         "host/send.py", 'yield f"message {number}: record', 'f"message {number}: record'
@@ -392,15 +321,14 @@ FAULTS = {
     ),
     "test_postgres.Postgres.test_kills": Edit(
         "host/postgresql.py",
-        "may stay in the transaction\n"
-        "            self._give_up()\n"
+        "DataError, self._driver.IntegrityError)))\n"
         '            raise StoreError(f"PostgreSQL: {_first_line(error)}") from None',
-        "may stay in the transaction\n            self._give_up()",
+        "DataError, self._driver.IntegrityError)))",
     ),
     "test_postgres.Postgres.test_later_tables": Edit(
         "host/sql.py", "elif found[0] != str(SCHEMA):", "elif not found[0]:"
     ),
-    "test_postgres.Postgres.test_mends": Edit("host/sql.py", "(WHOLE, end.reason, end.digest,", '(WHOLE, "", end.digest,'),
+    "test_postgres.Postgres.test_mends": Edit("host/sql.py", "(one.key, one.state, one.reason,", '(one.key, one.state, "",'),
     "test_postgres.Postgres.test_name_of_a_killed_host": Edit(
         "host/postgresql.py", "_NAME_SECONDS = 3.0", "_NAME_SECONDS = 0.0"
     ),
@@ -418,8 +346,8 @@ FAULTS = {
     ),
     "test_postgres.RepeatsOfPostgres.test_each_write": Edit(
         "host/sql.py",
-        "AND again_of IS NULL AND state = ?\",\n                (end.line, end.digest, WHOLE),",
-        "AND again_of IS NULL\",\n                (end.line, end.digest),",
+        "again_of IS NULL AND state = '{WHOLE}'\"\n            found",
+        "again_of IS NULL\"\n            found",
     ),
     "test_postgres.Postgres.test_start_while_another_commits": Edit(
         "host/postgresql.py", "[0][0] is not None", "[0][0] == 0"
@@ -447,9 +375,11 @@ FAULTS = {
     ),
     "test_repeats.RepeatsOfSqlite.test_each_write": Edit(
         "host/sql.py",
-        "AND again_of IS NULL AND state = ?\",\n                (end.line, end.digest, WHOLE),",
-        "AND again_of IS NULL\",\n                (end.line, end.digest),",
+        "again_of IS NULL AND state = '{WHOLE}'\"\n            found",
+        "again_of IS NULL\"\n            found",
     ),
+    "test_said.Said.test_signs_for_a_terminal": Edit("host/status.py", "shown(row) + ", "row + "),
+    "test_said.Said.test_the_password_of_a_database": Edit("host/postgresql.py", '== address.count("@") < 2', "!= 9"),
     "test_said.Said.test_a_line_goes_on": Edit("host/commits.py", "one.set_exception(fault)", "one.cancel()"),
     "test_said.Said.test_saying": Edit("host/said.py", "if poll.poll(0):", "if poll:"),
     "test_said.Said.test_who_waits_is_answered_first": Edit(
@@ -502,14 +432,14 @@ FAULTS = {
     ),
     "test_turns.Turns.test_sqlite": Edit(
         "host/line.py",
-        "        if self._loop.time() > self._over:\n            await",
+        "        if time.thread_time() > self._over:\n            await",
         "        if not self._over:\n            await",
     ),
     "test_status.Status.test_running": Edit(
         "host/status.py", "return not store.held_to_the_end and ", "return "
     ),
     "test_systemd.Systemd.test_journal": Edit(
-        "host/said.py", "{' '.join(value.splitlines())}\\n", "{value}\\n"
+        "host/said.py", "{shown(' '.join(value.splitlines()))}\\n", "{value}\\n"
     ),
     "test_systemd.Systemd.test_notify": Edit("host/systemd.py", "    while seconds:\n", "    if seconds:\n"),
     "test_systemd.Systemd.test_units": Edit(
@@ -565,12 +495,17 @@ FAULTS = {
         "watch/tally.py", "self._number = found[-1].number", "self._number = found[0].number"
     ),
     "test_watch_page.Looks.test_who_may_look": Edit(
-        "watch/web.py", "hmac.compare_digest(found, token)", "bool(found)"
+        "watch/web.py", "hmac.compare_digest(found, token.encode())", "bool(found)"
     ),
-    "test_watch_page.Looks.test_delivered": Edit("host/deliver.py", '"key": one.key, "took": took}', '"key": one.key}'),
+    "test_watch_page.Looks.test_slow_readers": Edit("watch/web.py", "            if slow is not None:", "            if not among:"),
+    "test_watch_page.Looks.test_a_token_that_is_made": Edit(
+        "watch/web.py", "secrets.token_urlsafe(24).encode() + b", "secrets.token_urlsafe(9).encode() + b"
+    ),
+    "test_watch_page.Looks.test_delivered": Edit("host/deliver.py", '"key": key, "took": took}', '"key": key}'),
     "test_watch_page.Looks.test_words": Edit("watch/commands.py", "not (ask.allow and token)", "not (ask.allow or token)"),
 }
-FAULTS.update({name: Edit(*edit) for one in (planted_delivery, planted_watch) for name, edit in one.FAULTS.items()})
+for one in (planted_delivery, planted_orders, planted_watch):
+    FAULTS.update({name: Edit(*edit) for name, edit in one.FAULTS.items()})
 #: Changes that mean nothing.
 HARMLESS = (
     Edit(
@@ -612,8 +547,8 @@ HARMLESS = (
     ),
     Edit(
         "host/sql.py",
-        "        if ends:\n            self._number(ends)",
-        "        if len(ends) > 0:\n            self._number(ends)",
+        "        if whole:\n            self._number(whole)",
+        "        if len(whole) > 0:\n            self._number(whole)",
     ),
     Edit("host/deliver.py", "        elif not found:\n", "        elif found == 0:\n"),
     Edit("delivery/aside.py", "sorted([*others, row])", "sorted([row, *others])"),
@@ -642,9 +577,9 @@ HARMLESS = (
     Edit("watch/ring.py", "        self.next += 1\n", "        self.next = 1 + self.next\n"),
     Edit("host/options.py", "return found[1] or found[2] or", "return found[2] or found[1] or"),
     Edit(
-        "host/mend.py",
-        "        names = self.names if one.is_over else self.names - _MAKES_AN_END\n",
-        "        names = self.names - (frozenset() if one.is_over else _MAKES_AN_END)\n",
+        "host/mender.py",
+        "        names = self.names if one.is_over else self.names - MAKES_AN_END\n",
+        "        names = self.names - (frozenset() if one.is_over else MAKES_AN_END)\n",
     ),
     Edit(
         "host/telnet.py",

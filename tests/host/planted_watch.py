@@ -1,6 +1,11 @@
 """Faults in what shows how a host does (`planted.py`): in this file of lislink, this text becomes that."""
 
 FAULTS = {
+    "test_deliveries.Deliveries.test_rows": ("host/deliver.py", "            notes.failed(failed)\n", ""),
+    "test_deliveries.Deliveries.test_shown": ("watch/client.py", '*data["deliveries"].values()]\n    return', "]\n    return"),
+    "test_deliveries.Deliveries.test_plot": (
+        "watch/plot.py", "is_last = place + 1 == len(shown)", "is_last = place + every >= len(shown)"
+    ),
     "test_failed.NamedOfSqlite.test_named": ("watch/pulse.py", "return failed or found", "return found"),
     "test_failed.NamedOfSpool.test_named": ("watch/client.py", "book.failed(1)", "{}"),
     "test_failed.NamedOfPostgres.test_named": (

@@ -88,6 +88,7 @@ class Dying:
 
     def __enter__(self):
         self.patched = [unittest.mock.patch.object(one, "write_synced", self.write) for one in (deliver, aside)]
+        self.patched.append(unittest.mock.patch.object(deliver, "SYNC", 0.0))
         for one in self.patched:
             one.start()
         return self
@@ -182,6 +183,7 @@ class Asides(HostTest):
                     raise deliver.Refused("by chance")
                 taken.append(one.key)
                 chances[0] *= 0.98
+                return True
 
             for _ in range(300):
                 if len(taken) == len(keys):
@@ -220,7 +222,7 @@ class Asides(HostTest):
         def take(one):
             if one.key == keys[0] and not mended:
                 raise deliver.Refused("as the test has it")
-            taken.append(one.key)
+            return not taken.append(one.key)
 
         for again in (False, True):
             try:
@@ -262,7 +264,7 @@ class Cursors(HostTest):
                 shutil.move(folder + ".away", folder)
 
         opened = open_store(store)
-        one = deliver.Delivery(opened, place, lambda it: taken.append(it.key), said.append, sleep)
+        one = deliver.Delivery(opened, place, lambda it: not taken.append(it.key), said.append, sleep)
         self.raises("it is stopped by the test", Stopped, lambda: deliver.run(one, False))
         self.same("each once", taken, keys)
         self.same("it says so", len(said), 3)
@@ -291,7 +293,8 @@ class Cursors(HostTest):
                 raise Stopped
 
         opened, place = open_store(store), deliver.Cursor(cursor)
-        one = deliver.Delivery(opened, place, lambda it: taken.append(it.key), said.append, sleep, aside.Aside(cursor))
+        kept = aside.Aside(cursor)
+        one = deliver.Delivery(opened, place, lambda it: not taken.append(it.key), said.append, sleep, kept)
         with unittest.mock.patch.object(aside, "write_synced", write):
             self.raises("it is stopped by the test", Stopped, lambda: deliver.run(one, False))
         self.same("each once, in order", taken, keys)

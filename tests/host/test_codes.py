@@ -1,6 +1,7 @@
 """Tables of codes: codes, units and factors of a laboratory for those of analyzers."""
 import csv
 import fractions
+import importlib
 import io
 import json
 import os
@@ -8,16 +9,20 @@ import random
 import re
 
 from lislink.delivery import codes, fhir, oru
-from lislink.delivery.tables import coder_of
+from lislink.delivery.failures import Quarantined
+from lislink.delivery.results import Coded, Reading, Told, report_of
+from lislink.delivery.tables import tables_of
 from lislink.host import deliver, export
 from lislink.host.options import OptionError
 from lislink.message import Found, read_all
 from tests.host import fhir_r4
 from tests.host.hosts import HostTest, lislab
 from tests.host.test_aside import keep
+from tests.host.test_fhir import observations
 from tests.host.test_mllp import WithLibrary, message, stored
 
 HEAD = "analyzer,laboratory,unit,factor,line,sent\n"
+ALL = HEAD.strip() + ",digits,system,ucum\n"
 SAMPLE = "samples/panel.records"
 
 
@@ -60,12 +65,12 @@ class Table(HostTest):
     def coded(self, table, *rows, **more):
         """The results that a table makes of these."""
         one = stored(message("P|1|4711", "O|1|S7||^^^A", *rows), **more)
-        return results(codes.codes_of(table).applied(one).body)
+        return results(codes.codes_of(table).applied(one).one.body)
 
     def test_faults(self):
         """Each fault has its file and row, and says what would be right."""
         for row, why in (
-            ("A,B,U,1,L,S,x", "there are 1 cells more than names"),
+            ("A,B,U,1,L,S,,,,x", "there are 1 cells more than names"),
             (",B", "the analyzer's code is missing"),
             ("A,", "the laboratory's code is missing"),
             ("A,B,U,x", "x: a factor is a decimal, as 0.0555, and not 0"),
@@ -74,8 +79,14 @@ class Table(HostTest):
             ('A,B,U,"0,5"', "0,5: a factor is a decimal, as 0.0555, and not 0"),
             ("A,B,,2", "a factor needs the unit that it gives"),
             ("G,B", "G is in row 2 too"),
+            ("A,B,U,2,,,x", "x: digits are 0 to 9, of a value with a factor"),
+            ("A,B,U,,,,1", "1: digits are 0 to 9, of a value with a factor"),
+            ("A,B,,,,,,a b", "a b: a system is a word of HL7, as LN for LOINC, or an address"),
+            ("A,B,,,,,,,mg", "a unit of UCUM needs the unit that it stands for: unit or sent"),
+            ("A,leave out,U", "what is left out has no unit and no system"),
+            ("^^,B", "^^: a pattern names a component, as ^^^GLU^^^F"),
         ):
-            path = self.table("G,GLUC", "# a comment", "", row)
+            path = self.table("G,GLUC", "# a comment", "", row, head=ALL)
             self.same(row, codes.read_codes(path).faults, [f"{path}:5: {why}"])
             self.raises(f"{row}: nothing is sent by it", OptionError, lambda path=path: codes.codes_of(path))
         for head, why in (("analyzer,unit\n", "the column laboratory is missing"),
@@ -134,11 +145,30 @@ class Table(HostTest):
             "R|1|^^^B|1|g", "C|1|I|one", "C|2|L|lislab: no code for B in g|G",
             "R|2|^^^C|1|", "C|1|I|two", "C|2|L|lislab: unknown code C|G"])
 
+    def test_patterns(self):
+        """A row may name components of the field: the one that names most goes first; it may leave a result out."""
+        table = self.table("^^^16,OTHER", "^^^16^^^^^^^F,GLU", "^^^16^^^^^^^P,leave out",
+                           "*^*^*^16^*^*^*^*^*^*^I,leave out", "HCG,HCG", "^^^HCG^10,HCG10", head="analyzer,laboratory\n")
+        field = "^^^16^Glucose^UNDILUTED^P^1234^00567^^"
+        found = self.coded(table, f"R|1|{field}F|5.4|mmol/L", f"R|2|{field}P|0.8765|Abs", "C|1|I|of what is left out",
+                           f"R|3|{field}I|NORMAL", "C|1|I|too", "R|4|^^^HCG|1", "R|5|^^^HCG^10|2", "R|6|^^^HCG^5|3")
+        self.same("one is left", found, ["R|1|^^^GLU^Glucose^UNDILUTED^P^1234^00567^^F|5.4|mmol/L", "R|4|^^^HCG|1",
+                                         "R|5|^^^HCG10^10|2", "R|6|^^^HCG^5|3"])
+        one = codes.codes_of(table).applied(stored(message("P|1", "O|1|S7", f"R|1|{field}P|1", f"R|2|{field}I|1")))
+        self.same("they are counted", one.left_out, 2)
+
+    def test_digits(self):
+        """A value that is multiplied has so many digits, half to even, and a comment with what came."""
+        table = self.table("A,B,new,0.5,,,1", head=HEAD.strip() + ",digits\n")
+        for value, wanted in (("0.5", "0.2"), ("0.7", "0.4"), ("0.9", "0.4"), (">10", ">5.0"), ("10.06", "5.0")):
+            found = self.coded(table, f"R|1|^^^A|{value}|old|1-2")
+            self.same(value, found, [f"R|1|^^^B|{wanted}|new|0.5-1.0", f"C|1|L|lislab: it was {value} old|G"])
+
     def test_encoding(self):
         """A word of the table is written in the message's encoding, delimiters as escapes."""
         table = self.table("A,B,\u03bcg/l,2", "C,x|y^z&,,", "D,\u20ac,,")
         latin = stored(message("P|1", "O|1|S7", "R|1|^^^A|1|u"), encoding="latin-1")
-        found = codes.codes_of(table).applied(latin).body.split(b"\r")[3]
+        found = codes.codes_of(table).applied(latin).one.body.split(b"\r")[3]
         self.same("micro", found, b"R|1|^^^B|2|\xb5g/l")
         self.same("delimiters", self.coded(table, "R|1|^^^C|1|u"), ["R|1|^^^x&F&y&S&z&E&|1|u"])
         bad = stored(message("P|1", "O|1|S7", "R|1|^^^D|1|u"), encoding="latin-1")
@@ -158,7 +188,7 @@ class Table(HostTest):
                 rows.append(f"R|{rng.randint(1, 9)}|^^^{rng.choice('ABCDE')}|{value}|{rng.choice(('old', 'new'))}||N")
                 rows += rng.sample(["C|1|I|x", "M|1|y"], rng.randint(0, 2))
             whole = stored(message("P|1|4711", "O|1|S7", *rows))
-            out = codes.codes_of(table).applied(whole).body.decode().split("\r")
+            out = codes.codes_of(table).applied(whole).one.body.decode().split("\r")
             kept = [row for row in out if "|L|lislab: " not in row]
             before = whole.body.decode().split("\r")
             self.need(len(kept) == len(before), lambda: f"{at}: {kept}")
@@ -199,7 +229,8 @@ class Codes(WithLibrary):
             file.write(HEAD + "GLU,GLUC,mg/dL,18,,\nNA,NA,,,,\n")
         with open(SAMPLE, "rb") as file:
             one = stored(file.read())
-        made = {form: export.writer_of(form, coder_of(path, None)) for form in export.FORMATS}
+        tables = tables_of(path, None)
+        made = {form: export.writer_of(export.Form(form, tables)) for form in export.FORMATS}
         text = {form: ((write(None) or b"") + write(one)).decode() for form, write in made.items()}
         self.has("records", text["records"], "R|3|^^^K|5.6|mmol/L|3.5 to 5.1|H||F\rC|1|I|slightly haemolytic\r"
                                              "C|2|L|lislab: unknown code K|G\r")
@@ -207,17 +238,18 @@ class Codes(WithLibrary):
         self.same("csv", [(row["test"], row["value"], row["unit"], row["mark"]) for row in rows], [
             ("GLUC", "97.2", "mg/dL", ""), ("NA", "139", "mmol/L", ""), ("K", "5.6", "mmol/L", "unknown code K"),
             ("GLUC", "86.4", "mg/dL", "")])
-        self.true("tsv", text["tsv"].splitlines()[3].endswith("\tunknown code K\t"), text["tsv"])
+        self.true("tsv", text["tsv"].splitlines()[3].endswith("\tunknown code K\t\t"), text["tsv"])
         found = json.loads(text["json"])["message"]["patients"][0]["orders"][0]["results"]
         self.same("json", (found[0]["test"], found[0]["unit"], found[2]["notes"][1]["comment_text"]),
                   ("^^^GLUC", "mg/dL", "lislab: unknown code K"))
         names = ("OBR.F4.R1.C2", "OBX.F3", "OBX.F5", "OBX.F6", "OBX.F7", "NTE2.F3")
-        cells = [str(oru.library().parse(text["oru"])[name]) for name in names]
+        first = oru.messages_of(text["oru"].encode())[0].decode()
+        cells = [str(importlib.import_module("hl7").parse(first)[name]) for name in names]
         self.same("oru", cells, ["GLUC NA K", "GLUC", "97.2", "mg/dL", "70.2-109.8", "lislab: unknown code K"])
-        bundle = [it["resource"] for it in json.loads(text["fhir"])["entry"]]
+        bundle = observations(text["fhir"])
         self.same("fhir", (fhir_r4.faults(text["fhir"]), bundle[0]["code"]["text"], bundle[2]["note"][1]["text"]),
                   ([], "GLUC", "lislab: unknown code K"))
-        self.same("the message stays", fhir.bundle_of(one).decode().count("GLUC"), 0)
+        self.same("the message stays", fhir.bundle_of(Told(Coded(one))).decode().count("GLUC"), 0)
 
     def test_any_message(self):
         """Random messages, delimiters and encodings: each form has each result, can be read, and never fails."""
@@ -225,18 +257,27 @@ class Codes(WithLibrary):
         with open(path, "w", encoding="utf-8") as file:
             file.write(HEAD + "A,LA,mg/dL,18.016,,\nGLU,GL|^&\\,g,0.1,,\n")
         table, count = codes.codes_of(path), 0
-        for at in range(400):
+        for at in range(1200):
             one = stored(random_body(rng), encoding=rng.choice(("latin-1", "utf-8", "gbk", "cp1251", "shift_jis")))
             found = [each for each in read_all(one.body, one.encoding) if isinstance(each, Found)]
             if len(found) != 1:
                 continue
-            wanted, count = len(list(found[0].message.results())), count + 1
-            for whole in (one, table.applied(one)):
-                out, bundle = oru.oru_of(whole), fhir.bundle_of(whole)
-                again = str(oru.library().parse(out.decode())) if out else ""
-                self.need(again.rstrip() == out.decode().rstrip(), lambda: f"{at}: {out}")
+            wanted = len(list(found[0].message.results()))
+            reading = Reading(rng.choice(("O.3.1", "O.4.1", "")), letters="mark", twice="deliver")
+            for coded in (Coded(one, reading), table.applied(one, reading)):
+                try:
+                    told = Told(coded)
+                except Quarantined:
+                    continue
+                count += 1
+                out, bundle = oru.oru_of(told), fhir.bundle_of(told)
+                for each in oru.messages_of(out):
+                    again = str(importlib.import_module("hl7").parse(each.decode()))
+                    self.need(again.rstrip() == each.decode().rstrip(), lambda: f"{at}: {each}")
                 self.need(not bundle or fhir_r4.faults(bundle) == [], lambda: f"{at}: {fhir_r4.faults(bundle)}")
-                results_of = out.count(b"\rOBX|"), len(json.loads(bundle)["entry"]) if bundle else 0
+                bare = [each for case in told.cases for each in case.orders if not each.record.results]
+                more = sum(len(each.tests) for each in bare if report_of(each.record))
+                results_of = out.count(b"\rOBX|"), len(observations(bundle)) - more if bundle else 0
                 self.need(results_of == (wanted, wanted), lambda: f"{at}: {results_of}, wanted {wanted}: {one.body}")
         self.true("messages were tried", count > 100, str(count))
 

@@ -3,16 +3,15 @@ setting."""
 import asyncio
 import os
 import re
-from collections import Counter
 
 from lislink.capture import read_capture
-from lislink.host.intake import Intake
-from lislink.host.mend import MOST, Mender
-from lislink.host.store import MENDED, WHOLE, End
+from lislink.host.intake import Held, Intake
+from lislink.host.mend import MOST
+from lislink.host.store import MENDED, WHOLE, Begin, End
 from tests import ROOT
 from tests.host.hosts import Found, Host, HostTest
 from tests.host.test_lines import ACK, EOT
-from tests.host.test_mends import play, ports_of
+from tests.host.test_mends import mender_of, play, ports_of
 
 SAMPLES = os.path.join(ROOT, "samples", "dialects")
 #: Samples whose message is delivered without a setting, which is about what came after it.
@@ -29,12 +28,19 @@ def rows(end):
         yield name, says, above
 
 
+def _ended(changes):
+    return {one.key for one in changes if isinstance(one, End)}
+
+
 async def ends_of(data, names):
     """The ends of the messages of a text, after which the session ends, on a line that mends so."""
-    intake = Intake("line", "peer", "latin-1", 1 << 24, lambda: 0.0, MOST)
-    mender, changes = Mender(names, None, Counter()), []
+    intake = Intake("line", "peer", "latin-1", 1 << 24, lambda: 0.0, Held(MOST))
+    mender, changes, tries = mender_of(names), [], []
     for some in [*intake.take(data), intake.drop("the session ended")]:
-        changes += await mender.of_all(some, intake.bodies, True)
+        changes += await mender.of_all(some, intake.bodies, True, tries)
+    mender.begin_tries(tries, changes.extend)
+    while any(isinstance(one, Begin) and one.key not in _ended(changes) for one in changes):
+        await asyncio.sleep(0.001)
     return [one for one in changes if isinstance(one, End)]
 
 

@@ -58,6 +58,8 @@ class Named(Hides):
                     "127.0.0.1:0,name=other", listen=False, scale=SLOW)
         one = Plain(port_of(host, "asks"), SLOW)
         self.same("asks", one.byte(30), ENQ)
+        one.put(ACK)
+        one.byte(30)
         one.close()
         failed = {f"S{at}": "failed" for at in (1, 2, 3)}
         self.true("failed", wait_for(lambda: states(self.store) == failed), states(self.store))
@@ -162,11 +164,12 @@ class Ways(Hides, HostTest):
     @staticmethod
     def plays(name, one):
         """An analyzer of this kind, until the line is closed."""
-        replies = {"busy": {ENQ: NAK}, "rejects": {ENQ: ACK, b"\n": NAK}, "asks": {ENQ: ENQ}, "silent": {}}
+        replies = {"pulled": {ENQ: ACK}, "busy": {ENQ: NAK}, "rejects": {ENQ: ACK, b"\n": NAK}, "asks": {ENQ: ENQ},
+                   "silent": {}}
         try:
             while True:
                 byte = one.byte(600)
-                if name == "pulled":
+                if name == "pulled" and byte != ENQ:
                     break
                 if byte in replies[name]:
                     one.put(replies[name][byte])
@@ -232,6 +235,7 @@ class Ways(Hides, HostTest):
         rows = site.get("/metrics")[2].splitlines()
         found = [row for row in rows if row.startswith("lislab_orders{")]
         self.same("metrics", found, ['lislab_orders{state="waiting"} 1', 'lislab_orders{state="sent"} 0',
+                                     'lislab_orders{state="done"} 0',
                                      f'lislab_orders{{state="failed"}} {len(HOSTILE) - 1}',
                                      'lislab_orders{state="cancelled"} 1'])
         host = Host(self.path("up.db"), scale=1.0)

@@ -14,16 +14,23 @@ import time
 
 from lislink.host import deliver
 from lislink.host.options import OptionError
-from lislink.delivery import aside, fhir, https, mllp
+from lislink.delivery import aside, fhir, https, mllp, oru
+from lislink.delivery.results import Coded, Reading, Told
 from tests.host import fhir_r4
 from tests.host.hosts import HostTest, lislab
 from tests.host.test_aside import keep, records
 from tests.host.test_mllp import Scripted, WithLibrary, ack, message, stored
 
 
-def observations(data):
-    """The Observations of a Bundle."""
-    return [one["resource"] for one in json.loads(data, parse_float=decimal.Decimal)["entry"]]
+def observations(data, kind="Observation"):
+    """The Observations of a Bundle, or other resources."""
+    found = [one["resource"] for one in json.loads(data, parse_float=decimal.Decimal)["entry"]]
+    return [one for one in found if one["resourceType"] == kind]
+
+
+def bundle_of(one, wishes=oru.Wishes(), **reading):
+    """A message as a Bundle, by the settings of its line."""
+    return fhir.bundle_of(Told(Coded(one, Reading(**reading))), wishes)
 
 
 class Fhir(HostTest):
@@ -32,10 +39,10 @@ class Fhir(HostTest):
     def test_fields(self):
         """A message's fields."""
         rows = ["P|1|4711|L9", "O|1|S7|I3|^^^GLU|R", 
-                "R|1|^^^GLU^1|5.40|mmol/L|3.9 to 6.10|H\\A||F||op1||20261127103500|A7", "C|1|I|a comment|G",
+                "R|1|^^^GLU|5.40|mmol/L|3.9 to 6.10|H\\A||F||op1||20261127103500|A7", "C|1|I|a comment|G",
                 "R|2|^^^NA|neg|mmol/L|usual|!||W", "R|3|^^^K||mmol/L", "P|2", "O|1|QC|||||||||Q",
                 "R|1|^^^K|>500|U/L|<5"]
-        out = fhir.bundle_of(stored(message(*rows), again_of="00ff")).decode()
+        out = bundle_of(stored(message(*rows), again_of="00ff"), zone="Europe/Berlin").decode()
         bundle = json.loads(out)
         self.same("the Bundle", (bundle["type"], bundle["identifier"]["value"]), ("transaction", "0000000000000001"))
         one, two, three, four = observations(out)
@@ -48,42 +55,102 @@ class Fhir(HostTest):
         self.same("the range", one["referenceRange"], [{"low": {"value": decimal.Decimal("3.9"), "unit": "mmol/L"},
                                                         "high": {"value": decimal.Decimal("6.10"), "unit": "mmol/L"}}])
         self.same("flags", [it["coding"][0]["code"] for it in one["interpretation"]], ["H", "A"])
-        self.true("the time has a zone", one["effectiveDateTime"].startswith("2026-11-27T10:35:00") and
-                  len(one["effectiveDateTime"]) == 25, one["effectiveDateTime"])
-        taken = fhir.bundle_of(stored(message("P|1", "O|1|S7|||||20261127093000", "R|1|^^^A|1|||||||||20261127103500")))
-        self.has("that of the sample goes before", taken.decode(), '"effectiveDateTime":"2026-11-27T09:30:00')
+        self.same("the time has the line's zone", one["effectiveDateTime"], "2026-11-27T10:35:00+01:00")
+        bare = observations(bundle_of(stored(message(*rows))))[0]
+        self.same("a line without a zone", (bare["effectiveDateTime"], bare["note"][1]["text"]),
+                  ("2026-11-27", "the analyzer's clock, whose zone is not known: 20261127103500"))
+        taken = message("P|1", "O|1|S7|||||20261127093000", "R|1|^^^A|1|||||||||20261127103500")
+        taken = bundle_of(stored(taken), zone="Asia/Tokyo").decode()
+        self.has("that of the sample goes before", taken, '"effectiveDateTime":"2026-11-27T09:30:00+09:00"')
         self.same("notes", [it["text"] for it in one["note"]], ["a comment", "repeat of message 00ff"])
-        mended = fhir.bundle_of(stored(message(*rows), reason="mended from 00fe: x")).decode()
+        mended = bundle_of(stored(message(*rows), reason="mended from 00fe: x")).decode()
         self.same("a mended one is marked", mended.count('{"text":"mended from 00fe: x"}'), 4)
-        self.same("a text has its unit", (two["valueString"], two["interpretation"], two["referenceRange"]),
-                  ("neg mmol/L", [{"text": "!"}], [{"text": "usual"}]))
+        self.same("a text", (two["valueString"], two["interpretation"], two["referenceRange"]),
+                  ("neg", [{"text": "!"}], [{"text": "usual"}]))
+        self.has("its unit", str(two["note"]), "unit mmol/L")
         self.has("a status that FHIR hasn't", str(two["note"]), "the analyzer's status is W")
         self.true("without a value", "dataAbsentReason" in three and "valueString" not in three)
         self.same("a comparator", four["valueQuantity"]["comparator"], ">")
         self.true("a control, without a patient", "subject" not in four and "a control" in str(four["note"]))
-        entry = bundle["entry"][1]["request"]
-        self.same("it is created once", (entry["method"], entry["url"], entry["ifNoneExist"]),
-                  ("POST", "Observation", "identifier=urn:lislab:message|0000000000000001-2"))
-        self.same("the same bytes again", fhir.bundle_of(stored(message(*rows), again_of="00ff")).decode(), out)
-        self.same("a query has none", fhir.bundle_of(stored(message("Q|1|^S7||ALL"))), b"")
+        self.true("each is of its own", len({entry["fullUrl"] for entry in bundle["entry"]}) == 6)
+        again = bundle_of(stored(message(*rows), again_of="00ff"), zone="Europe/Berlin").decode()
+        self.same("the same bytes again", again, out)
+        self.same("a query has none", bundle_of(stored(message("Q|1|^S7||ALL"))), b"")
+
+    def test_names(self):
+        """A result that comes again is the same Observation, a correction updates it, another result is another one."""
+        def named(*more, key="k1", identity="4711", **how):
+            body = message(f"P|1|{identity}", "O|1|S7", "|".join(more), header=f"H|\\^&|||A||||||||{key}")
+            (one,) = [it for it in json.loads(bundle_of(stored(body, key, **how)))["entry"]
+                      if it["resource"]["resourceType"] == "Observation"]
+            return one["request"], [it["value"] for it in one["resource"]["identifier"]]
+
+        timed = ["R", "1", "^^^GLU", "5.4", "mmol/L", "", "", "", "F", "", "", "", "20261127103500"]
+        later, fixed, plain = [*timed[:-1], "20261127113500"], [*timed[:8], "C", *timed[9:]], timed[:5]
+        first, again = named(*timed), named(*timed, key="k2")
+        self.same("sent again with another header", again, first)
+        bodies = [message("P|1|4711", "O|1|S7", "|".join(timed), header=f"H|\\^&|||A||||||||{at}") for at in "ab"]
+        found = [json.loads(bundle_of(stored(body, key)))["entry"][1]["request"] for key, body in zip("ab", bodies)]
+        self.same("so is its report", found[0], found[1])
+        self.same("it is created, or the same", first[0]["method"], "PUT")
+        self.same("a repeat changes nothing", named(*timed, key="k2", again_of="k1")[0]["ifNoneExist"],
+                  first[0]["url"].partition("?")[2])
+        self.true("another time", named(*later)[1][0] != first[1][0] and named(*later)[1][1] == first[1][1])
+        request, names = named(*fixed, key="k3")
+        self.same("a correction", (request["method"], request["url"], names[1]),
+                  ("PUT", f"Observation?identifier=urn:lislab:test|{first[1][1]}", first[1][1]))
+        self.true("another patient's", not set(named(*timed, identity="4712")[1]) & set(first[1]))
+        self.same("without a time it is the message's", named(*plain)[0]["method"], "POST")
+        self.true("another message's", named(*plain)[1][0] != named(*plain, key="k2")[1][0])
+        self.same("a repeat of it", named(*plain)[0], named(*plain, key="k2", again_of="k1")[0])
+        both = bundle_of(stored(message("P|1|4711", "O|1|S7", "|".join(timed), "O|2|S7", "|".join(timed))))
+        self.same("two in a message are two", len(observations(both)), 2)
+
+    def test_resources(self):
+        """Codes and units by their systems, the patient, reports, orders that were cancelled."""
+        wishes = oru.wishes_of(["practice=urn:oid:1.2.3 PI", "sample=urn:samples"])
+        rows = ["P|1|4711|||Doe^Jane||19800131|F", "O|1|S7||^^^GLU||||||||||||serum", "R|1|^^^GLU|5.4|mmol/L",
+                "O|2|S7||^^^FT4" + "|" * 21 + "X", "C|1|I|clot detected", "O|3|S8||^^^TSH"]
+        out = bundle_of(stored(message(*rows)), wishes)
+        self.same("no fault", fhir_r4.faults(out), [])
+        (who,), (one, gone) = observations(out, "Patient"), observations(out)
+        self.same("the patient", (who["identifier"], who["name"], who["gender"], who["birthDate"]),
+                  ([{"system": "urn:oid:1.2.3", "value": "4711"}], [{"family": "Doe", "given": ["Jane"]}], "female",
+                   "1980-01-31"))
+        url = json.loads(out)["entry"][0]["fullUrl"]
+        self.same("its results", [it["subject"] for it in (one, gone)], [{"reference": url}] * 2)
+        self.same("the sample", one["specimen"]["identifier"], {"system": "urn:samples", "value": "S7"})
+        self.same("what was cancelled", (gone["status"], gone["code"]["text"], gone["note"]),
+                  ("cancelled", "FT4", [{"text": "clot detected"}]))
+        reports = observations(out, "DiagnosticReport")
+        self.same("reports", [it["status"] for it in reports], ["final", "cancelled"])
+        bare = observations(bundle_of(stored(message(*rows))), "Patient")
+        self.same("without the system of an identity it is no Patient", bare, [])
 
     def test_structure(self):
         """Random messages are as published; and what isn't, is noticed."""
         rng = random.Random(5)
+        systems = oru.wishes_of(["practice=urn:a", "laboratory=urn:b", "sample=urn:c"])
         words = ("", "5.4", "-.5", "+007.10", ">5", "<=.3", "1e3", "neg", " ", "a &F& b", "3-4", "20261127",
                  "2026", "H", "\u03bc")
         for at in range(400):
             rows = []
             for letter, count in (("P", 11), ("O", 26), ("R", 14), ("C", 5)):
                 cells = [rng.choice(words) + rng.choice(("", "", "^x", "\\y")) for _ in range(count)]
+                cells[0] = {"O": "S1", "R": rng.choice(("^^^A", "^A^B", "B"))}.get(letter, cells[0])
                 rows.append("|".join([letter, "1", *cells]))
-            out = fhir.bundle_of(stored(message(*rows))).decode()
+            out = bundle_of(stored(message(*rows)), rng.choice((oru.Wishes(), systems)),
+                            zone=rng.choice(("", "Europe/Berlin"))).decode()
             self.need(fhir_r4.faults(out) == [], lambda: f"{at}: {fhir_r4.faults(out)}: {rows}")
-        good = fhir.bundle_of(stored(message("P|1|4711", "O|1|S7", "R|1|^^^A|<5.4|U/L|1-2|H", "C|1|I|x"))).decode()
+        good = bundle_of(stored(message("P|1|4711", "O|1|S7", "R|1|^^^A|<5.4|U/L|1-2|H", "C|1|I|x"))).decode()
         self.same("a good one", fhir_r4.faults(good), [])
         for old, new in (
             ('"status":"final"', '"status":"done"'), ('"status":"final",', ""),
-            ('"code":{"coding":[{"code":"A"}],"text":"A"},', ""), ('"value":5.4', '"value":"5.4"'),
+            ('"code":{"coding":[{"code":"A"}],"text":"A"},', ""),
+            ('"result":[{"reference":"urn:', '"result":[{"reference":"x:'),
+            ('"status":"final","category":[{"coding":[{"system":"http://terminology.hl7.org/CodeSystem/v2-0074"',
+             '"status":"cancelled?","category":[{"coding":[{"system":"http://terminology.hl7.org/CodeSystem/v2-0074"'),
+            ('"code":{"text":"A"},', ""), ('"value":5.4', '"value":"5.4"'),
             ('"comparator":"<"', '"comparator":"="'), ('"type":"transaction"', '"type":"batched"'),
             ('"type":"transaction"', '"type":"collection"'),
             ('"resourceType":"Observation"', '"resourceType":"Result"'),
@@ -212,7 +279,7 @@ class Https(WithLibrary):
     def told(self, server, files, keys, seconds=60.0):
         """What became of messages to a server: what each failed with."""
         told, port = [], server.server_address[1]
-        one = https.Https(f"https://localhost:{port}/", seconds, https.context_of(files[0]), {})
+        one = https.Https(f"https://localhost:{port}/", seconds, https.context_of(files[0]))
         for key in keys:
             try:
                 one.deliver(b"{}", key, "text/plain")

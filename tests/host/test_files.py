@@ -68,7 +68,7 @@ class Whole(HostTest):
                       [("fire", None, BODY), ("fire", "1", BODY)])
             self.same("one that isn't whole", [one.reason for one in store.others()], [""])
             cursor = deliver.Cursor(self.path("short.cursor"))
-            deliver.to_directory(self.path("short.d"), "records", export.writer_of("records"))(found[0])
+            deliver.to_directory(self.path("short.d"), "records", export.writer_of(export.Form("records")))(found[0])
             cursor.move(found[0])
             serve.write_state(self.path("short.status"), {"at": 1.0, "begun": 1.0})
             one = tape.Tape(self.path("short.capture"))

@@ -1,11 +1,13 @@
 """What a host keeps of random texts: every byte, in order, and the messages that a reader of the whole finds."""
 import hashlib
 import random
+import tracemalloc
 import unittest.mock
 
 from lislink import Found, read_all
 from lislink.host import intake
-from lislink.host.intake import Intake
+from lislink.host.duplex import Asking
+from lislink.host.intake import Held, Intake
 from lislink.host.store import WHOLE, Add, Begin
 from tests.host import hosts
 from tests.host.hosts import HostTest
@@ -36,6 +38,28 @@ class Streams(HostTest):
             for text in texts:
                 list(one.take(text))
             self.same(repr(texts), [end.reason for end in one.drop("the end")], [wanted])
+
+    def test_what_is_held(self):
+        """Many lines hold no more of messages that aren't whole than they may together, and a query's records as their
+        bytes; a message that can't be held is kept all the same, and the next one is held again."""
+        held, record = Held(1 << 20, 4 << 20), b"C|1|" + b"x" * 1000 + b"\r"
+        ones = [Intake("line", "peer", "latin-1", 1 << 24, lambda: 0.0, held) for _ in range(40)]
+        for one in ones:
+            for text in [b"H|\\^&\rZ|1\r", *[record] * 800]:
+                list(one.take(text))
+        sizes = [len(one._message.body or b"") for one in ones]
+        self.true("of all", sum(sizes) <= (4 << 20) + 40 * intake.FIRST, str(sizes))
+        self.true("of some", max(sizes) > 800_000, str(sizes))
+        ends = [one.drop("the end")[-1] for one in ones]
+        self.same("all are kept", {end.size for end in ends}, {10 + 800 * len(record)})
+        list(ones[-1].take(b"H|\\^&\rZ|1\r" + record))
+        self.true("held again", ones[-1].drop("the end") and ones[-1].bodies)
+        tracemalloc.start()
+        asking = Asking("latin-1")
+        asking.take(b"H|\\^&\r" + b"C|\r" * 20_000)
+        self.true("of a query", tracemalloc.get_traced_memory()[0] < 1 << 19, str(tracemalloc.get_traced_memory()))
+        tracemalloc.stop()
+        asking.over()
 
     def test_a_forgetful_intake(self):
         """An intake that forgets what can't be read is noticed."""

@@ -13,7 +13,7 @@ from lislink import cli
 from lislink.delivery import codes
 from lislink.delivery.tables import Tables
 from lislink.host import lines, options
-from lislink.host.intake import Intake
+from lislink.host.intake import Held, Intake
 from lislink.host.options import OptionError
 from lislink.host.store import WHOLE, Add, Begin, End, open_store
 from lislink.host.unknown import Unknown
@@ -88,10 +88,10 @@ class LineCodes(HostTest):
         ):
             tables = Tables(*words)
             for line, rows in wanted.items():
-                found = tables.applied(stored(BODY, line=line)).body
+                found = tables.applied(stored(BODY, line=line)).one.body
                 self.same(f"{words}: line {line}", results(found), rows)
         unread = stored(BODY, line="a", state="unreadable", number=None)
-        self.same("what isn't whole stays as it is", Tables(None, file).applied(unread), unread)
+        self.same("what isn't whole stays as it is", Tables(None, file).applied(unread).one, unread)
         store = self.path("applied.db")
         keep(store, [BODY], "a")
         words = ["--store", store, "--lines", file]
@@ -129,11 +129,11 @@ class LineCodes(HostTest):
                 os.unlink(self.path(name))
             elif name:
                 self.written(name, text)
-            found = results(tables.applied(stored(BODY, line="a")).body)
+            found = results(tables.applied(stored(BODY, line="a")).one.body)
             self.same(f"{step}: {name}", (found[0].split("|")[2][3:], said), (wanted, words))
         once = Tables(None, file)
         self.written("again.lines", rows.format("two"))
-        found = results(once.applied(stored(BODY, line="a")).body)
+        found = results(once.applied(stored(BODY, line="a")).one.body)
         self.same("a command that ends reads them once", found, results(BODY))
 
     def test_a_delivery(self):
@@ -225,16 +225,18 @@ class LineCodes(HostTest):
         for turn in range(400):
             known = [one for one in ("A", "GLU", "5.4", "-", "neg", "mmol/L") if rng.random() < 0.4]
             rows = [f"{one},L{one},,,{rng.choice(('', 'fire'))},{rng.choice(('', 'mmol/L'))}\n" for one in known]
-            table = codes.Codes(codes.read_codes(self.written("random.codes", HEAD + "".join(rows))).codes)
+            read = codes.read_codes(self.written("random.codes", HEAD + "".join(rows))).codes
+            table = codes.Codes(read)
             body, encoding = random_body(rng), rng.choice(("latin-1", "utf-8", "gbk"))
             unknown = Unknown("fire")
             unknown.take(table)
-            intake = Intake("line", "peer", encoding, 1 << 20, lambda: 0.0, 1 << 20, unknown)
+            intake = Intake("line", "peer", encoding, 1 << 20, lambda: 0.0, Held(1 << 20), unknown)
             ends = [one for text in random_texts(rng, body) for part in intake.take(text) for one in part
                     if isinstance(one, End)]
             found = [each for each in read_all(body, encoding) if isinstance(each, Found)]
             counts = [unknown.ended(one.key, one.state == WHOLE) for one in ends]
-            wanted = codes.unknown_of(table, iter([stored(body, line="fire", encoding=encoding)] if found else []))
+            messages = [stored(body, line="fire", encoding=encoding)] if found else []
+            wanted = codes.unknown_of(read, lambda line: "", iter(messages))
             count = sum(one[0] for one in counts)
             self.need(count == sum(wanted.values()), lambda: f"{turn}: {counts}, {wanted}: {body}")
             shorter = {name for name in unknown.names() if len(name) < 20 and "?" not in name}

@@ -4,13 +4,15 @@ import contextlib
 import os
 import signal
 import socket
+import threading
 import time
 import unittest.mock
+from collections import Counter
 
 from lislink import FrameFault, frame_bytes
 from lislink.link import LONG_FRAME_TEXT
-from lislink.host import options, serve
-from tests.host.hosts import Found, Host, HostTest, lislab, sending
+from lislink.host import line, options, serve
+from tests.host.hosts import Found, Host, HostTest, lislab, sending, wait_for
 
 #: The timers of tests in which they run out while a frame is answered in time: 15 seconds are 0.75.
 LATE = 0.05
@@ -102,6 +104,19 @@ def flood(client, seconds):
             time.sleep(0.001)
         except OSError:
             return
+
+
+def chained(client, ended):
+    """Sends sessions, each with the next one's ENQ right after its EOT, until the line is closed: whether it is between
+    two of them."""
+    try:
+        while all(client.asks(one, seconds=60) == ACK for one in frames(TEXTS)):
+            if client.asks(EOT + ENQ, seconds=60) != ACK:
+                ended.append("between sessions")
+                return
+    except OSError:
+        pass
+    ended.append("in a session")
 
 
 GOOD = b"".join(TEXTS)
@@ -333,7 +348,8 @@ class Lines(HostTest):
         with Client(host.port) as client:
             for texts, _, _ in ODD:
                 self.true(f"{texts!r} is acknowledged", client.whole(texts))
-            time.sleep(0.2)
+            tried = sum(why.endswith("would deliver it") for *_, whys in ODD for why in whys)
+            wait_for(lambda: fault or host.says().count("would deliver it") == tried)
         self.same("the host's status", host.stop(), 0)
         return Found(host.store)
 
@@ -349,6 +365,42 @@ class Lines(HostTest):
             self.true("the open session ends", good and client.is_closed())
             self.same("the status", host.stop(), 0)
         self.same("its message is kept", [one.body for one in Found(host.store).whole], [b"".join(TEXTS)])
+
+    def test_enq_behind_eot(self):
+        """An analyzer sends ENQ right after EOT, again and again: a stop cuts no session, since that ENQ gets no ACK."""
+        host = Host(self.path("behind.db"), scale=1.0)
+        with Client(host.port) as client:
+            self.same("a session", client.asks(ENQ), ACK)
+            ended = []
+            asked = threading.Thread(target=chained, args=(client, ended))
+            asked.start()
+            time.sleep(0.3)
+            self.same("the host's status", host.stop(), 0)
+            asked.join(90)
+            self.same("the line is closed", ended, ["between sessions"])
+        found = Found(host.store)
+        self.true("sessions were kept", found.whole)
+        self.same("sessions that were cut", [one.reason for one in found.others], [])
+
+    def test_giving_way(self):
+        """The ENQ of a connection that has to give way is on its way: it gets no ACK, so there are never more lines than
+        are allowed."""
+        sent = []
+
+        async def runs():
+            wire = unittest.mock.Mock(is_tcp=True, write=sent.append)
+            intake, committer, probe, mender = (unittest.mock.Mock(names=frozenset(), bodies={}) for _ in range(4))
+            intake.drop.return_value = []
+            words = (wire, intake, committer, options.Limits(), Counter(), probe, 240, print, line.Turns(), mender)
+            one = line.Line(*words)
+            task = asyncio.ensure_future(one.run())
+            await asyncio.sleep(0.01)
+            one.data(ENQ, asyncio.get_running_loop().time())
+            one.give_way()
+            await asyncio.wait_for(task, 60)
+
+        asyncio.run(runs())
+        self.same("what is sent", sent, [])
 
     def test_capture(self):
         """What went over a line is a capture that replays without a difference."""
@@ -410,5 +462,5 @@ class Lines(HostTest):
             transport = unittest.mock.Mock(spec=asyncio.Transport)
             transport.get_extra_info.side_effect = {"peername": (given, 4000), "socket": unittest.mock.Mock()}.get
             serve.TcpWire(host, port).connection_made(transport)
-            self.same(f"{given} is counted as", host.has_room.call_args[0][1], wanted)
+            self.same(f"{given} is counted as", host.room.has_room.call_args[0][1], wanted)
             self.same(f"{given} is shown as", host.add.call_args[0][2], wanted)

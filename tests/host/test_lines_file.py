@@ -5,6 +5,7 @@ import os
 import select
 import signal
 import socket
+import threading
 import unittest.mock
 
 from lislink import frame_bytes
@@ -23,7 +24,7 @@ from tests.host.hosts import (
     trouble,
     wait_for,
 )
-from tests.host.test_lines import ACK, ENQ, EOT, NAK, TEXTS, Client, frames
+from tests.host.test_lines import ACK, ENQ, EOT, NAK, TEXTS, Client, chained, frames
 
 #: What is said after the file was read again, and after one that has a fault.
 TAKEN, LEFT = "the lines are read again: ", "the file of lines is not taken"
@@ -47,12 +48,18 @@ frame = 63993
 serial = /dev/ttyUSB0:9600
 mode = 7E1
 flow = xonxoff
+sample = O.4.3
+test = 5
+zone = Europe/Berlin
+letters = mark
+twice = deliver
 """
 SHOWN = """\
 chemistry: listen=10.0.5.2:4001 frame=240 encoding=iso8859-1 allow=10.0.5.0/24,10.0.6.7/32,10.0.7.0/24 orders=ask \
 none=L-I
 haematology 2: listen=[2001:db8::7]:4001 frame=63993 encoding=gbk allow=2001:db8::/32
-coagulation: serial=/dev/ttyUSB0:9600 mode=7E1 flow=xonxoff frame=240 encoding=iso8859-1
+coagulation: serial=/dev/ttyUSB0:9600 mode=7E1 flow=xonxoff frame=240 encoding=iso8859-1 sample=O.4.3 test=5 \
+zone=Europe/Berlin letters=mark twice=deliver
 lines 3 faults 0
 """
 #: Files with faults: the row of each, and what is said of it.
@@ -76,6 +83,11 @@ FAULTS = (
     ("[a]\nlisten = 1\nallow = 10.0.0.0/99\n", [(3, "a network is wanted, as 10.0.5.0/24")]),
     ("[a]\nserial = /dev/x:9600\nmode = 9\n", [(3, "data bits, parity and stop bits, as 8N1 or 7E1")]),
     ("[a]\nserial = /dev/x:9600\nflow = x\n", [(3, "flow control is none, rtscts or xonxoff")]),
+    ("[a]\nlisten = 1\nsample = R.3\n", [(3, "R.3: the sample is O.3, O.4 or a component of one, as O.4.3, or none")]),
+    ("[a]\nlisten = 1\ntest = 0\n", [(3, "0: the test is a component of R-3, as 4, or some of them, as 4^7")]),
+    ("[a]\nlisten = 1\nzone = Berlin\n", [(3, "there is no time zone Berlin: name one as Europe/Berlin")]),
+    ("[a]\nlisten = 1\nletters = x\n", [(3, "quarantine or mark is wanted, not x")]),
+    ("[a]\nlisten = 1\ntwice = x\n", [(3, "quarantine or deliver is wanted, not x")]),
     ("[a]\nlisten = 1\n  frame = 240\n", [(2, "takes one word, and a row that begins with a blank belongs to it")]),
     ("[a]\nlisten = 1\nframe\n", [(3, "a row is KEY = VALUE, [NAME], or a comment after #")]),
     ("[a]\nlisten = 10.0.0.1:4001\n", [(2, "10.0.0.1:4001 isn't loopback: name the networks that may connect")]),
@@ -276,6 +288,21 @@ class LinesFile(HostTest):
         self.has("a line that sends orders now", asked.stdout, "O|1|S7||^^^GLU")
         self.same("the host's status", host.stop(), 0)
         self.true("the new line's name", "comes" in [one.line for one in Found(host.store).whole])
+
+    def test_enq_behind_eot(self):
+        """A line whose analyzer sends ENQ right after EOT has its new settings after a reload all the same."""
+        host, file = self.begun("behind", sections(a="listen = 0"))
+        with Client(self.port(host, "a")) as client:
+            self.same("a session", client.asks(ENQ), ACK)
+            ended = []
+            asked = threading.Thread(target=chained, args=(client, ended))
+            asked.start()
+            self.reload(host, file, sections(a="listen = 0\nencoding = gbk"))
+            asked.join(60)
+            self.same("its connection is closed", ended, ["between sessions"])
+        self.same("the host's status", host.stop(), 0)
+        found = Found(host.store)
+        self.same("sessions that were cut", [one.reason for one in found.others], [])
 
     def test_serial(self):
         """A serial line that changed is closed between sessions, and its device opened again."""

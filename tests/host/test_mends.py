@@ -7,17 +7,20 @@ import io
 import json
 import os
 import random
-import unittest.mock
+import threading
+import time
 from collections import Counter
+from concurrent.futures import ThreadPoolExecutor
 from typing import NamedTuple
+from unittest import mock
 
 import lislink
 from lislink import Receiver, frame_bytes, read_all
 from lislink.capture import read_capture
 from lislink.host import lines, mend, options
 from lislink.host.feeds import LineFeeds
-from lislink.host.intake import Intake
-from lislink.host.mend import Mender
+from lislink.host.intake import Held, Intake
+from lislink.host.mender import Mender, Workers
 from lislink.host.store import WHOLE, Add, Begin, End
 from lislink.link import FRAME_TEXT, LONG_FRAME_TEXT
 from tests.host.hosts import ROOT, Found, Host, HostTest, lislab, wait_for
@@ -194,6 +197,9 @@ class Mends(HostTest):
             self.same(f"{name}: acknowledged", play(ports[name], sent), [ACK] * (len(sent) - 1))
             replies = play(ports[f"{name} bare"], sent)
             self.same(f"{name}: without the setting", set(replies), {ACK} if case.is_taken else {ACK, NAK})
+        tried = sum(case.is_taken for case in CASES.values())
+        named = lambda: sum("would deliver it" in one.reason for one in Found(host.store).others)  # noqa: E731
+        self.true("all settings are named", wait_for(lambda: named() == tried), f"{named()} of {tried}")
         self.same("the host's status", host.stop(), 0)
         found = Found(host.store)
         for name, case in CASES.items():
@@ -231,7 +237,8 @@ class Mends(HostTest):
         exported = [json.loads(row) for row in lislab("export", "--store", store).stdout.splitlines()]
         self.same("marks of an export", [one["mended"] for one in exported], [one.reason for one in found.whole])
         table = list(csv.reader(io.StringIO(lislab("export", "--store", store, "--format", "csv").stdout)))
-        self.same("marks of a table", [row[-1] for row in table], ["mended", *(one.reason for one in found.whole)])
+        place = table[0].index("mended")
+        self.same("marks of a table", [row[place] for row in table[1:]], [one.reason for one in found.whole])
 
     def are_samples(self):
         """The samples are those of the table, and each frame of them is right."""
@@ -313,24 +320,16 @@ class Mends(HostTest):
             self.same(f"{name}: the setting", mend.lacking(b"".join(came), frozenset(), True), setting)
 
     def test_limits(self):
-        """A message with very many records isn't mended. What is whole before its end is made once."""
+        """A message with very many records isn't mended."""
         body = b"".join([*GOOD[:4], R2, GOOD[4]])
         many = b"".join([*GOOD[:4], R2, *[b"C|\r"] * mend.MOST_RECORDS, GOOD[4]])
         begin, end = Begin("k", "a", "p", "latin-1", 0.0), End("k", "a", "unreadable", "too long", "", 1, 0.0)
-        made = []
 
-        async def changes_of(data, is_asked):
-            mender = Mender((), None, Counter())
-            whole = await mender.is_whole(data) if is_asked else None
-            with unittest.mock.patch.object(mend, "mended", lambda *words: made.append(words) or mended(*words)):
-                return whole, len(await mender.changes(mend.Ended(begin, data, end, True)))
+        async def changes_of(data):
+            return len(await mender_of(()).changes(mend.Ended(begin, data, end, True)))
 
-        mended = mend.mended
-        self.same("one that is asked for before", asyncio.run(changes_of(body, True)), (True, 4))
-        self.same("it isn't made again", made, [])
-        self.same("one that isn't", asyncio.run(changes_of(body, False)), (None, 4))
-        self.same("it is made", len(made), 1)
-        self.same("many records", asyncio.run(changes_of(many, True)), (False, 1))
+        self.same("one that is mended", asyncio.run(changes_of(body)), 4)
+        self.same("many records", asyncio.run(changes_of(many)), 1)
 
     def test_long_random(self):
         """Of random messages with long records each result that is delivered has the patient and the order that it had,
@@ -387,6 +386,76 @@ class Mends(HostTest):
         case = LONG["R"]
         mends_again(self, self.path("long again.db"), ",frame=63993", long_units(case.came), b"".join(case.left))
 
+    def test_left(self):
+        """A host that is killed as soon as a session has ended: the next one makes of it what its line mends, also of a
+        message that has no L; a record that isn't whole gets no end."""
+        words = ["--listen", "0,name=last-l,mend=last-l,last-cr", "--listen", "0,name=bare"]
+        host = Host(self.path("left.db"), *words, scale=1.0, listen=False)
+        for turn in range(4):
+            records = changed(0, b"H|\\^&|||%d\r" % turn)[:-len(GOOD[4])]
+            play(ports_of(host)["last-l"], [ENQ, frame(1, records), EOT])
+            host.kill()
+            host.start()
+            self.true(f"delivered {turn}", wait_for(lambda: len(Found(host.store).whole) == turn + 1), turn)
+            self.has("marked", Found(host.store).whole[-1].reason, "L was put at the end")
+        play(ports_of(host)["bare"], [ENQ, frame(1, records), EOT])
+        play(ports_of(host)["last-l"], [ENQ, frame(1, b"".join(GOOD[:3]) + b"R|1|^^^GLU|5."), b""])
+        host.kill()
+        host.start()
+        self.same("the host's status", host.stop(), 0)
+        found = Found(host.store)
+        self.same("whole", len(found.whole), 4)
+        self.same("left", sorted(one.line for one in found.others if "mended" not in one.reason), ["bare", "last-l"])
+        self.true("said", "messages were open when the host stopped" in "".join(host.errors), host.errors)
+
+    def test_order(self):
+        """A correction comes after the message that it corrects, which needs an end: whatever another line's messages
+        need, its number is greater."""
+        words = ["--listen", "0,name=last-l,mend=last-l", "--listen", "0,name=busy,mend=bytes,last-l"]
+        host = Host(self.path("order.db"), *words, scale=1.0, listen=False)
+        ports, heavy = ports_of(host), heavy_units(150_000)
+        for turn in range(3):
+            first, second = (changed(0, b"H|\\^&|||%d %s\r" % (turn, one)) for one in (b"first", b"second"))
+            for _ in range(3):
+                play(ports["busy"], heavy)
+            play(ports["last-l"], [ENQ, frame(1, first[:-len(GOOD[4])]), EOT])
+            replies = play(ports["last-l"], [ENQ, frame(1, second), EOT])
+            self.same(f"acknowledged {turn}", replies, [ACK, ACK])
+        self.same("the host's status", host.stop(), 0)
+        bodies = [one.body.split(b"\r")[0][-8:].split()[-1] for one in Found(host.store).whole if one.line == "last-l"]
+        self.same("in order", bodies, [b"first", b"second"] * 3)
+
+    def test_tries_delay_nobody(self):
+        """Which setting would deliver the messages of a line is tried: meanwhile another line's messages are mended and
+        acknowledged, and a stop doesn't wait for it."""
+        asyncio.run(self.mended_while_tried())
+        words = ["--listen", "0,name=bytes,mend=bytes", "--listen", "0,name=tried"]
+        host = Host(self.path("tries.db"), *words, scale=1.0, listen=False)
+        ports, heavy = ports_of(host), heavy_units(250_000)
+        for _ in range(5):
+            play(ports["tried"], heavy)
+        sent = units("bytes")
+        for turn in range(3):
+            self.same(f"acknowledged {turn}", play(ports["bytes"], sent), [ACK] * (len(sent) - 1))
+        whole = lambda: [one.line for one in Found(host.store).whole]  # noqa: E731
+        self.true("delivered", wait_for(lambda: whole() == ["bytes"] * 3), whole())
+        self.same("the host's status", host.stop(), 0)
+        found = [one for one in Found(host.store).others if one.line == "tried"]
+        self.same("those that were tried are kept", [one.state for one in found], ["unreadable"] * 5)
+
+    async def mended_while_tried(self):
+        """A message is mended while another one is tried, which ends after it."""
+        is_mended, workers = threading.Event(), Workers(lambda: ThreadPoolExecutor(1))
+        with mock.patch.object(mend, "lacking", lambda *given: is_mended.wait(60)):
+            tried = asyncio.ensure_future(workers.lacking(b"L|1\r", frozenset(), True))
+            await asyncio.sleep(0)
+            work = asyncio.ensure_future(workers.mended(b"L|1\r", frozenset()))
+            done, _ = await asyncio.wait([work], timeout=30)
+            self.same("mended while another one is tried", len(done), 1)
+            is_mended.set()
+            await asyncio.wait([work, tried])
+        workers.stop()
+
     def test_query(self):
         """A query that is mended is answered."""
         words = ["--listen", "0,name=q,orders=ask,mend=header-3,crlf"]
@@ -425,15 +494,6 @@ class Mends(HostTest):
             made += len(mended)
         self.true("some are mended", made > 50, str(made))
 
-    def test_last_records(self):
-        """The last record of a message is looked for at the end of a text, and a unit isn't one."""
-        ends = [b"\r", b"\r\n", b"\n", b"<CR>", b"[0D] ", b"^M", b"\\r", b"%0d", "␍".encode(), b"\r5"]
-        for text in (b"L|1|N\r", b"L|1|N", b"l!1", b"\r\0L\0|\0" b"1\0", *(b"R|1" + end + b"L|1" for end in ends)):
-            self.true(f"{text!r} has one", mend.seems_over(text))
-        units = (b"R|1|^^^GLU|5.4|mmol/L||N\r", b"R|1|^^^L|5\r", b"C|1|I|L\r", b"R|7L|1")
-        for text in (*units, b"LOT|1\r", b"", b"L|1\r" + b"x" * 99 + b"\r"):
-            self.true(f"{text!r} has none", not mend.seems_over(text))
-
     def test_words(self):
         """The names of a line's mends, in its words and in a file of lines."""
         place = options.listen_of("0,mend=last-l,escape,name=a")
@@ -448,16 +508,22 @@ class Mends(HostTest):
         self.same("a fault", found.faults, [f"{file.name}:7: a line mends {', '.join(options.NAMES)}, not lfs"])
 
 
+def heavy_units(size):
+    """A session whose message can't be read, and needs long to be tried."""
+    body = b"".join(GOOD[:4]) + b"C|1|I|\xff\r" * (size // 10) + b"Z|1\r" + GOOD[4]
+    return [ENQ, *(frame(at + 1, body[at * 200 : at * 200 + 200]) for at in range(0, (len(body) + 199) // 200)), EOT]
+
+
 def mends_again(test, store, setting=",mend=escape", sent=None, wanted=None):
     """Sends a message that is mended three times, and kills the host each time before EOT."""
     host, name = Host(store, "--listen", f"0,name=bytes{setting}", scale=1.0, listen=False), store[:5]
     for turn in range(3):
         with Client(ports_of(host)["bytes"]) as client:
             replies = [client.asks(unit, seconds=60) for unit in (sent or units("bytes"))[:-1]]
-            host.kill()  # what is acknowledged is delivered
+            host.kill()  # what is acknowledged is delivered, at the latest by the next host
         test.same(f"{name}: acknowledged {turn}", set(replies), {ACK})
-        test.same(f"{name}: delivered {turn}", len(Found(store).whole), turn + 1)
         host.start()
+        test.true(f"{name}: delivered {turn}", wait_for(lambda: len(Found(store).whole) == turn + 1), turn)
     test.same("the host's status", host.stop(), 0)
     found = Found(store)
     test.same(f"{name}: delivered", {one.body for one in found.whole}, {wanted or CASES["bytes"].message})
@@ -466,13 +532,18 @@ def mends_again(test, store, setting=",mend=escape", sent=None, wanted=None):
     test.same(f"{name}: kept as they came", len({one.body for one in found.others}), 1)
 
 
+def mender_of(names):
+    """What mends so, in a thread."""
+    return Mender(names, Workers(lambda: ThreadPoolExecutor(1)), Counter())
+
+
 async def kept(texts, names):
     """What is kept of texts: all bytes as they came, the messages that are whole as they came, and those that are
     mended."""
-    intake, mender = Intake("line", "peer", "latin-1", 1 << 20, lambda: 0.0, 1 << 20), Mender(names, None, Counter())
+    intake, mender = Intake("line", "peer", "latin-1", 1 << 20, lambda: 0.0, Held(1 << 20)), mender_of(names)
     changes = []
     for some in [*(some for text in texts for some in intake.take(text)), intake.drop("the end")]:
-        changes += await mender.of_all(some, intake.bodies, True)
+        changes += await mender.of_all(some, intake.bodies, True, None)
     bodies, whole = {}, {}
     for change in changes:
         if isinstance(change, Add):

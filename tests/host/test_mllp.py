@@ -1,4 +1,5 @@
 """Messages as ORU^R01, read back by the library hl7, and over MLLP to receivers that reject, are silent and die."""
+import importlib
 import os
 import random
 import re
@@ -11,26 +12,29 @@ import time
 import unittest
 
 from lislink.host import deliver, export
-from lislink.host.store import UNFINISHED, WHOLE, Stored
+from lislink.host.options import OptionError
+from lislink.host.store import UNFINISHED
 from lislink.delivery import mllp, oru
+from lislink.delivery.failures import Quarantined
+from lislink.delivery.results import Coded, Reading, Told
 from tests import kit
-from tests.host import hosts
+from tests.host import hosts, test_told, told
 from tests.host.hosts import ENV, HostTest, lislab, process, wait_for
 from tests.host.receiver import MISSING, folder_of_hl7
 from tests.host.test_aside import keep, records
+from tests.host.test_told import message
 
 RECEIVER = os.path.join(os.path.dirname(os.path.abspath(__file__)), "receiver.py")
 
 
-def stored(body, key="0000000000000001", encoding="utf-8", **more):
+def stored(body, key="0000000000000001", **more):
     """A whole message that is kept."""
-    one = Stored(1, key, "chemistry", "10.0.5.7", encoding, 1767225600.0, 1767225600.0, WHOLE, "", None, body)
-    return one._replace(**more)
+    return test_told.stored(body, key, **more)
 
 
-def message(*rows, header="H|\\^&|||Analyzer 7"):
-    """A message of these records."""
-    return "".join(f"{row}\r" for row in [header, *rows, "L|1|N"]).encode()
+def oru_of(one, wishes=oru.Wishes(), **reading):
+    """A message as ORU, by the settings of its line."""
+    return oru.oru_of(Told(Coded(one, Reading(**reading))), wishes)
 
 
 class WithLibrary(HostTest):
@@ -49,7 +53,7 @@ class WithLibrary(HostTest):
 
     def read(self, data):
         """What the library reads of a message."""
-        return oru.library().parse(data.decode())
+        return importlib.import_module("hl7").parse(data.decode())
 
     def cells(self, data, *names):
         """Fields of a message as the library reads them, escapes undone."""
@@ -65,29 +69,51 @@ class Oru(WithLibrary):
         rows = ["P|1|4711|L9||Doe^Jane^B||19800131|F", "C|1|L|of the patient|G", "O|1|S7^x|I3|^^^GLU|R||20261127103000"
                 "||||||||serum", "R|1|^^^GLU|5.40|mmol/L|3.9 to 6.1|H||F||op1|20261127103100|20261127103500|A7",
                 "C|1|I|a ^ b~c &F& \u03bc|G"]
-        out = oru.oru_of(stored(message(*rows)))
+        out = oru_of(stored(message(*rows)), sample="O.3.1")
         wanted = {
-            "MSH.F3": "lislab", "MSH.F4": "chemistry", "MSH.F9.R1.C3": "ORU_R01", "MSH.F10": "0000000000000001",
+            "MSH.F3": "lislab", "MSH.F4": "chemistry", "MSH.F9.R1.C3": "ORU_R01",
+            "MSH.F10": oru.control_id("0000000000000001"),
             "MSH.F11": "P", "MSH.F12": "2.5.1", "MSH.F18": "UNICODE UTF-8", "PID.F3.R1": "4711", "PID.F3.R2": "L9",
             "PID.F5.R1.C1": "Doe", "PID.F5.R1.C2": "Jane", "PID.F5.R1.C7": "L", "PID.F7": "19800131", "PID.F8": "F",
             "NTE1.F3": "of the patient", "OBR.F2": "S7", "OBR.F3": "I3", "OBR.F4": "GLU", "OBR.F25": "F",
             "OBX.F2": "NM", "OBX.F3.R1.C1": "GLU", "OBX.F5": "5.40", "OBX.F6": "mmol/L", "OBX.F7": "3.9-6.1",
             "OBX.F8": "H", "OBX.F11": "F", "OBX.F14": "20261127103000", "OBX.F16": "op1", "OBX.F18": "A7",
             "OBX.F19": "20261127103500", "OBR.F7": "20261127103000",
-            "NTE2.F2": "O", "NTE2.F3": "a ^ b~c | \u03bc", "SPM.F4": "serum",
+            "NTE2.F2": "O", "NTE2.F3": "a ^ b~c | \u03bc", "SPM.F4.R1.C1": "SER", "OBR.F5": "R", "TQ1.F9": "R",
         }
         self.same("as they are read", dict(zip(wanted, self.cells(out, *wanted))), wanted)
         self.same("segments", [str(one[0]) for one in self.read(out)],
-                  ["MSH", "PID", "NTE", "OBR", "OBX", "NTE", "SPM"])
-        self.same("the same bytes again", oru.oru_of(stored(message(*rows))), out)
+                  ["MSH", "PID", "NTE", "OBR", "TQ1", "OBX", "NTE", "SPM"])
+        self.same("the same bytes again", oru_of(stored(message(*rows)), sample="O.3.1"), out)
         self.same("the library writes what it reads", str(self.read(out)).encode(), out)
+
+    def test_wishes(self):
+        """What a receiver wants: fields of MSH, versions, authorities, an OBR for each test."""
+        body = message("P|1|4711|L9||Doe^Jane", "O|1|S7||^^^GLU\\^^^K\\^^^NA|S|20261127090000|||||||||serum|Dr. Who",
+                       "R|1|^^^GLU|5.4", "R|2|^^^K|4.1", "R|3|^^^GLU|5.4")
+        words = ["MSH-3=LAB^1.2^ISO", "MSH-5=LIS", "MSH-6=HOSP", "MSH-11=T", "practice=HOSP PI", "laboratory=LAB MR"]
+        found = told.segments_of(oru_of(stored(body), oru.wishes_of(words)))[0]
+        self.same("MSH", found[0][3:7] + found[0][11:13], ["LAB^1.2^ISO", "chemistry", "LIS", "HOSP", "T", "2.5.1"])
+        self.same("PID-3", found[1][3], "4711^^^HOSP^PI~L9^^^LAB^MR")
+        self.same("OBR", (found[2][4], found[2][5], found[2][6], found[2][16]),
+                  ("PANEL^GLU K NA^L", "S", "20261127090000", "Dr. Who"))
+        old = told.segments_of(oru_of(stored(body), oru.wishes_of(["MSH-12=2.3.1"])))[0]
+        self.same("v2.3.1", [one[0] for one in old], ["MSH", "PID", "OBR", "OBX", "OBX", "OBX"])
+        self.same("its fields", (old[0][9], old[0][12], old[2][15]), ("ORU^R01", "2.3.1", "SER^serum^HL70487"))
+        each = told.segments_of(oru_of(stored(body), oru.wishes_of(["obr=test"])))[0]
+        names = [one[4] if one[0] == "OBR" else one[3] for one in each if one[0] in ("OBR", "OBX")]
+        self.same("an OBR for each test", names, ["GLU^^L", "GLU^^L", "GLU^^L", "K^^L", "K^^L"])
+        zoned = told.segments_of(oru_of(stored(body), zone="America/New_York"))[0]
+        self.same("times have the line's zone", zoned[2][6], "20261127090000-0500")
+        for word in ("MSH-5", "MSH-7=x", "MSH-12=2.7", "obr=sample", "sample="):
+            self.raises(word, OptionError, lambda word=word: oru.wishes_of([word]))
 
     def test_page(self):
         """The sample of HOST.md is what is written of the sample that it names."""
         page = kit.read("docs/HOST.md")
         block = re.search(r"(?ms)^```\n(MSH.*?)^```$", page)[1]
         with open("samples/panel.records", "rb") as file:
-            out = oru.oru_of(stored(file.read(), "KEY")).decode().replace("\r", "\n")
+            out = oru_of(stored(file.read(), "KEY")).decode().replace("\r", "\n")
         self.same("as on the page", re.sub(r"\d{14}[+-]\d{4}", "TIME", out), re.sub(r"\d{14}[+-]\d{4}", "TIME", block))
 
     def test_values(self):
@@ -96,26 +122,26 @@ class Oru(WithLibrary):
                                     ("<= 0.30", "SN", "<=^0.30"), ("neg", "ST", "neg"), ("1e3", "ST", "1e3"),
                                     ("5,4", "ST", "5,4"), ("1:40", "ST", "1:40"), ("", "", ""),
                                     ("x" * 200, "TX", "x" * 200)):
-            out = self.read(oru.oru_of(stored(message("P|1", "O|1|S7", f"R|1|^^^A|{value}|U/L"))))
+            out = self.read(oru_of(stored(message("P|1", "O|1|S7", f"R|1|^^^A|{value}|U/L"))))
             found = out["OBX"][0]
             self.same(f"of {value[:9]!r}", (str(found(2)), str(found(5)), str(found(6))), (kind, wanted, "U/L"))
         for status, wanted, report in (("", "F", "F"), ("F", "F", "F"), ("C", "C", "C"), ("P", "P", "P"),
                                        ("W", "P", "P"), ("V", "F", "F"), ("X", "X", "X"), ("N", "P", "P")):
-            out = self.read(oru.oru_of(stored(message("P|1", "O|1|S7", f"R|1|^^^A|1|||||{status}"))))
+            out = self.read(oru_of(stored(message("P|1", "O|1|S7", f"R|1|^^^A|1|||||{status}"))))
             found = (str(out["OBX"][0](11)), str(out["OBR"][0](25)), "NTE" in str(out))
             self.same(f"status {status}", found, (wanted, report, status in ("W", "N")))
-        twice = self.read(oru.oru_of(stored(message("P|1", "O|1|S7", "R|1|^^^A|1", "R|2|^^^B|1", "R|3|^^^A|2"))))
+        twice = self.read(oru_of(stored(message("P|1", "O|1|S7", "R|1|^^^A|1", "R|2|^^^B|1", "R|3|^^^A|2"))))
         self.same("codes that are there twice", [str(one(4)) for one in twice["OBX"]], ["1", "", "2"])
-        control = self.read(oru.oru_of(stored(message("P|1", "O|1|QC1|||||||||Q", "R|1|^^^A|1"))))
-        self.same("a control", (str(control["OBR"][0](11)), "PID" in str(control)), ("Q", False))
-        query = oru.oru_of(stored(message("Q|1|^S7||ALL")))
+        control = self.read(oru_of(stored(message("P|1", "O|1|QC1|||||||||Q", "R|1|^^^A|1"))))
+        self.same("a control", (str(control["SPM"][0](11)), "PID" in str(control)), ("Q", False))
+        query = oru_of(stored(message("Q|1|^S7||ALL")))
         self.same("a query has no results", query, b"")
         half = stored(b"H|\\^&\rP|1\r", state=UNFINISHED)
-        made = [export.writer_of(form)(half) for form in ("oru", "fhir")]
+        made = [export.writer_of(export.Form(form))(half) for form in ("oru", "fhir")]
         self.same("one that isn't whole isn't written", made, [b"", b""])
-        again = self.read(oru.oru_of(stored(message("P|1", "O|1|S7", "R|1|^^^A|1"), again_of="00ff")))
+        again = self.read(oru_of(stored(message("P|1", "O|1|S7", "R|1|^^^A|1"), again_of="00ff")))
         self.same("a repeat is marked", str(again["NTE"][0](3)), "repeat of message 00ff")
-        mended = self.read(oru.oru_of(stored(message("P|1", "O|1|S7", "R|1|^^^A|1"), reason="mended from 00fe: x")))
+        mended = self.read(oru_of(stored(message("P|1", "O|1|S7", "R|1|^^^A|1"), reason="mended from 00fe: x")))
         self.same("a mended one is marked", [str(one(3)) for one in mended["NTE"]], ["mended from 00fe: x"])
 
     def test_random(self):
@@ -128,22 +154,8 @@ class Oru(WithLibrary):
                 one.replace("&", "&E&").replace("|", "&F&").replace("\\", "&R&").replace("^", "&S&") for one in texts
             )
             body = message("P|1", f"O|1|{sample}", f"R|1|^^^{code}|x{value}|{unit}")
-            found = self.cells(oru.oru_of(stored(body)), "OBR.F2", "OBX.F3", "OBX.F6")
+            found = self.cells(oru_of(stored(body)), "OBR.F2", "OBX.F3", "OBX.F6")
             self.need(found == [texts[0], texts[1], texts[3]], lambda: f"{at}: {texts}: {found}")
-
-    def test_no_library(self):
-        """Without the library it is said what to install."""
-        store = self.path("none.db")
-        keep(store, [records(["A"])])
-        folder = self.path("none")
-        os.mkdir(folder)
-        with open(os.path.join(folder, "hl7.py"), "w", encoding="ascii") as file:
-            file.write("raise ImportError('there is no hl7, as the test has it')\n")
-        env = {**ENV, "PYTHONPATH": f"{folder}:{ENV['PYTHONPATH']}"}
-        words = ["-m", "lislink", "export", "--store", store, "--format", "oru"]
-        done = subprocess.run([sys.executable, *words], capture_output=True, text=True, env=env, check=False)
-        self.same("the status", done.returncode, 3)
-        self.has("it is named", done.stderr, "install Debian's package python3-hl7")
 
 
 class Scripted:
@@ -206,7 +218,7 @@ class Receivers(WithLibrary):
         one = mllp.Mllp("127.0.0.1", receiver.port, seconds)
         for key in keys:
             try:
-                one.deliver(oru.oru_of(stored(records(["A"]), key)), key)
+                one.deliver(oru_of(stored(records(["A"]), key)), oru.control_id(key))
                 told.append("")
             except deliver.Refused as error:
                 told.append(type(error).__name__ + ": " + str(error).split(": ", 1)[1])
@@ -228,6 +240,13 @@ class Receivers(WithLibrary):
             ("no message", lambda at, key: b"\x0bhello\x1c\r", "Refused: an answer that can't be read"),
             ("no code", lambda at, key: b"\x0bMSH|^~\\&|R\r\x1c\r", "Refused: an answer that can't be read"),
             ("a late answer first", lambda at, key: ack(b"AE", b"another") + ack(b"AA", key), ""),
+            ("with LF", lambda at, key: ack(b"AA", key).replace(b"\rMSA", b"\nMSA"), ""),
+            ("with CR LF", lambda at, key: ack(b"AE", key).replace(b"\rMSA", b"\r\nMSA"), "Refused: AE"),
+            ("without CR at its end", lambda at, key: ack(b"AA", key)[:-1], ""),
+            ("without the tail of the id", lambda at, key: ack(b"AA", key[:15]),
+             "Refused: an answer with 15 of the 20 of MSH-10"),
+            ("codes that a terminal would act on", lambda at, key: ack(b"A\x1b[2J", key),
+             "Refused: an answer without AA, AE or AR"),
             ("in two parts", lambda at, key: b"noise" + ack(b"AA", key), ""),
             ("closed", lambda at, key: None, "Refused: the connection was closed without an answer"),
         ):
@@ -235,15 +254,33 @@ class Receivers(WithLibrary):
         told, _ = self.sent(lambda at, key: b"", seconds=0.3)
         self.same("silence", told, ["Refused: no answer within 0.3 seconds"])
         told, _ = self.sent(lambda at, key: ack(b"AA", b"another") * 5000, seconds=0.3)
-        self.same("the answer to another message", told, ["Refused: no answer within 0.3 seconds"])
+        other = "Refused: no answer within 0.3 seconds: its last answer is to another message, another"
+        self.same("the answer to another message", told, [other])
         told, receiver = self.sent(lambda at, key: ack(b"AA", key), ("k1", "k2", "k3"))
         self.same("one connection for all", (told, receiver.connections), (["", "", ""], 1))
+
+    def test_died_silently(self):
+        """A connection over which nothing comes any more is no failure of the message: it is sent over a new one."""
+        told, receiver = self.sent(lambda at, key: b"" if at == 2 else ack(b"AA", key), ("k1", "k2"), 0.5)
+        self.same("both are accepted", (told, len(receiver.taken)), (["", ""], 3))
+
+    def test_each_patient(self):
+        """The messages of a message's patients each have their acknowledgement; what was accepted isn't sent again."""
+        body = message("P|1|4711", "O|1|S1", "R|1|^^^A|1", "P|2|4712", "O|1|S2", "R|1|^^^A|2")
+        ids = [oru.control_id("k", place) for place in (1, 2)]
+        receiver = Scripted(lambda at, key: ack(b"AE" if at == 2 else b"AA", key))
+        target = mllp.to_mllp(mllp.Mllp("127.0.0.1", receiver.port, 5.0), export.writer_of(export.Form("oru")))
+        self.raises("the second is rejected", deliver.Refused, lambda: target(stored(body, "k")))
+        self.true("it is sent again", target(stored(body, "k")))
+        receiver.close()
+        self.same("what came", receiver.taken, [ids[0], ids[1], ids[1]])
 
     def test_closed_between(self):
         """A receiver that closes the connection between two messages gets the second over a new one, at once."""
         told, receiver = self.sent(lambda at, key: None if at == 2 else ack(b"AA", key), ("k1", "k2"))
         self.same("both are accepted", told, ["", ""])
-        self.same("the second was sent twice, by the same id", receiver.taken, ["k1", "k2", "k2"])
+        self.same("the second was sent twice, by the same id", receiver.taken,
+                  [oru.control_id(key) for key in ("k1", "k2", "k2")])
         free = socket.create_server(("127.0.0.1", 0))
         one = mllp.Mllp("127.0.0.1", free.getsockname()[1], 5.0)
         free.close()
@@ -253,13 +290,14 @@ class Receivers(WithLibrary):
         """A message that a receiver rejects is set aside by --aside, and the others go on."""
         store, cursor = self.path("rejected.db"), self.path("rejected.cursor")
         keys = keep(store, [records([one]) for one in "ABAC"])
-        receiver = Scripted(lambda at, key: ack(b"AR" if key == keys[0].encode() else b"AA", key))
+        ids = [oru.control_id(key) for key in keys]
+        receiver = Scripted(lambda at, key: ack(b"AR" if key == ids[0].encode() else b"AA", key))
         words = ["--cursor", cursor, "--to", f"mllp://127.0.0.1:{receiver.port}", "--once", "--aside", "1"]
         done = self.run_it("deliver", "--store", store, *words)
         receiver.close()
         self.same("the status", done.returncode, 1)
         self.has("it is said", done.stderr, f"{keys[0]} is set aside: 127.0.0.1:{receiver.port}: AR\n")
-        self.same("what was sent", receiver.taken, [keys[0], keys[1], keys[3]])
+        self.same("what was sent", receiver.taken, [ids[0], ids[1], ids[3]])
         wrong = self.run_it("deliver", "--store", store, "--cursor", cursor, "--to", "mllp://h:1", "--format", "csv")
         self.same("another format", (wrong.returncode, "--format oru" in wrong.stderr), (2, True))
 
@@ -274,7 +312,7 @@ class Receivers(WithLibrary):
         size, rng = hosts.size("mllp"), random.Random(11)
         samples = [rng.choice("ABCDEFGH") for _ in range(size)]
         store, log = self.path("kills.db"), self.path("kills.log")
-        keys = keep(store, [records([one], str(at)) for at, one in enumerate(samples)])
+        keys = [oru.control_id(key) for key in keep(store, [records([one], str(at)) for at, one in enumerate(samples)])]
         receiver, port = self.receiver(0, log)
         words = ["--store", store, "--cursor", self.path("kills.cursor"), "--to", f"mllp://127.0.0.1:{port}"]
         process(["-m", "lislink", "deliver", *words], env=self.env)
@@ -295,9 +333,9 @@ class Receivers(WithLibrary):
         wait_for(lambda: len({row[0] for row in self.taken(log)}) == size, 60)
         found = self.taken(log)
         hosts.say(f"{size} messages, {kills} kills of the receiver, {len(found) - size} came twice")
-        self.same("each at least once", sorted({row[0] for row in found}), keys)
+        self.same("each at least once", sorted({row[0] for row in found}), sorted(keys))
         ids = [(key, str(at)) for at, key in enumerate(keys)]
-        self.same("under one id", sorted({(row[0], row[2]) for row in found}), ids)
+        self.same("under one id", sorted({(row[0], row[2]) for row in found}), sorted(ids))
         firsts = list(dict.fromkeys((row[1], row[0]) for row in found))
         for sample in "ABCDEFGH":
             mine = [key for key, one in zip(keys, samples) if one == sample]

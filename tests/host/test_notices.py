@@ -61,6 +61,8 @@ class Said(HostTest):
             client.whole([b"H|\\^&\rL|1\r"])
         with Client(host.port) as client:
             client.asks(session([b"H|\\^&\r", *[b"C|1|I|" + b"x" * 190 + b"\r"] * 6, b"L|1\r"]), 9)
+        tried = sum(why.endswith(" would deliver it") for _, why in ODD)
+        self.true("tried", wait_for(lambda: host.says().count(" would deliver it") == tried), host.says())
         self.same("the host's status", host.stop(), 0)
         self.are_said(host.errors[-1], wanted)
         found = Found(host.store)
@@ -157,6 +159,9 @@ class Said(HostTest):
                 with Client(other):
                     pass
             client.asks(ENQ + EOT)
+            came = lambda: json.loads(lislab("status", "--store", host.store, "--json").stdout)["lines"]  # noqa: E731
+            self.true("all came", wait_for(lambda: {"other": 31}.items() <= {
+                one["line"]: one["came"] for one in came()}.items()), came())
             self.same("the host's status", host.stop(), 0)
         rows = host.errors[-1].splitlines()
         wanted = [f"lislab: fire: 127.0.0.1: {one}" for text in wanted for one in ("connected", text)]

@@ -1,4 +1,4 @@
-"""Orders: their files, their store, and a host that answers queries and sends worklists. The analyzer of these tests is
+"""Orders: their store, and a host that answers queries and sends worklists. The analyzer of these tests is
 written from the standard, over no code of the repository."""
 import asyncio
 import json
@@ -14,112 +14,16 @@ from collections import Counter
 from lislink.host.duplex import TwoWayLine
 from lislink.host.line import Turns
 from lislink.host.options import Limits
-from lislink.host.outbox import Batch, Site
-from lislink.host.store import StoreError, open_store
+from lislink.host.outbox import Batch, Outbox, Site
+from lislink.host.store import open_store
 from lislink.orders.book import Wanted, open_book
-from lislink.orders.order import ANSWERED, QUERIED, Order, OrderError, nothing_of, orders_of, texts_of
-from lislink.orders.query import query_of
-from lislink.records import messages
+from lislink.orders.order import Order
 from tests.host import hosts
 from tests.host.hosts import SCALE, Host, HostTest, lislab, wait_for
 from tests.host.plain import ACK, ENQ, NAK, Gone, Plain, query, samples_of
 from tests.host.test_serial import Cable
 
 GOOD = "sample,tests,line,patient,name,birth,sex,priority\nS7,GLU K,fire,P1,Doe^Jane,19700101,F,S\nS8;x,,,,,,,\n"
-#: What a file holds, and the orders and faults that are in it by line.
-FILES = {
-    "CSV": (b"sample,tests\nS1,GLU K\nS2,NA;CL\n", {2: ("S1", ("GLU", "K")), 3: ("S2", ("NA", "CL"))}),
-    "CSV with semicolons": (b"\xef\xbb\xbfTests;Sample\r\nGLU,K;S1\r\n", {2: ("S1", ("GLU", "K"))}),
-    "JSON lines": (b'{"sample": "S1", "tests": ["A B"]}\n', {1: ("S1", ("A B",))}),
-    "records": (b"H|\\^&\nP|1\nO|1|S1||^^^GLU\\^^^K|R\nL|1\n", {3: ("S1", ("GLU", "K"))}),
-    "no test": (b"sample,tests\nS1,\nS2,K\n", {2: None, 3: ("S2", ("K",))}),
-    "no sample": (b"sample,tests\n,K\n", {2: None}),
-    "a priority": (b"sample,tests,priority\nS1,K,Z\n", {2: None}),
-    "a date": (b"sample,tests,birth\nS1,K,1.1.1970\n", {2: None}),
-    "no names": (b"S1,K\nS2,K\n", {1: None}),
-    "too many cells": (b"sample,tests\nS1,K,x\n", {2: None}),
-    "another column": (b'{"sample": "S1", "tests": "K", "colour": "red"}\n', {1: None}),
-    "no JSON": (b'{"sample": \n', {1: None}),
-    "no object": (b'{"sample": "S1", "tests": "K"}\n[1]\n', {1: ("S1", ("K",)), 2: None}),
-    "a control byte": (b'{"sample": "S\\u0005", "tests": "K"}\n', {1: None}),
-    "cut records": (b"H|\\^&\nP|1\nO|1|S1", {3: None}),
-    "another encoding": (b"sample,tests,name\nS1,K,M\xfcller\nS2,K,Doe\n", {2: None, 3: ("S2", ("K",))}),
-    "records in another encoding": (b"H|\\^&\nP|1||||M\xfcller\nO|1|S1||^^^K\nL|1\n", {2: None}),
-    "JSON in another encoding": (b'{"sample": "S1", "tests": "K"}\n{"sample": "\xfc", "tests": "K"}\n',
-                                 {1: ("S1", ("K",)), 2: None}),
-    "another column of CSV": (b"sample,tests,barcode\nS1,K,1\nS2,K,2\n", {1: None}),
-    "nothing": (b"", {}),
-}
-
-
-def tests_of(row):
-    """The samples and tests of a row of `orders_of`; None if it is no order."""
-    return None if isinstance(row, str) else (row.sample, row.tests)
-
-
-class Files(HostTest):
-    """Files of orders, and the records of orders."""
-
-    def test_files(self):
-        """Each form of a file, with what is wrong in it."""
-        for name, (data, wanted) in FILES.items():
-            self.same(name, {line: tests_of(found) for line, found in orders_of(data)}, wanted)
-
-    def test_records(self):
-        """The records of orders, worked by hand."""
-        one = Order("S7", ("GLU", "K|X^"), patient="P1", name="Doe^Jane", birth="19700101", sex="F", priority="S")
-        rows = texts_of([one, Order("S8", ("NA",))], "latin-1", report=QUERIED, end=ANSWERED, clock=0)
-        self.same("header", rows[0].split(b"|")[:5], [b"H", b"\\^&", b"", b"", b"lislab"])
-        self.same("patient", rows[1], b"P|1|P1|||Doe^Jane||19700101|F\r")
-        self.same("order", rows[2], b"O|1|S7||^^^GLU\\^^^K&F&X&S&|S||||||N||||||||||||||Q\r")
-        self.same("others", rows[3:], [b"P|2\r", b"O|1|S8||^^^NA|R||||||N||||||||||||||Q\r", b"L|1|F\r"])
-        for wrong in (Order("S\u0416", ("K",)), Order("S" * 70000, ("K",))):
-            with self.assertRaises(OrderError):
-                texts_of([wrong], "latin-1")
-            self.true("can't be written", True)
-
-    def test_nothing(self):
-        """The answer if there is no order."""
-        self.same("L-I", [row[:5] for row in nothing_of(b"Q|1|^S9", "L-I")], [b"H|\\^&", b"L|1|I"])
-        rows = nothing_of(b"Q|1|^S9||^^^ALL", "Q-X")
-        self.same("Q-X", rows[1:], [b"Q|1|^S9||^^^ALL||||||||X\r", b"L|1|N\r"])
-        self.same("silence", nothing_of(b"Q|1|^S9", "silence"), [])
-
-    def test_queries(self):
-        """What a query asks for."""
-        rows = {
-            b"Q|1|^S7||^^^ALL||||||||O": (["S7"], "", "", False),
-            b"Q|1|S7": (["S7"], "", "", False),
-            b"Q|1|P1^S7\\P2^S8": (["S7", "S8"], "", "", False),
-            b"Q|1|^^S7": (["S7"], "", "", False),
-            b"Q|1|^S1|^S5": ([], "S1", "S5", False),
-            b"Q|1|ALL": ([], "", "", False),
-            b"Q|1|ALL||||20261101|20261128120000": ([], "", "", False, "20261101", "20261128120000"),
-            b"Q|1|^S7||||2026|x": (["S7"], "", "", False),
-            b"Q|1|^S7||||||||||A": (["S7"], "", "", True),
-            b"Q|1|^S7||||||||||X": (["S7"], "", "", True),
-        }
-        for text, wanted in rows.items():
-            row = next(messages([b"H|\\^&\r" + text + b"\rL|1\r"]))[1]
-            found = query_of(row, "latin-1")
-            told = (list(found.wanted.samples), found.wanted.first, found.wanted.last, found.cancels)
-            dates = (found.wanted.since, found.wanted.until)
-            self.same(text.decode(), (*told, *dates) if any(dates) else told, wanted)
-
-    def test_dates(self):
-        """Dates are compared as far as both are written."""
-        rows = {
-            ("20261128", "20261128", "20261128"): True,
-            ("202611281530", "20261128", "20261128"): True,
-            ("20261128", "202611281200", ""): True,
-            ("202611281100", "202611281200", ""): False,
-            ("202611281300", "", "202611281200"): False,
-            ("20261127", "20261128", ""): False,
-            ("20261129", "", "20261128"): False,
-            ("20261129", "", ""): True,
-        }
-        for (date, since, until), wanted in rows.items():
-            self.same(f"{date} {since}-{until}", Wanted(since=since, until=until).is_then(date), wanted)
 
 
 class Books:
@@ -137,20 +41,91 @@ class Books:
         numbers = [placed.number for placed in one.add([Order(f"S{at}", ("K",)) for at in range(1, 6)])]
         self.same("numbers", numbers, [1, 2, 3, 4, 5])
         self.same("none asked", one.take("fire x", "1", "fire", 9, []), [])
-        self.same("asked", one.ask("fire x", "1", "fire", Wanted(["S1", "S3"]), 9), 2)
+        self.same("asked", one.ask("fire x", "1", "fire", [Wanted(["S1"]), Wanted(["S3"])]), (2, 0))
         self.same("taken", [placed.number for placed in one.take("fire x", "1", "fire", 9, [])], [1, 3])
         self.same("taken once", one.take("fire x", "1", "fire", 9, []), [])
+        self.same("on its way", one.ask("fire x", "1", "fire", [Wanted(["S1"])]), (0, 1))
+        self.same("elsewhere", one.ask("fire y", "2", "fire", [Wanted(["S1"])]), (0, 0))
         self.same("not while it is sent", one.cancel(1), False)
-        one.sent([1])
+        one.sent("fire", [1])
         self.same("the last try", one.tried("fire", [3], "why", 1, 0), [3])
         self.same("a try", one.tried("fire", [2], "why", 2, 60), [])
         self.same("states", [placed.state for placed in one.listed()], [
             "sent", "waiting", "failed", "waiting", "waiting"])
         self.same("cancel", (one.cancel(4), one.cancel(1), one.cancel(99)), (True, False, False))
         self.same("again", (one.again(1), one.again(5)), (True, False))
-        self.same("range", one.ask("fire x", "1", "fire", Wanted((), "S4", "S5"), 9), 1)
-        self.same("not then", one.ask("fire x", "1", "fire", Wanted(until="19991231"), 9), 0)
+        self.same("range", one.ask("fire x", "1", "fire", [Wanted((), "S4", "S5")]).found, 1)
+        self.same("none is named", one.ask("fire x", "1", "fire", [Wanted()]).found, 0)
         self.same("later", [placed.number for placed in one.take("", "1", "fire", 9, [])], [1])
+
+    def test_asked_again(self):
+        """An order that was sent answers again until a result of each of its tests has come, or its time is over."""
+        one, now = open_book(self.new(), "one"), [1000.0]
+        self.addCleanup(one.close)
+        one._clock = lambda: now[0]
+        one.add([Order("S1", ("GLU", "K")), Order("S2", ("K",), priority="S", collected="20261128")])
+
+        def asked(sample, line="fire", again=60.0):
+            found = one.ask(f"{line} x", "1", line, [Wanted((sample,))], again).found
+            numbers = [placed.number for placed in one.take(f"{line} x", "1", line, 9, [])]
+            one.sent(line, numbers)
+            return found, numbers
+
+        self.same("first", asked("S1"), (1, [1]))
+        self.same("again", asked("S1"), (1, [1]))
+        self.same("elsewhere", asked("S1", "water"), (0, []))
+        one.results("fire", "S1", {"GLU", "NA"})
+        self.same("one result", (asked("S1"), next(one.listed()).came), ((1, [1]), ("GLU",)))
+        one.results("fire", "S1", {"K"})
+        self.same("done", (asked("S1"), next(one.listed()).state), ((0, []), "done"))
+        self.same("counts", one.counts(), {"waiting": 1, "done": 1})
+        self.same("by hand", (one.again(1), asked("S1")), (True, (1, [1])))
+        now[0] += 61
+        self.same("its time is over", asked("S1"), (0, []))
+        one.ask("fire x", "1", "fire", [Wanted(("S1",))], 600.0)
+        one.take_back("fire x")
+        self.same("taken back", next(one.listed()).state, "sent")
+        for since, wanted in (("20261129", 0), ("20261128", 1)):
+            everything = Wanted((), "", "", since, "", True)
+            self.same(f"from {since}", one.ask("fire x", "1", "fire", [everything]).found, wanted)
+        one.add([Order("S3", ("K",)), Order("S4", ("K",), priority="S")])
+        self.same("urgent first", [placed.order.sample for placed in one.take("", "1", "fire", 9, [])], ["S4", "S3"])
+
+    def test_rows_of_other_programs(self):
+        """A row that can't be an order has failed, with the reason; the others are sent, and all are listed."""
+        one = open_book(self.new(), "one")
+        self.addCleanup(one.close)
+        rows = ["GLU K", '"GLU"', "[]", "[1, 2]", '["K"]', '{"K": 1}']
+        with one._store.changing():
+            for number, tests in enumerate(rows, 1):
+                words = (number, "S1", tests, "STAT" if number == 5 else "R")
+                one._store.run("INSERT INTO orders (number, sample, tests, priority, added, changed)"
+                               " VALUES (?, ?, ?, ?, 1, 1)", words)
+        one.add([Order("S2", ("K",))])
+        self.same("listed", [placed.state for placed in one.listed()], ["failed"] * 6 + ["waiting"])
+        taken = one.take("", "1", "fire", 9, [])
+        self.same("taken", [placed.number for placed in taken if placed.state == "waiting"], [7])
+        why = [placed.reason for placed in taken if placed.number < 7]
+        self.true("why", all("row can't be an order" in one for one in why), str(why))
+        self.same("counts", one.counts(), {"waiting": 1, "failed": 6})
+
+    def test_an_earlier_store(self):
+        """The table of an earlier version is read as it is, and gets its columns when it is changed."""
+        where = self.new()
+        one = open_book(where, "one")
+        one.add([Order("S1", ("K",))])
+        with one._store.changing():
+            for name in ("more", "came", "done", "sent_on"):
+                one._store.run(f"ALTER TABLE orders DROP COLUMN {name}")
+        one.close()
+        one = open_book(where, reading=True)
+        self.same("read", ([placed.state for placed in one.listed()], one.counts()), (["waiting"], {"waiting": 1}))
+        one.close()
+        one = open_book(where, "one")
+        self.addCleanup(one.close)
+        one.sent("fire", [1])
+        one.results("fire", "S1", {"K"})
+        self.same("changed", [placed.state for placed in one.listed(state="done")], ["done"])
 
     def test_failed(self):
         """Orders that have failed are listed by the line on which they did, the newest first, until somebody does
@@ -270,17 +245,15 @@ class SpoolBooks(Books, HostTest):
         self.left(where, "c.orders", b"sample,tests\nS4,K\nS5,\n")
         self.left(where, "d.orders", b"")
         self.left(where, ".hidden.orders", b"sample,tests\nS6,K\n")
-        with unittest.mock.patch("os.unlink", side_effect=OSError("the host dies")):
-            with self.assertRaises(StoreError):
-                one.take_in()
-        self.same("told", one.take_in(), [
-            "orders of a.orders: 1", "orders of b.orders: 2",
-            "orders of c.orders: none is taken, line 3: it has no test",
-            "orders of d.orders: none is taken, it has no order",
-        ])
+        self.left(where, "x\udcff.orders", b"sample,tests\nS\xff,K\n")
+        with unittest.mock.patch("os.unlink", side_effect=OSError(5, "the host dies")):
+            self.same("a disk that fails", [told for told in one.take_in() if "dies" in told],
+                      ["orders of a.orders: the host dies", "orders of b.orders: the host dies"])
+        self.same("told", one.take_in(), ["orders of a.orders: 1", "orders of b.orders: 2"])
         self.same("taken once", [placed.order.sample for placed in one.listed()], ["S1", "S2", "S3"])
         folder = os.path.join(where[len("spool:") :], "orders")
-        self.same("left", sorted(os.listdir(folder)), [".hidden.orders", "c.rejected", "c.why", "d.rejected", "d.why"])
+        self.same("left", sorted(os.listdir(folder)), [
+            ".hidden.orders", "c.rejected", "c.why", "d.rejected", "d.why", "x\udcff.rejected", "x\udcff.why"])
         with open(os.path.join(folder, "c.why"), encoding="utf-8") as file:
             self.same("why", file.read(), "line 3: it has no test\n")
         self.left(where, "a.orders", b'{"sample": "S1", "tests": "K"}\n')
@@ -354,11 +327,11 @@ class Answers(HostTest):
         self.same("records", [row[:1] for row in rows], [b"H", b"P", b"O", b"L"])
         self.same("order", rows[2].split(b"|")[:5], [b"O", b"1", b"S7", b"", b"^^^GLU\\^^^K"])
         self.true("sent", wait_for(lambda: states(host.store) == {"S7": "sent", "S8": "waiting"}), states(host.store))
-        one.send(query("S7"))
         self.true("status", "orders: 1 waiting, 1 sent" in lislab("status", "--store", host.store).stdout)
-        self.same("no order any more", [row[:5] for row in one.take()], [b"H|\\^&", b"L|1|I"])
+        one.send(query("S9"))
+        self.same("no order", [row[:5] for row in one.take()], [b"H|\\^&", b"L|1|I"])
         one.send(query("S7", "S8", "S9"))
-        self.same("several", samples_of(one.take()), ["S8"])
+        self.same("several, and one again", samples_of(one.take()), ["S7", "S8"])
         one.close()
 
     def test_ways_to_say_nothing(self):
@@ -420,6 +393,42 @@ class Answers(HostTest):
             if name != "answers":
                 self.true(f"{name} is said", "gives no orders" in host.says(), host.says())
         self.true("why", "it took over 5 s" in host.says(), host.says())
+
+    def test_a_command_whose_child_hangs(self):
+        """A script waits for a program that hangs: the query is answered, and nothing of the script goes on."""
+        file, child = self.path("hangs.sh"), self.path("child")
+        with open(file, "w", encoding="utf-8") as out:
+            out.write(f"cat > {child}.asked; sleep 300 & echo $! > {child}; wait; echo\n")
+        host, port = self.started("--ask", f"sh {file}")
+        one = Plain(port, SLOW)
+        one.send(query("S7"))
+        self.same("answered", [row[:1] for row in one.take(400)], [b"H", b"L"])
+        self.true("said", "gives no orders: it took over 5 s" in host.says(), host.says())
+        with open(child, encoding="ascii") as pid:
+            gone = f"/proc/{int(pid.read())}"
+        self.true("its child is gone", wait_for(lambda: not os.path.exists(gone), 30), gone)
+
+    def test_commands_at_once(self):
+        """Of the queries of many lines four programs run at once, and each query is answered."""
+        file, folder = self.path("at_once.py"), self.path("at_once")
+        os.mkdir(folder)
+        with open(file, "w", encoding="utf-8") as out:
+            out.write(
+                f"import os, sys, time\nmine = os.path.join({folder!r}, str(os.getpid()))\nopen(mine, 'w').close()\n"
+                f"time.sleep(1)\nopen({file + '.counts'!r}, 'a').write(str(len(os.listdir({folder!r}))) + ' ')\n"
+                "os.unlink(mine)\nprint(sys.stdin.read())\n"
+            )
+
+        async def answers():
+            site, asked = Site("asks", "x", "latin-1", False, "L-I", "1"), b"".join(query("S7"))
+            outbox = Outbox(lambda: self.fail("a store is asked"), [hosts.sys.executable, file], 1, SLOW, print)
+            return await asyncio.gather(*(outbox.answer(site, [], asked) for _ in range(8)))
+
+        with unittest.mock.patch("lislink.host.outbox.COMMAND", 600.0):
+            found = asyncio.run(answers())
+        self.same("answers", [batch.texts for batch in found], [query("S7")] * 8)
+        with open(file + ".counts", encoding="ascii") as counts:
+            self.true("four at once", max(map(int, counts.read().split())) <= 4)
 
     def test_spool(self):
         """A host with a spool sends the orders that another program leaves in its folder; the status counts them."""
@@ -502,6 +511,8 @@ class Answers(HostTest):
         host, port = self.started("--tries", "1", orders=("S7",), line="orders=send")
         one = Plain(port, SLOW)
         self.same("asks", one.byte(30), ENQ)
+        one.put(ACK)
+        self.same("a frame", one.byte(30), b"\x02")
         one.close()
         self.true("failed", wait_for(lambda: states(host.store) == {"S7": "failed"}), states(host.store))
         self.true("said", "order 1 of sample S7 has failed: the line was closed" in host.says(), host.says())
@@ -551,7 +562,6 @@ class Unheard(HostTest):
         given = (wire, intake, committer, Limits(), Counter(), probe, 240, print, Turns(), mender)
         line = TwoWayLine(outbox, Site("asks", "x", "latin-1", True, "L-I", "1"), *given)
         line._intake.drop.return_value = line._intake.take.return_value = []
-        line._intake.unread.return_value = None
         return line
 
     def test_long_text(self):
@@ -598,7 +608,7 @@ class Unheard(HostTest):
 
         asyncio.run(asyncio.wait_for(runs(), 60))
         self.same("the first reply", sent, [ACK])
-        self.same("given back", [call.args[1] for call in outbox.failed.call_args_list], [batch])
+        self.same("given back", [call.args[1] for call in outbox.unsent.call_args_list], [batch])
 
 
 class Fire(HostTest):

@@ -120,8 +120,8 @@ class OutOf:
         self.same("records are those that were sent", bytes_of(self.path("out.records")), good)
         rows = list(csv.reader(io.StringIO(self.export("--format", "csv"))))
         plain = list(csv.reader(io.StringIO(lislab("table", SAMPLE).stdout)))
-        self.same("the heading", rows[0], ["number", "line", "received", "again_of", *plain[0], "mended"])
-        self.same("the results", [row[4:] for row in rows[1 : len(plain)]], [[*row, ""] for row in plain[1:]])
+        self.same("the heading", rows[0], ["number", "line", "received", "again_of", *plain[0], "mended", "control"])
+        self.same("the results", [row[4:] for row in rows[1 : len(plain)]], [[*row, "", ""] for row in plain[1:]])
         self.same("tsv has as many rows", len(self.export("--format", "tsv").splitlines()), len(rows))
         data = [json.loads(row) for row in self.export().splitlines()]
         self.same("messages as JSON", len(data), 3)

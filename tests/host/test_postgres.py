@@ -11,16 +11,17 @@ import sys
 import tempfile
 import time
 import unittest
+import unittest.mock
 
 from lislink.host import status
-from lislink.host.store import open_store
+from lislink.host.store import StoreError, open_store
 from tests.host import hosts
-from tests.host.hosts import ENV, Found, Host, HostTest, acknowledged, lislab, sending
+from tests.host.hosts import ENV, Found, Host, HostTest, acknowledged, lislab, sending, wait_for
 from tests.host.test_kills import TROUBLE
 from tests.host.test_lines import keeps_each_text
 from tests.host.test_mends import mends_again
 from tests.host.test_out import OutOf
-from tests.host.test_repeats import EachWrite, Left, begun
+from tests.host.test_repeats import EachWrite, Left, begun, ended
 
 #: Where Debian's packages for Python are.
 DEBIAN = "/usr/lib/python3/dist-packages"
@@ -179,14 +180,14 @@ class Postgres(HostTest):
             sending(host.port, *many, "--name", f"P{number}x", "--log", log)
             for number, (host, log) in enumerate(zip(both, logs))
         ]
-        self.kill(both, kills)
+        self.kill(both, kills, logs)
         for one in ones:
             one.terminate()
             one.communicate()
         self.same("the hosts' status", [host.stop() for host in both], [0, 0])
         found, done = Found(store), sum(len(acknowledged(log)) for log in logs)
         lost = [one for log in logs for one in found.lost(log)]
-        self.true("messages are acknowledged", done > kills, str(done))
+        self.true("messages are acknowledged", done >= kills, str(done))
         self.same("acknowledged and lost", lost, [])
         self.same("repeats without a mark", found.unmarked(), [])
         numbers = [one.number for one in found.whole]
@@ -197,10 +198,11 @@ class Postgres(HostTest):
             f"{len(found.whole)} kept, {len(lost)} lost, {found.again()} repeats marked, {len(found.unmarked())} not"
         )
 
-    def kill(self, both, kills):
-        """Kills a host and the server in turn."""
+    def kill(self, both, kills, logs):
+        """Kills a host and the server in turn, each some time after another message was acknowledged."""
         rng = random.Random(3)
         for number in range(kills):
+            wait_for(lambda: sum(len(acknowledged(log)) for log in logs) > number)
             time.sleep(0.3 + rng.random())
             if number % 2:
                 one = rng.choice(both)
@@ -217,6 +219,34 @@ class Postgres(HostTest):
     def test_keeping(self):
         """Killed after each acknowledgement, the host has kept what it acknowledged."""
         keeps_each_text(self, self.server.address("keeping"))
+
+    def test_a_unit_that_fails(self):
+        """A unit that can't be kept costs no connection, and one whose COMMIT was lost can be put again."""
+        store = open_store(self.server.address("unit"))
+        store.start("h")
+        before = store._db
+        with self.assertRaises(StoreError):
+            store.commit([[*begun("1"), *ended("1")], ended("never begun")])
+        self.true("the same connection", store._db is before)
+        lost = unittest.mock.patch.object(store, "_committed", self.lost(store))
+        with lost, self.assertRaises(StoreError):
+            store.commit([[*begun("1"), *ended("1")]])
+        self.true("another connection", store._db is not before)
+        store.commit([[*begun("1"), *ended("1")], [*begun("2"), *ended("2")]])
+        found = [(one.number, one.key, one.again_of) for one in store.messages()]
+        self.same("kept once", found, [(1, "1", None), (2, "2", "1")])
+        store.close()
+
+    @staticmethod
+    def lost(store):
+        """A COMMIT whose answer doesn't come."""
+        commit = store._committed
+
+        def call():
+            commit()
+            raise store._driver.OperationalError("the connection is lost")
+
+        return call
 
     def test_mends(self):
         """A message that is mended is marked, delivered and counted."""
@@ -240,7 +270,7 @@ class Postgres(HostTest):
         one.start("h")
         self.same("a host, by its name", [other.is_held(name) for name in ("h", "", "another")], [True, True, False])
         one.close()
-        self.same("none", [other.is_held(name) for name in ("h", "")], [False, False])
+        self.true("none", hosts.wait_for(lambda: not other.is_held("h") and not other.is_held("")))
         for age, stopped, wanted in ((1, False, True), (60, False, False), (-60, False, False), (1, True, False)):
             state = {"at": time.time() - age, "host": "h", "stopped": stopped}
             self.same(f"it wrote its state {age} s ago, stopped: {stopped}", status.runs(other, state), wanted)
@@ -252,7 +282,7 @@ class Postgres(HostTest):
         one, other = open_store(address), open_store(address)
         one.start("one")
         one.commit([begun("1")])
-        self.same("how many it ends", other.start("other"), 0)
+        self.same("what it takes over", other.start("other"), [])
         self.same("open", [each.open for each in other.counts()], [1])
         for store in (one, other):
             store.close()

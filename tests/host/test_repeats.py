@@ -8,6 +8,7 @@ import os
 import tempfile
 import unittest.mock
 
+from lislink.host.left import left_of
 from lislink.host.store import UNFINISHED, WHOLE, Add, Begin, End, StoreError, open_store
 from tests.host.hosts import HostTest, wait_for
 
@@ -61,6 +62,8 @@ class EachWrite:
 
     #: How a write fails, and whether the message is undone before it comes again.
     ways = tuple(itertools.product(("once", "full", "after", "killed"), (True, False)))
+    #: Whether all may be kept and the host not know it.
+    loses_answers = True
 
     @classmethod
     def setUpClass(cls):
@@ -80,6 +83,34 @@ class EachWrite:
                 good = len(firsts) == 1 and named == set(firsts) and {"2", "3"} <= {one.key for one in whole}
                 good = good and {one.body for one in whole} == {BODY}
                 self.true(f"write {number} fails, {how}, undone first: {undo_first}", good, self.shown(whole))
+
+    def test_what_is_owed(self):
+        """What is made of a message is put again after a write that failed, and after an answer that was lost: it is kept
+        once, whatever was kept of it before."""
+        counted = Fault(1 << 30, "once")
+        self.owed(counted)
+        for how in ("once", "full", "after"):
+            for number in range(1, counted.count + 1):
+                found = self.owed(Fault(number, how))
+                self.same(f"write {number} fails, {how}", found, ([("m", BODY)], [("1", "mended: delivered as m")]))
+
+    def owed(self, fault):
+        """The whole messages, and the others, after a commit with a fault that is made again twice."""
+        store = open_store(self.where())
+        store.start("h")
+        store.commit([begun("1")])
+        end = End("1", "fire", UNFINISHED, "mended: delivered as m", DIGEST, 10, 2.0)
+        units = [[*begun("m"), *ended("m"), end]]
+        try:
+            with self.failing(store, fault):
+                store.commit(units)
+        except StoreError:
+            store.commit(units)
+        if self.loses_answers:
+            store.commit(units)
+        found = [(one.key, one.body) for one in store.messages()], [(one.key, one.reason) for one in store.others()]
+        store.close()
+        return found
 
     def shown(self, whole):
         """Messages, for a reader."""
@@ -138,7 +169,12 @@ class Left:
         self.true("its lock is free", wait_for(lambda: not other.is_held()))
         left = [("1", UNFINISHED, "the host was stopped", BODY[:10])]
         self.same("it is dead", self.of_all(where), (left, (1, 1, 0)))
-        self.same("a host of another name starts: how many were open", other.start("other"), 1)
+        found = other.start("other")
+        self.same("a host of another name starts: what was left", [one.key for one in found], ["1"])
+        self.same("it has it now", self.of_all(where), ([], (1, 0, 1)))
+        ends = left_of(other, found, {})
+        self.same("nothing is mended of it", ends.to_mend, [])
+        other.commit([ends.ends])
         self.same("it runs", self.of_all(where), (left, (1, 1, 0)))
         other.close()
 
@@ -164,7 +200,7 @@ class RepeatsOfSqlite(EachWrite, Left, HostTest):
 class RepeatsOfSpool(EachWrite, Left, HostTest):
     """In a spool."""
 
-    places = itertools.count()
+    places, loses_answers = itertools.count(), False
 
     def where(self):
         """A new store."""

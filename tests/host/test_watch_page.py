@@ -1,21 +1,24 @@
 """The pages and the metrics of `lislab watch --http`: who may look, hostile contents, a browser, Prometheus' form; and
 the command that is run when a line turns bad."""
 import base64
+import contextlib
 import hashlib
 import html.parser
 import http.client
 import json
 import os
 import re
+import socket
 import subprocess
 import sys
 import threading
 import time
+import unittest.mock
 
 from lislink.host.deliver import read_took
 from lislink.host.export import time_text
 from lislink.host.store import UNREADABLE, WHOLE, Add, Begin, End, open_store
-from lislink.watch import metrics, page, plot, tally
+from lislink.watch import metrics, page, plot, tally, web
 from lislink.watch.client import Host as Seen
 from lislink.watch.notify import Notifier
 from lislink.watch.web import Asked, Pages, Server
@@ -73,6 +76,9 @@ def said_of(lines):
     return {**host, "lines": lines}
 
 
+TOKEN = "0123456789abcdef"
+
+
 class Parser(html.parser.HTMLParser):
     """The tags of a page, its attributes, and its text."""
 
@@ -113,7 +119,8 @@ def whole(value):
 class Site:
     """A server of pages in this process."""
 
-    def __init__(self, store, socket=None, host="127.0.0.1", networks=(), token="", cursors=()):
+    def __init__(self, store, socket=None, host="127.0.0.1", networks=(), token=TOKEN, cursors=()):
+        self.token = token
         self.pages = Pages(Seen(store, socket), cursors)
         self.server = Server(Asked(host, 0, networks, token, cursors), self.pages)
         self.port = self.server.server_address[1]
@@ -128,7 +135,9 @@ class Site:
     def get(self, path, method="GET", **heads):
         """The status, the heads and the text of an answer."""
         one = http.client.HTTPConnection("127.0.0.1", self.port, timeout=30)
-        one.request(method, path, headers=heads)
+        if self.token and "Authorization" not in heads:
+            heads["Authorization"] = f"Bearer {self.token}"
+        one.request(method, path, headers={name: text for name, text in heads.items() if text is not None})
         answer = one.getresponse()
         text = answer.read().decode("utf-8", "replace")
         one.close()
@@ -148,30 +157,71 @@ class Looks(HostTest):
         """Pages are read, on a loopback address and by its name; with a token only by who has it."""
         store = self.path("who.db")
         fill(store, "chemistry", [whole("a")])
-        site = self.site(store)
+        site = self.site(store, token="")
         status, heads, _ = site.get("/")
         found = (status, heads["X-Content-Type-Options"], heads["Cache-Control"])
         self.same("a page", found, (200, "nosniff", "no-store"))
         policy = heads["Content-Security-Policy"]
         wanted = "default-src 'none'" in policy and "frame-ancestors 'none'" in policy
         self.true("its policy", wanted and "unsafe" not in policy, policy)
-        names = (("localhost:1", 200), ("[::1]:80", 200), ("evil.example", 421), ("", 421), ("127.0.0.1.x", 421))
+        names = (("localhost:1", 200), ("[::1]:80", 200), ("[::1]", 200), ("evil.example", 421), ("", 421),
+                 ("127.0.0.1.x", 421))
         for name, wanted in names:
             self.same(f"asked as {name}", site.get("/", Host=name)[0], wanted)
         for method in ("POST", "PUT", "DELETE", "OPTIONS", "PATCH", "TRACE"):
             self.same(method, site.get("/", method)[0], 501)
+        key = tally.each(store, lambda one: tally.last_heads(one, "chemistry"))[0].key
+        for path in ("/line?name=chemistry", "/trouble", f"/message?key={key}", "/x"):
+            self.same(f"{path} without a token", site.get(path)[0], 403)
+        self.same("metrics", site.get("/metrics")[0], 200)
+        self.same("too many words", site.get("/?" + "&".join(f"a{at}=1" for at in range(20)))[0], 400)
+        site = self.site(store)
         for path in ("/x", "/../etc/passwd", "//etc/passwd", "/line?name=x", "/message?key=x", "/line"):
             self.same(path, site.get(path)[0], 404)
-        self.same("too many words", site.get("/?" + "&".join(f"a{at}=1" for at in range(20)))[0], 400)
-        site = self.site(store, token="0123456789abcdef")
-        basic = base64.b64encode(b"any:0123456789abcdef").decode()
+        basic = base64.b64encode(f"any:{TOKEN}".encode()).decode()
         found = site.get("/", Host="watch.example:8080", Authorization=f"Basic {basic}")[0]
         self.same("by any name with a token", found, 200)
-        for word, wanted in (("", 401), ("Bearer 0123456789abcdef", 200), (f"Basic {basic}", 200), ("Basic !", 401),
+        for word, wanted in ((None, 401), (f"Bearer {TOKEN}", 200), (f"Basic {basic}", 200), ("Basic !", 401),
                              ("Bearer 0123456789abcdeg", 401), ("Basic " + base64.b64encode(b"x:y").decode(), 401)):
-            for path in ("/", "/metrics", "/message?key=x"):
-                found = site.get(path, **({"Authorization": word} if word else {}))[0]
-                self.same(f"{path} with {word!r}", found, 404 if wanted == 200 and "key" in path else wanted)
+            for path in ("/", "/metrics", "/trouble", f"/message?key={key}"):
+                is_open = word is None and path in ("/", "/metrics")
+                found = site.get(path, Authorization=word)[0]
+                self.same(f"{path} with {word!r}", found, 200 if is_open else wanted)
+        self.same("another name without it", site.get("/", Authorization=None, Host="watch.example")[0], 421)
+        site = self.site(store, host="0.0.0.0")
+        self.same("beyond loopback", site.get("/metrics", Authorization=None)[0], 401)
+
+    def test_slow_readers(self):
+        """Connections whose requests come slowly, or never, keep nobody away, and are cut."""
+        store = self.path("slow.db")
+        fill(store, "chemistry", [whole("a")])
+        with unittest.mock.patch.object(web, "SECONDS", 1.0):
+            site = self.site(store)
+            with contextlib.ExitStack() as stack:
+                slow = [stack.enter_context(socket.create_connection(("127.0.0.1", site.port))) for _ in range(80)]
+                for one in slow:
+                    one.sendall(b"G")
+                self.same("a page", [site.get("/")[0] for _ in range(3)], [200] * 3)
+
+                def is_open(one):
+                    try:
+                        one.sendall(b"E")
+                        one.setblocking(False)
+                        return bool(one.recv(1))
+                    except BlockingIOError:
+                        return True
+                    except OSError:
+                        return False
+
+                self.true("all are cut", wait_for(lambda: not any(map(is_open, slow)), WAIT))
+
+    def test_a_token_that_is_made(self):
+        """A file of a token that isn't there is made: its owner's alone, and the same at the next start."""
+        file = self.path("made.token")
+        token = web.token_of(file)
+        self.true("long enough", len(token) >= 32, token)
+        self.same("its mode", os.stat(file).st_mode & 0o777, 0o600)
+        self.same("it stays", web.token_of(file), token)
 
     def test_words(self):
         """Beyond loopback a network and a token are wanted, in a file that is its owner's alone."""
@@ -413,11 +463,13 @@ class Looks(HostTest):
         one.see({"running": False, "held": False, "lines": {"a": line["bad"]}})
         one.see({"running": False, "held": False, "lines": {}})
         one.see({"running": True, "lines": {"a": line["bad"]}})
+        for _ in range(2):
+            one.see_nothing("gone")
         one.run_due()
         with open(out, encoding="utf-8") as file:
             rows = file.read().splitlines()
         self.same("what was run", rows, ["a|bad|an echo", "a|good|away", "a|bad|an echo", "|bad|the host isn't running",
-                                         "|good|the host runs"])
+                                         "|good|the host runs", "|bad|the host doesn't answer, nor its store: gone"])
         self.same("nothing is said", said, [])
         for words in (["false"], [self.path("no program")]):
             wrong = Notifier(words, said.append)
@@ -455,6 +507,10 @@ class Looks(HostTest):
             client.whole(TEXTS)
             wait_for(lambda: "good" in turned(), WAIT)
         self.same("good again", turned(), "firebad firegood ")
+        host.kill()
+        os.rename(host.store, host.store + ".away")
+        wait_for(lambda: turned().endswith("firegood bad "), WAIT)
+        self.same("host and store are gone", turned(), "firebad firegood bad ")
         one.kill()
         one.communicate()
 
@@ -490,5 +546,5 @@ class Alerts(HostTest):
         known = set(re.findall(r"# TYPE (\S+)", metrics.metrics_of(data, {"c": 0}, {}))) | {"lislab_reply_seconds_bucket"}
         named = set(re.findall(r"lislab_\w+", text))
         self.same("metrics that aren't there", sorted(named - known), [])
-        self.same("rules", text.count("- alert:"), 5)
-        self.same("each has an expression and a summary", (text.count("expr:"), text.count("summary:")), (5, 5))
+        self.same("rules", text.count("- alert:"), 6)
+        self.same("each has an expression and a summary", (text.count("expr:"), text.count("summary:")), (6, 6))

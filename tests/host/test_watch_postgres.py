@@ -42,6 +42,7 @@ class WatchPostgres(HostTest):
         bars = plot.bars(one.hours("fire"), time.time(), tally.HOUR, 24)
         self.true("messages are counted", sum(bar.many for bar in bars) >= 3, str(bars))
         heads = tally.each(store, lambda it: tally.last_heads(it, "fire"))
+        wait_for(lambda: tally.each(store, lambda it: tally.not_whole(it, "fire")), WAIT)  # after its mends are tried
         trouble = tally.each(store, lambda it: tally.not_whole(it, "fire"))
         self.true("the last ones", len(heads) >= 3 and heads[0].number > heads[1].number, str(heads))
         self.has("what can't be read", trouble[-1].reason, "record 2")

@@ -28,7 +28,7 @@ from .message import Entry, Fault, Finding, Found, Message, read_all
 from .orders.order import Order, OrderError
 from .orders.order import texts_of as order_texts
 from .places import MessagePlaces, ResultView, View, message_places
-from .records import MessageError, Reader, Record, Writer, messages, records
+from .records import MessageError, Reader, Record, Writer, messages, next_header, records
 from .rows import Row
 from .station import Answer, Station
 
@@ -81,6 +81,7 @@ __all__ = [
     "frame_bytes",
     "message_places",
     "messages",
+    "next_header",
     "order_texts",
     "read_all",
     "read_capture",

@@ -1,5 +1,5 @@
 """What a caller gives is looked at here: ctypes alone would wrap numbers, and read text that is no bytes."""
-from typing import Any
+from typing import Any, Iterator
 
 
 def as_bytes(data: Any) -> bytes:
@@ -9,6 +9,13 @@ def as_bytes(data: Any) -> bytes:
     if isinstance(data, (bytearray, memoryview)):
         return bytes(data)
     raise TypeError(f"bytes are needed, not {type(data).__name__}")
+
+
+def as_pieces(data: Any) -> Iterator[bytes]:
+    """The pieces of bytes, which are one, or of several; TypeError for anything else."""
+    if isinstance(data, (bytes, bytearray, memoryview)):
+        return iter((bytes(data),))
+    return map(as_bytes, data)
 
 
 def as_number(value: Any, least: int, most: int, what: str) -> int:

@@ -11,14 +11,17 @@ from ._library import LibraryMissing
 from .capture import Capture, CaptureError, looks_like_capture, read_capture, write_lines
 from .field import normalize, sniffers, table
 from .field.log import LogError, time_text, times_beside
+from .host import backup
 from .host import commands as host_commands
-from .host.deliver import Refused, WrongStore
+from .host.deliver import WrongStore
 from .host.files import write_whole
 from .host.options import OptionError
+from .host.said import shown
 from .host.store import StoreError
 from .link import FRAME_TEXT, LONG_FRAME_TEXT
 from .orders import commands as order_commands
 from .delivery import commands as delivery_commands
+from .delivery.failures import Refused
 from .play import command as play_command
 from .watch import commands as watch_commands
 from .watch.unix import WatchError
@@ -28,8 +31,8 @@ GOOD, LOOKS_WRONG, USAGE, STOPPED = 0, 1, 2, 3
 
 
 def say(text: str) -> None:
-    """A line on standard error."""
-    print(f"lislab: {text}", file=sys.stderr)
+    """Lines on standard error."""
+    print("lislab: " + "\n".join(map(shown, text.split("\n"))), file=sys.stderr)
 
 
 def read_input(path: str) -> bytes:
@@ -332,6 +335,7 @@ def parser() -> argparse.ArgumentParser:
     _add_normalize(commands.add_parser("normalize", help=changes))
     _add_table(commands.add_parser("table", help="write results as CSV, TSV or JSON lines"))
     host_commands.add_commands(commands)
+    backup.add_command(commands)
     delivery_commands.add_commands(commands)
     order_commands.add_commands(commands)
     play_command.add_command(commands)

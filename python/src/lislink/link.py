@@ -1,11 +1,12 @@
 """The link of LIS01-A2: scanner, sender and receiver. Each decision is made by the proved library.
 
-Scanners, senders and receivers are context managers. Each belongs to the thread that made it: a call from another
-thread raises WrongThread. A call that the library rejects raises LinkError with its status.
+Scanners, senders and receivers are context managers. Each belongs to the thread that made it, or to which it was given
+by `hand_over`: a call from another thread raises WrongThread. A call that the library rejects raises LinkError with its
+status.
 """
 import ctypes
 import threading
-from typing import Any, Generic, Iterator, NamedTuple, Optional, Tuple, TypeVar
+from typing import Any, Generic, Iterator, List, NamedTuple, NoReturn, Optional, Tuple, TypeVar
 
 from . import _library
 from ._checks import as_bytes, as_flag, as_number
@@ -26,6 +27,9 @@ class LinkError(Exception):
         super().__init__(Status(status).name, *(one for one in (index, place) if one is not None))
         self.status, self.index, self.place = Status(status), index, place
 
+    def __reduce__(self) -> "Tuple[Any, ...]":
+        return type(self), (self.status, self.index, self.place)
+
     def __str__(self) -> str:
         told = {"index": self.index, "place": self.place if self.status is Status.FORBIDDEN else None}
         where = ", ".join(f"{name} {it}" for name, it in told.items() if it is not None)
@@ -33,7 +37,7 @@ class LinkError(Exception):
 
 
 class WrongThread(RuntimeError):
-    """A handle was used from another thread than the one that made it."""
+    """A handle was used from another thread than the one that has it."""
 
 
 class Signal(NamedTuple):
@@ -99,15 +103,21 @@ def _long_frame_bytes(number: int, last: bool, text: bytes) -> bytes:
     return out.raw[: size.value]
 
 
+Itself = TypeVar("Itself", bound="Owner")
+# Held while a thread takes an object that was given away.
+_TAKING = threading.Lock()
+
+
 class Owner:
-    """The owner of a block of memory, which is released by `close`, at the end of `with`, or with the object."""
+    """The owner of a block of memory, which is released by `close`, at the end of `with`, or with the object. It can't
+    be copied or pickled: the block has one owner."""
 
     _kind = ""
 
     def __init__(self) -> None:
         calls = _library.calls()
         size, align = calls[f"{self._kind}_size"](), calls[f"{self._kind}_align"]()
-        self._thread = threading.get_ident()
+        self._thread: Optional[int] = threading.get_ident()
         self._block = ctypes.create_string_buffer(size + align)
         start = ctypes.addressof(self._block)
         self._handle: Optional[_library.Handle] = _library.Handle(start + -start % align)
@@ -116,12 +126,27 @@ class Owner:
         self._piece, self._at = b"", 0
 
     def _owned(self) -> _library.Handle:
-        """The handle, for the thread that made it."""
+        """The handle, for the thread that has it."""
         if self._handle is None:
             raise ValueError(f"the {self._kind} is closed")
         if self._thread != threading.get_ident():
-            raise WrongThread(f"this {self._kind} belongs to the thread that made it")
+            self._take()
         return self._handle
+
+    def _take(self) -> None:
+        """This thread takes the object, if it was given away."""
+        with _TAKING:
+            if self._thread is not None:
+                raise WrongThread(f"this {self._kind} belongs to another thread")
+            self._thread = threading.get_ident()
+
+    def hand_over(self) -> None:
+        """Gives the object to another thread: the first one that calls it has it from then on."""
+        self._owned()
+        self._thread = None
+
+    def __reduce_ex__(self, _: object) -> NoReturn:
+        raise TypeError(f"a {self._kind} can't be copied")
 
     def _call(self, name: str, *words: Any) -> Any:
         return _library.calls()[f"{self._kind}_{name}"](ctypes.byref(self._owned()), *words)
@@ -169,8 +194,8 @@ class Owner:
 
     def close(self) -> None:
         """Releases the block. No call can be made of an object that is closed."""
-        if getattr(self, "_handle", None) is not None and self._thread != threading.get_ident():
-            raise WrongThread(f"this {self._kind} belongs to the thread that made it")
+        if getattr(self, "_handle", None) is not None:
+            self._owned()
         self._end()
 
     def _end(self) -> None:
@@ -178,7 +203,7 @@ class Owner:
         if handle is not None:
             _library.calls()[f"{self._kind}_end"](handle)
 
-    def __enter__(self) -> Any:
+    def __enter__(self: Itself) -> Itself:
         return self
 
     def __exit__(self, *_: object) -> None:
@@ -193,6 +218,21 @@ class SendingEnd(Owner):
 
     #: What a frame is written into that is too long for a struct; None if there are no such frames.
     _room: "Optional[ctypes.Array[ctypes.c_char]]" = None
+    # Whether no session was started on its connection yet: that of a new object is taken for new.
+    _is_new = True
+
+    def connected(self) -> None:
+        """Call it when a new connection was made; on a serial line, when you have waited longer than the other side
+        takes to answer, and dropped what came. What goes on is restarted."""
+        self._call("restart")
+        self._is_new = True
+
+    @property
+    def needs_new_line(self) -> bool:
+        """Whether a late reply could meet the next ENQ, that of a start or the one after a wait. A start raises
+        LinkError OLD_LINE then, until `connected` is called. Over a line that answers late, connect a station anew
+        before ENQ goes out again after a wait, too."""
+        return not self._is_new and self.outcome not in (Outcome.DONE, Outcome.SIX_TRIES)
 
     def _set_room(self, frame_limit: int) -> None:
         if frame_limit == LONG_FRAME_TEXT:
@@ -205,12 +245,15 @@ class SendingEnd(Owner):
         if status:
             raise LinkError(status)
 
-    def _started(self) -> bytes:
+    def _started(self, is_quiet: bool) -> bytes:
         """Starts a session with the texts that were added; returns ENQ, to be sent."""
+        if not as_flag(is_quiet, "is_quiet") and self.phase is Phase.NEUTRAL and self.needs_new_line:
+            raise LinkError(Status.OLD_LINE)
         out, fault = _library.Bytes(), _library.Place()
         status = self._call("start", ctypes.byref(out), ctypes.byref(fault))
         if status:
             raise LinkError(status, fault.index, fault.place)
+        self._is_new = False
         return bytes(out.bytes[: out.len])
 
     def _long_frame(self) -> bytes:
@@ -246,6 +289,10 @@ class ReceivingEnd(Owner, Generic[Meaning]):
         """What further bytes mean, of those that mean something, in order. Bytes that a loop leaves unheard are heard
         by the next call."""
         return (one for _, one in self.hear_placed(data))
+
+    def hear_all(self, data: bytes) -> List[Meaning]:
+        """As `hear`, at once, also without a loop. Use it where nothing has to be kept between two steps."""
+        return list(self.hear(data))
 
     def hear_placed(self, data: bytes) -> Iterator[Tuple[int, Meaning]]:
         """As `hear`, each step with the place in `data` of the byte that it is about; below 0 for bytes of an
@@ -315,9 +362,11 @@ class Scanner(Owner):
 
 
 class Sender(SendingEnd):
-    """The sending end. `start`, `reply` and `timer` return the bytes to send.
+    """The sending end. `start`, `reply` and `timer` return the bytes to send. It is for one connection, or for several
+    if `connected` says so.
 
-    A frame's text has at most `frame_limit` bytes, FRAME_TEXT or LONG_FRAME_TEXT."""
+    A frame's text has at most `frame_limit` bytes, FRAME_TEXT or LONG_FRAME_TEXT, which needs a thread with a stack of
+    a megabyte."""
 
     _kind = "sender"
 
@@ -334,9 +383,13 @@ class Sender(SendingEnd):
         """Drops the texts of the next session."""
         self._call("clear")
 
-    def start(self) -> bytes:
-        """Starts a session with the texts that were added; returns ENQ, to be sent."""
-        return self._started()
+    def start(self, *, is_quiet: bool = False) -> bytes:
+        """Starts a session with the texts that were added; returns ENQ, to be sent.
+
+        LinkError, and the texts stay: IN_SESSION, NO_TEXT; TOO_LONG or FORBIDDEN with the text and the byte; OLD_LINE
+        after a session that timed out or was restarted, since a late reply may come, until `connected` is called, or
+        `is_quiet` says that you waited until none can be on its way."""
+        return self._started(is_quiet)
 
     def reply(self, byte: int) -> bytes:
         """A reply byte came: what is to be sent."""
@@ -358,7 +411,8 @@ class Sender(SendingEnd):
     @property
     def seconds(self) -> Optional[int]:
         """After how many seconds `timer` is due, if no reply comes; None if no session goes on."""
-        return {Phase.NEUTRAL: None, Phase.BUSY: BUSY, Phase.CONTENTION: CONTENTION}.get(self.phase, REPLY)
+        seconds = ctypes.c_uint32()
+        return seconds.value if self._call("timer_seconds", ctypes.byref(seconds)) else None
 
 
 class Receiver(ReceivingEnd[Step]):

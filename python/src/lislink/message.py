@@ -3,7 +3,7 @@ fields."""
 import json
 from typing import Any, Dict, Generator, Iterable, Iterator, List, NamedTuple, Optional, Tuple, Union
 
-from ._checks import as_bytes
+from ._checks import as_pieces
 from .records import MessageError, Reader
 from .rows import Row
 from .shown import Parts, as_parts, as_text
@@ -276,10 +276,10 @@ class Found(NamedTuple):
     ends: List[int]
 
 
-def read_all(stream: bytes, encoding: str = "latin-1") -> Iterator[Union[Found, Fault]]:
-    """All messages of a stream, and a Fault for each that can't be read, which doesn't hide the later ones: reading
-    goes on at the next record that begins with H and a byte that may be a delimiter."""
-    stream, at = as_bytes(stream), 0
+def read_all(stream: Union[bytes, Iterable[bytes]], encoding: str = "latin-1") -> Iterator[Union[Found, Fault]]:
+    """All messages of a stream, or of the pieces of one, and a Fault for each that can't be read, which doesn't hide
+    the later ones: reading goes on at the next record that begins with H and a byte that may be a delimiter."""
+    stream, at = b"".join(as_pieces(stream)), 0
     while at < len(stream):
         fault = yield from _read_from(stream, at, encoding)
         if fault is None:

@@ -3,13 +3,13 @@ them in one call; a record's fields are split here when they are asked for, as t
 import ctypes
 import struct
 import threading
-from typing import Iterator, List, NamedTuple, Optional, Tuple
+from typing import Callable, Iterator, List, NamedTuple, Optional, Tuple
 
 from . import _library
 from ._checks import as_bytes, as_number
 from .codes import Status
 from .link import address
-from .records import MessageError
+from .records import MessageError, next_header
 from .rows import Marks, Row, marks_of
 
 #: A record as the library gives it: where it begins, the index of the record that it is under, how long it is, its
@@ -148,10 +148,20 @@ class MessagePlaces:
         return [ResultView(order.parent, order, result) for order, result in views]
 
 
-def message_places(data: bytes) -> Iterator[MessagePlaces]:
-    """The messages of a text, one after another. MessageError at the first that can't be read."""
+def message_places(
+    data: bytes, on_fault: Optional[Callable[[MessageError], None]] = None
+) -> Iterator[MessagePlaces]:
+    """The messages of a text, one after another. MessageError at the first that can't be read; with `on_fault` it is
+    given to that, and reading goes on at the next header."""
     data, start = as_bytes(data), 0
     while start < len(data):
-        found = MessagePlaces(data, start)
-        yield found
-        start = found.end
+        try:
+            found = MessagePlaces(data, start)
+        except MessageError as error:
+            if on_fault is None:
+                raise
+            on_fault(error)
+            start = next_header(data, start)
+        else:
+            yield found
+            start = found.end

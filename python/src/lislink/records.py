@@ -4,10 +4,10 @@ import ctypes
 import operator
 import struct
 import threading
-from typing import Any, Iterable, Iterator, List, Optional, Sequence, Tuple, Union
+from typing import Any, Callable, Iterable, Iterator, List, Optional, Sequence, Tuple, Union
 
 from . import _library
-from ._checks import as_bytes, as_number
+from ._checks import as_bytes, as_number, as_pieces
 from .codes import Reason, Status
 from .link import LinkError, Owner, address
 from .rows import Marks, Row, marks_of
@@ -28,6 +28,9 @@ class MessageError(Exception):
     def __init__(self, number: int, reason: int, detail: int, place: int) -> None:
         super().__init__(number, Reason(reason).name, detail, place)
         self.number, self.reason, self.detail, self.place = number, Reason(reason), detail, place
+
+    def __reduce__(self) -> Tuple[Any, ...]:
+        return type(self), (self.number, self.reason, self.detail, self.place)
 
     def __str__(self) -> str:
         words = f"record {self.number}: {self.reason.name}: {_library.words_of('reason', self.reason)}"
@@ -85,11 +88,11 @@ class Record:
         return bytes(room[: size.value])
 
 
-def records(texts: Iterable[bytes]) -> Iterator[Record]:
-    """The records in texts, each of which may end with its CR, under the delimiters of the last header before them."""
+def records(texts: Union[bytes, Iterable[bytes]]) -> Iterator[Record]:
+    """The records in a text or in several, each of which may end with its CR, under the delimiters of the last header
+    before them."""
     header = None
-    for text in texts:
-        text = as_bytes(text)
+    for text in as_pieces(texts):
         for line in (text[:-1] if text.endswith(b"\r") else text).split(b"\r"):
             is_header = line[:1] in (b"H", b"h")
             record = Record(line, None if is_header else header)
@@ -115,15 +118,17 @@ class Reader(Owner):
 
     def __init__(self) -> None:
         super().__init__()
-        #: How many bytes of the stream were read: after a record, up to its end.
+        #: How many bytes of the stream were read: after a record, up to its end; after one that can't be read, up to
+        #: its beginning.
         self.read = 0
         #: How many bytes the library has read. Of the records that it has read and that aren't given yet: themselves,
         #: their piece, where in the piece it read from, and the place of that in the stream.
         self._taken = 0
         self._left: Iterator[Tuple[Any, ...]] = iter(())
         self._source: Tuple[bytes, int, int] = b"", 0, 0
-        #: Whether the library holds bytes of a record that isn't ended.
-        self._holds = False
+        #: The bytes of a record that isn't ended, which the library holds too. Whether the stream is searched for a
+        #: header, and then whether a record begins with its next byte.
+        self._held, self._searches, self._begins = bytearray(), False, ctypes.c_bool()
         self._marks: Marks = marks_of(b"|\\^&")
 
     @property
@@ -133,9 +138,29 @@ class Reader(Owner):
 
     def feed(self, data: bytes) -> Iterator[Row]:
         """The records that end in these bytes, in order. MessageError at the first that can't be read, and then at
-        every call, even without bytes. Bytes that a loop leaves unread are read by the next call."""
+        every call, even without bytes, until `resume`. Bytes that a loop leaves unread are read by the next call."""
         self._add(data)
+        self._search()
         return self._rows()
+
+    def resume(self) -> None:
+        """After a MessageError: goes on at the next header, which may be the record that can't be read, in the bytes
+        that are left and in those of the next calls. `feed(b"")` reads those that are left. The message that was open
+        is dropped: it has no end."""
+        self._begins.value = self._call("resume")
+        self._piece, self._at = bytes(self._held) + self._piece[self._at :], 0
+        self._taken -= len(self._held)
+        self._held, self._searches, self._left = bytearray(), True, iter(())
+        self._search()
+
+    def _search(self) -> None:
+        """Goes to the next header, if one is searched for."""
+        if not self._searches:
+            return
+        left = len(self._piece) - self._at
+        come = _library.calls()["header_find"](address(self._piece) + self._at, left, ctypes.byref(self._begins))
+        self._at, self._taken, self._searches = self._at + come, self._taken + come, come == left
+        self.read = self._taken
 
     def _rows(self) -> Iterator[Row]:
         more = True
@@ -156,7 +181,7 @@ class Reader(Owner):
 
     def _read_whole(self) -> bool:
         """Reads records that are whole in the piece by one call; whether there are any."""
-        if self._holds:
+        if self._held:
             return False
         count, piece, at = ctypes.c_size_t(), self._piece, self._at
         room = (_ROOM.entries, TOGETHER, _ROOM.parts, RECORD_BYTES)
@@ -169,16 +194,21 @@ class Reader(Owner):
     def _read_on_by_itself(self) -> Optional[Row]:
         """Reads bytes of a record that isn't whole in the piece, or can't be read; returns the record, if they end
         it."""
-        out, at = _library.Found(), self._at
+        out = _library.Found()
+        return self._last_row(out) if self._is_ended(out) else None
+
+    def _is_ended(self, out: _library.Found) -> bool:
+        """Reads bytes up to a CR, or a CR; whether that ends a record."""
+        at = self._at
         self._taken += self._read_on("read", out)
         if out.kind == 2:
-            self.read = self._taken
+            self.read = self._taken - len(self._held)
             raise MessageError(out.number, out.reason, out.detail, out.place)
         if out.kind == 0:
-            self._holds = self._holds or self._at > at
-            return None
-        self._holds = False
-        return self._last_row(out)
+            self._held += self._piece[at : self._at]
+        else:
+            self._held.clear()
+        return bool(out.kind)
 
     def _last_row(self, out: _library.Found) -> Row:
         """The record that was read alone, which the library then gives up."""
@@ -193,19 +223,17 @@ class Reader(Owner):
     def letters(self, data: bytes) -> Iterator[str]:
         """As `feed`, without the fields: the letters of the records that end in these bytes."""
         self._add(data)
+        self._search()
         return self._letters()
 
     def _letters(self) -> Iterator[str]:
-        out = _library.Found()
-        while True:
-            self._taken += self._read_on("read", out)
+        out, more = _library.Found(), True
+        while more:
+            is_ended = self._is_ended(out)
             self.read = self._taken
-            if out.kind == 2:
-                raise MessageError(out.number, out.reason, out.detail, out.place)
-            if out.kind == 1:
+            if is_ended:
                 yield chr(out.letter)
-            if self._at >= len(self._piece):
-                return
+            more = self._at < len(self._piece)
 
     def finish(self) -> None:
         """The end of the stream: MessageError if a message isn't closed, or a record isn't ended."""
@@ -277,15 +305,40 @@ def _repeats_of(field: Any) -> List[Sequence[bytes]]:
     return [part if isinstance(part, (list, tuple)) else [part] for part in parts]
 
 
-def messages(pieces: Iterable[bytes]) -> Iterator[List[Row]]:
-    """The messages of a stream, each as its records; MessageError if one can't be read, or the stream ends within
-    one."""
+def messages(
+    pieces: Union[bytes, Iterable[bytes]], on_fault: Optional[Callable[[MessageError], None]] = None
+) -> Iterator[List[Row]]:
+    """The messages of a stream, or of the pieces of one, each as its records. What can't be read is a MessageError,
+    also a message that the stream ends within. With `on_fault` it is given to that, the message is dropped, and reading
+    goes on at the next header."""
+    rows: List[Row] = []
     with Reader() as reader:
-        rows: List[Row] = []
-        for piece in pieces:
-            for row in reader.feed(piece):
-                rows.append(row)
-                if row.letter == "L":
-                    yield rows
-                    rows = []
-        reader.finish()
+        for piece in as_pieces(pieces):
+            while True:
+                try:
+                    for row in reader.feed(piece):
+                        rows.append(row)
+                        if row.letter == "L":
+                            yield rows
+                            rows = []
+                    break
+                except MessageError as error:
+                    if on_fault is None:
+                        raise
+                    on_fault(error)
+                    reader.resume()
+                    piece, rows = b"", []
+        try:
+            reader.finish()
+        except MessageError as error:
+            if on_fault is None:
+                raise
+            on_fault(error)
+
+
+def next_header(data: bytes, start: int) -> int:
+    """Where in a text the header of the next message begins, after the record that begins at a place: the length of the
+    text if there is none. So reading goes on after a message that broke off."""
+    data = as_bytes(data)
+    start, begins = as_number(start, 0, len(data), "the start"), ctypes.c_bool()
+    return start + int(_library.calls()["header_find"](address(data) + start, len(data) - start, ctypes.byref(begins)))

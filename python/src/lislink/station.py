@@ -37,7 +37,8 @@ class Station(SendingEnd, ReceivingEnd[Answer]):
 
     Keep an answer's text first, then send its bytes. If you can't keep it, send nothing, call `close_line`, and
     start no session for over 15 seconds. Send no reply late, either: the other side waits for it for 15 seconds. A
-    frame's text has at most `frame_limit` bytes, FRAME_TEXT or LONG_FRAME_TEXT."""
+    frame's text has at most `frame_limit` bytes, FRAME_TEXT or LONG_FRAME_TEXT, which needs a thread with a stack of a
+    megabyte."""
 
     _kind = "station"
 
@@ -55,18 +56,20 @@ class Station(SendingEnd, ReceivingEnd[Answer]):
             self.close()
             raise LinkError(status)
 
-    def start(self, texts: Iterable[bytes]) -> bytes:
+    def start(self, texts: Iterable[bytes], *, is_quiet: bool = False) -> bytes:
         """Asks for the line, to send these texts in one session; returns ENQ, to be sent.
 
         LinkError, and the station is as before: LINE_OPEN while the other side has the line; IN_SESSION while a session
-        of its own goes on; NO_TEXT, FULL, OUT_OF_MEMORY; TOO_LONG or FORBIDDEN with the text and the byte. The session
-        is over when `phase` is NEUTRAL again; only `outcome` DONE says that all texts were acknowledged. Keep yours
-        until then: the station has them no more, however the session ended."""
+        of its own goes on; OLD_LINE after one that timed out or was given up, until `connected` is called, or
+        `is_quiet` says that you waited until no reply can be on its way; NO_TEXT, FULL, OUT_OF_MEMORY, TOO_LONG;
+        FORBIDDEN with the text and the byte. The session is over when `phase` is NEUTRAL again; only `outcome` DONE
+        says that all texts were acknowledged. Keep yours until then: the station has them no more, however the session
+        ended."""
         self._call("clear")
         try:
             for text in texts:
                 self._put_text(text)
-            return self._started()
+            return self._started(is_quiet)
         finally:
             self._call("clear")
 

@@ -7,10 +7,11 @@ import json
 import os
 import re
 import time
-from typing import Any, Dict, FrozenSet, List, NamedTuple, Sequence
+from typing import Any, Callable, Dict, FrozenSet, List, NamedTuple, Sequence
 
-from ..host.files import sync_folder, write_synced
+from ..host.files import sync_folder, write_synced, write_unsynced
 from ..host.store import StoreError, Stored
+from .results import Reading
 from .samples import samples_of
 
 #: The wish for all of them; and what a key looks like.
@@ -31,28 +32,63 @@ class Held(NamedTuple):
 class Aside:
     """What a delivery has set aside. Only the process that has the cursor changes it."""
 
-    def __init__(self, cursor: str, most: int = 0) -> None:
+    def __init__(
+        self, cursor: str, most: int = 0, reading: Callable[[str], Reading] = lambda line: Reading()
+    ) -> None:
         #: Set aside after so many failures; never if it is 0.
         self.most = most
         self.path = cursor + ".aside"
-        data = _read(self.path)
-        self.held = _held_of(self.path, data)
-        self._key, self._tries = str(data.get("key", "")), int(data.get("tries", 0))
+        self.held = _held_of(self.path, _read(self.path))
+        #: Which message is tried, and for which time: a try that ends the process is counted too.
+        self._trying = cursor + ".trying"
+        self._key, self._tries = _trying_of(self._trying)
+        #: How the records of a line are read.
+        self._reading = reading
 
-    def _write(self, held: Sequence[Held], key: str, tries: int) -> None:
+    def _write(self, held: Sequence[Held]) -> None:
         """On the disk first, then here; StoreError if it can't be."""
-        data = {"key": key, "tries": tries, "held": [one._asdict() for one in held]}
+        data = {"held": [one._asdict() for one in held]}
         try:
             write_synced(self.path, (json.dumps(data) + "\n").encode())
         except OSError as error:
             raise StoreError(f"{self.path}: {error.strerror or error}") from None
-        self.held, self._key, self._tries = list(held), key, tries
+        self.held = list(held)
 
     def _put(self, one: Stored, samples: FrozenSet[str], tries: int, why: str) -> None:
         assert one.number is not None
         row = Held(one.number, one.key, sorted(samples), tries, why, time.time())
         others = [each for each in self.held if each.key != one.key]
-        self._write(sorted([*others, row]), "", 0)
+        self._write(sorted([*others, row]))
+
+    def _count(self, key: str, tries: int) -> None:
+        """Notes a try. It needs no sync: what is counted are ends of this process, and not of the machine."""
+        self._key, self._tries = key, tries
+        with contextlib.suppress(OSError):
+            write_unsynced(self._trying, f"{key} {tries}\n".encode())
+
+    def begins(self, one: Stored) -> bool:
+        """Counts a try of the next message before it is made; False if it is set aside, since each try ended the
+        process."""
+        if not self.most:
+            return True
+        tries = self._tries if self._key == one.key else 0
+        if tries >= self.most:
+            self._put(one, self._samples(one), tries, "each try ended the delivery itself")
+            return False
+        self._count(one.key, tries + 1)
+        return True
+
+    def takes_back(self, one: Stored) -> None:
+        """The try says nothing of the message."""
+        if self.most and self._key == one.key:
+            self._count(one.key, self._tries - 1)
+
+    def quarantine(self, one: Stored, why: str) -> None:
+        """Sets a message aside at once."""
+        self._put(one, self._samples(one), 0, why)
+
+    def _samples(self, one: Stored) -> FrozenSet[str]:
+        return samples_of(one, self._reading(one.line))
 
     def takes(self, one: Stored) -> bool:
         """Whether a message waits for one of its samples that is set aside; then it is set aside too."""
@@ -60,21 +96,17 @@ class Aside:
             return False
         if any(each.key == one.key for each in self.held):  # the cursor wasn't moved after it
             return True
-        samples = samples_of(one)
+        samples = self._samples(one)
         first = next((each for each in self.held if samples & set(each.samples)), None)
         if first is not None:
             self._put(one, samples, 0, f"waits for {first.key}")
         return first is not None
 
     def failed(self, one: Stored, why: str) -> bool:
-        """Counts a failure of the next message; whether it is set aside now."""
-        if not self.most:
+        """The next message failed; whether it is set aside now."""
+        if not self.most or self._tries < self.most:
             return False
-        tries = self._tries + 1 if self._key == one.key else 1
-        if tries < self.most:
-            self._write(self.held, one.key, tries)
-            return False
-        self._put(one, samples_of(one), tries, why)
+        self._put(one, self._samples(one), self._tries, why)
         return True
 
     def together(self, key: str) -> List[Held]:
@@ -93,12 +125,12 @@ class Aside:
 
     def sent(self, one: Held) -> None:
         """This one is delivered."""
-        self._write([each for each in self.held if each.key != one.key], self._key, self._tries)
+        self._write([each for each in self.held if each.key != one.key])
 
     def failed_again(self, one: Held, why: str) -> None:
         """This one failed once more."""
         row = one._replace(tries=one.tries + 1, why=why)
-        self._write([row if each.key == one.key else each for each in self.held], self._key, self._tries)
+        self._write([row if each.key == one.key else each for each in self.held])
 
 
 def _read(path: str) -> Dict[str, Any]:
@@ -109,6 +141,15 @@ def _read(path: str) -> Dict[str, Any]:
         return {}
     except (OSError, ValueError) as error:
         raise StoreError(f"{path}: {error}") from None
+
+
+def _trying_of(path: str) -> "tuple[str, int]":
+    try:
+        with open(path, encoding="ascii") as file:
+            key, tries = file.read().split()
+            return key, int(tries)
+    except (OSError, ValueError):
+        return "", 0
 
 
 def _held_of(path: str, data: Dict[str, Any]) -> List[Held]:

@@ -3,25 +3,32 @@ records; the store keeps what came."""
 import csv
 import decimal
 import io
-from typing import Dict, Iterator, List, NamedTuple, Optional, Sequence, Tuple
+import re
+from typing import Callable, Dict, Iterator, List, NamedTuple, Optional, Sequence, Tuple
 
-from ..host.deliver import Refused
 from ..host.options import OptionError
 from ..host.store import Stored
 from ..message import Entry
 from ..rows import Row
-from .numbers import number_of, range_of, times
-from .results import code_of, message_of, text_of
+from .failures import Refused
+from .numbers import Number, number_of, range_of, rounded, times
+from .results import Coded, Coding, Reading, code_among, content_of, message_of, parts_of, text_of
 
-#: The columns; those that a row must fill. A mark is a comment that begins so.
-COLUMNS, _NEEDED = ("analyzer", "laboratory", "unit", "factor", "line", "sent"), ("analyzer", "laboratory")
-MARK = "lislab: "
-_ONE = decimal.Decimal(1)
+#: The columns; those that a row must fill. A mark is a comment that begins so. In place of the laboratory's code: the
+#: result doesn't go out.
+COLUMNS, _NEEDED = (
+    ("analyzer", "laboratory", "unit", "factor", "line", "sent", "digits", "system", "ucum"),
+    ("analyzer", "laboratory"),
+)
+MARK, LEAVE_OUT = "lislab: ", "leave out"
+_ONE, _SYSTEM = decimal.Decimal(1), re.compile(r"[A-Za-z0-9]{1,12}$|[a-z]+:[!-~]+$")
 
 
 class Code(NamedTuple):
-    """A row: the analyzer's code, and the laboratory's; its unit, if it isn't the analyzer's; what a value is
-    multiplied by; of which line, and for which unit of the analyzer, each of any if it is empty."""
+    """A row: the analyzer's code, or a pattern over the components of its field, and the laboratory's code; the
+    laboratory's unit, if it isn't the analyzer's; what a value is multiplied by; of which line, and for which unit of
+    the analyzer, each of any if it is empty; the digits after the point of a value that is multiplied; the system of
+    the laboratory's code, and its unit in UCUM."""
 
     analyzer: str
     laboratory: str
@@ -29,6 +36,19 @@ class Code(NamedTuple):
     factor: decimal.Decimal
     line: str
     sent: str
+    digits: Optional[int] = None
+    system: str = ""
+    ucum: str = ""
+
+    def named(self) -> List[Tuple[int, str]]:
+        """The components that a pattern names, by their places from 0; none of a code."""
+        parts = self.analyzer.split("^") if "^" in self.analyzer else []
+        return [(at, part.strip()) for at, part in enumerate(parts) if part.strip() not in ("", "*")]
+
+    def fits(self, field: Sequence[str]) -> bool:
+        """Whether these are components of its test."""
+        named = self.named()
+        return bool(named) and all(at < len(field) and field[at] == part for at, part in named)
 
 
 class Read(NamedTuple):
@@ -104,93 +124,172 @@ def _code_of(given: Dict[str, str], more: int) -> "Tuple[Optional[Code], str]":
     if factor != _ONE and not given.get("unit"):
         return None, "a factor needs the unit that it gives"
     rest = given["analyzer"], given["laboratory"], given.get("unit", ""), factor
-    return Code(*rest, given.get("line", ""), given.get("sent", "")), ""
+    code = Code(*rest, given.get("line", ""), given.get("sent", ""))
+    return _more_of(code, given)
+
+
+def _more_of(code: Code, given: Dict[str, str]) -> "Tuple[Optional[Code], str]":
+    """The same with what a row may say besides."""
+    digits, system, ucum = (given.get(name, "") for name in ("digits", "system", "ucum"))
+    if digits and (not re.match(r"\d$", digits, re.ASCII) or code.factor == _ONE):
+        return None, f"{digits}: digits are 0 to 9, of a value with a factor"
+    if system and not _SYSTEM.match(system):
+        return None, f"{system}: a system is a word of HL7, as LN for LOINC, or an address"
+    if ucum and not code.unit and not code.sent:
+        return None, "a unit of UCUM needs the unit that it stands for: unit or sent"
+    if code.laboratory == LEAVE_OUT and (code.unit or system or ucum):
+        return None, "what is left out has no unit and no system"
+    if "^" in code.analyzer and not code.named():
+        return None, f"{code.analyzer}: a pattern names a component, as ^^^GLU^^^F"
+    return code._replace(digits=int(digits) if digits else None, system=system, ucum=ucum), ""
 
 
 class Codes:
     """The codes of a laboratory."""
 
-    def __init__(self, codes: Sequence[Code]) -> None:
+    def __init__(self, codes: Sequence[Code], test: str = "") -> None:
         self.rows = tuple(codes)
-        self._codes = {(one.line, one.analyzer, one.sent): one for one in codes}
-        self._laboratory: Dict[Tuple[str, str], str] = {(one.line, one.analyzer): one.laboratory for one in codes}
+        #: Which component is the test, as the line's setting has it.
+        self.reading = Reading(test=test)
+        self._codes = {(one.line, one.analyzer, one.sent): one for one in codes if "^" not in one.analyzer}
+        patterns = [one for one in codes if "^" in one.analyzer]
+        self._patterns = sorted(patterns, key=lambda one: (-len(one.named()), not one.sent))
+        #: The rows for tests that were looked up.
+        self._known: Dict[Tuple[str, str], List[Code]] = {}
 
-    def found(self, line: str, code: str, unit: str) -> Optional[Code]:
-        """The row for a result: that of its line before that of any, and that of its unit before that of any."""
-        places = [(line, code, unit), (line, code, ""), ("", code, unit), ("", code, "")]
-        return next((self._codes[place] for place in places if place in self._codes), None)
+    def of_orders(self, line: str) -> Dict[str, str]:
+        """The analyzer's code for each of the laboratory's, for the orders of a line: that of the first row that has it.
+        A row whose pattern names more than the maker's code, which is the fourth component, is for results alone."""
+        found: Dict[str, str] = {}
+        for one in sorted(self.rows, key=lambda row: row.line == ""):
+            named = one.named() or [(3, one.analyzer)]
+            if one.line in ("", line) and one.laboratory != LEAVE_OUT and [at for at, _ in named] == [3]:
+                found.setdefault(one.laboratory, named[0][1])
+        return found
 
-    def laboratory(self, line: str, code: str) -> Optional[str]:
-        """The laboratory's code for an analyzer's; None if it has none."""
-        return self._laboratory.get((line, code)) or self._laboratory.get(("", code))
+    def _rows(self, line: str, parts: Sequence[str], name: str) -> Iterator[Code]:
+        """The rows for a test, the best one first: those of its line before those of any; a pattern that names more
+        components before others, and patterns before codes; a row of a unit before one of any."""
+        plain_names = [name] if self.reading.test or len(parts) < 5 else [name, parts[3]]
+        for where in (line, "") if line else ("",):
+            yield from (one for one in self._patterns if one.line == where and one.fits(parts))
+            for code in plain_names:
+                found = [one for (at, of, _), one in self._codes.items() if (at, of) == (where, code)]
+                yield from sorted(found, key=lambda one: not one.sent)
 
-    def lacked(self, line: str, code: str, unit: str) -> str:
+    def found(self, line: str, field: str, unit: str) -> Optional[Code]:
+        """The row for a result, of which the components of R-3 and the unit are named."""
+        return next((one for one in self._of(line, field) if one.sent in ("", unit)), None)
+
+    def _of(self, line: str, field: str) -> List[Code]:
+        found = self._known.get((line, field))
+        if found is None:
+            if len(self._known) > 10000:
+                self._known.clear()
+            parts = field.split("^")
+            found = self._known[line, field] = list(self._rows(line, parts, code_among(parts, self.reading)))
+        return found
+
+    def lacked(self, line: str, field: str, unit: str) -> str:
         """What the table lacks of a result: its code, with the unit if it has the code in another one; empty if it has
         both."""
-        if self.found(line, code, unit) is not None:
+        if self.found(line, field, unit) is not None:
             return ""
-        return (code or "-") if self.laboratory(line, code) is None else f"{code} {unit or '-'}"
+        code = code_among(field.split("^"), self.reading)
+        return f"{code} {unit or '-'}" if self._of(line, field) else (code or "-")
 
-    def applied(self, one: Stored) -> Stored:
+    def applied(self, one: Stored, reading: Reading = Reading()) -> Coded:
         """A message with the laboratory's codes, its units, and values that are multiplied. What isn't in the table
-        stays as it is, and gets a comment that says so after its own. `Refused` if a word can't be written in the
-        message's encoding."""
+        stays as it is, and gets a comment that says so after its own; what a row leaves out is gone, with what is
+        below it. `Refused` if a word can't be written in the message's encoding."""
         records: List[bytes] = []
         marks: List[bytes] = []
+        codings: Dict[Tuple[int, int], Coding] = {}
+        left_out, skips = 0, False
         for entry in message_of(one).entries:
+            skips = skips and entry.letter in "CMS"
+            if skips:
+                continue
             if marks and entry.letter not in "CMS":
                 records, marks = records + marks, []
             if entry.letter == "R":
-                record, why = self._result(entry, one)
+                found = self.found(one.line, *field_and_unit(entry))
+                skips = found is not None and found.laboratory == LEAVE_OUT
+                if skips:
+                    left_out += 1
+                    continue
+                record, why = self._result(entry, one, found)
                 numbers = [each for each in entry.notes if each.letter == "C"]
                 marks = [_comment(entry.row, len(numbers) + 1, why, one)] if why else []
                 records.append(record)
+                if found is not None:
+                    field = "^".join(parts_of(entry, 3))
+                    codings[len(records), 0] = Coding(found.laboratory, found.system, found.ucum, field)
+            elif entry.letter == "O":
+                records.append(self._order(entry, one, len(records) + 1, codings))
             else:
-                records.append(self._order(entry, one) if entry.letter == "O" else entry.row.text)
-        return one._replace(body=b"".join(record + b"\r" for record in records))
+                records.append(entry.row.text)
+        body = b"".join(record + b"\r" for record in records)
+        return Coded(one._replace(body=body), reading, codings, left_out)
 
-    def _order(self, entry: Entry, one: Stored) -> bytes:
+    def _order(self, entry: Entry, one: Stored, number: int, codings: Dict[Tuple[int, int], Coding]) -> bytes:
         """The order with the laboratory's codes of its tests, as far as it has some."""
         row, (_, repeat, component, _) = entry.row, _marks(entry.row)
         tests = []
         for at, written in enumerate(row.written(5).split(repeat)):
             parts = written.split(component)
-            code = entry.text(5, at, 3) or (entry.text(5, at) if len(parts) == 1 else "")
-            laboratory = self.laboratory(one.line, code)
-            if laboratory is not None:
-                parts[3 if len(parts) > 3 else 0] = _bytes(laboratory, row, one)
+            field = "^".join(parts_of(entry, 5, at))
+            found = next((each for each in self._of(one.line, field) if each.laboratory != LEAVE_OUT), None)
+            if field and found is not None:
+                parts[3 if len(parts) > 3 else 0] = _bytes(found.laboratory, row, one)
+                codings[number, at] = Coding(found.laboratory, found.system)
             tests.append(component.join(parts))
         return _with(row, {5: repeat.join(tests)} if row.written(5) else {})
 
-    def _result(self, entry: Entry, one: Stored) -> Tuple[bytes, str]:
+    def _result(self, entry: Entry, one: Stored, found: Optional[Code]) -> Tuple[bytes, str]:
         """A result as the laboratory has it, and what is to be said of it."""
-        row, (code, unit) = entry.row, code_and_unit(entry)
-        found = self.found(one.line, code, unit)
+        row, (field, unit) = entry.row, field_and_unit(entry)
         if found is None:
-            known = self.laboratory(one.line, code) is not None
+            code = code_among(field.split("^"), self.reading)
+            known = bool(self._of(one.line, field))
             return row.text, f"no code for {code} in {unit or 'no unit'}" if known else f"unknown code {code or 'none'}"
         changes = {3: _test(row, found.laboratory, one)}
         if found.factor == _ONE:
             return _with(row, {**changes, **({5: _bytes(found.unit, row, one)} if found.unit else {})}), ""
-        number, text = number_of(text_of(entry, 4)), text_of(entry, 6)
         if unit == found.unit:
             return _with(row, changes), f"it is in {unit} already, and isn't multiplied"
-        if number is None and text_of(entry, 4):
+        number = number_of(content_of(entry, 4))
+        if number is None and content_of(entry, 4):
             return _with(row, changes), "the value is no number, and isn't multiplied"
-        usual = range_of(text)
         changes[5] = _bytes(found.unit, row, one)
+        told = []
         if number is not None:
-            changes[4] = _bytes(times(number, found.factor).text(), row, one)
+            changes[4] = _bytes(_times(number, found).text(), row, one)
+            if found.digits is not None:
+                told.append(f"it was {number.text()} {unit}".strip())
+        told += self._range(entry, one, found, changes)
+        return _with(row, changes), "; ".join(told)
+
+    @staticmethod
+    def _range(entry: Entry, one: Stored, found: Code, changes: Dict[int, bytes]) -> List[str]:
+        """Multiplies the range of a result; what is to be said of it."""
+        row, text, unit = entry.row, content_of(entry, 6), field_and_unit(entry)[1]
+        usual = range_of(text)
         if usual is not None:
-            low, high = (None if each is None else times(each, found.factor) for each in usual)
+            low, high = (None if each is None else _times(each, found) for each in usual)
             turned = found.factor < 0
             usual = type(usual)(high, low) if turned else type(usual)(low, high)
             changes[6] = _bytes(usual.text(" to " if "to" in text.lower() else "-"), row, one)
-            return _with(row, changes), ""
-        if text.strip():
+        elif text.strip():
             changes[6] = row.written(6) + (b" " + row.written(5)).rstrip()
-            return _with(row, changes), f"the range is in {unit or 'the unit of the analyzer'}"
-        return _with(row, changes), ""
+            return [f"the range is in {unit or 'the unit of the analyzer'}"]
+        return []
+
+
+def _times(number: Number, code: Code) -> Number:
+    """A number by the factor of a row, with as many digits as that says."""
+    product = times(number, code.factor)
+    return product if code.digits is None else rounded(product, code.digits)
 
 
 def _marks(row: Row) -> Tuple[bytes, bytes, bytes, bytes]:
@@ -251,9 +350,9 @@ def _comment(row: Row, number: int, why: str, one: Stored) -> bytes:
     return _marks(row)[0].join(cells)
 
 
-def code_and_unit(result: Entry) -> Tuple[str, str]:
-    """By what a result is looked up: its code and its unit."""
-    return code_of(result, 3), text_of(result, 5).strip()
+def field_and_unit(result: Entry) -> Tuple[str, str]:
+    """By what a result is looked up: the components of its test, joined by ^, and its unit."""
+    return "^".join(parts_of(result, 3)), content_of(result, 5)
 
 
 def mark_of(result: Entry) -> str:
@@ -270,12 +369,16 @@ def codes_of(path: str) -> Codes:
     return Codes(read.codes)
 
 
-def unknown_of(codes: Codes, messages: Iterator[Stored]) -> Dict[str, int]:
-    """How many results the table lacks, by their code; with the unit, if it has the code in another one."""
+def unknown_of(rows: Sequence[Code], test_of: Callable[[str], str], messages: Iterator[Stored]) -> Dict[str, int]:
+    """How many results a table lacks, by their code; with the unit, if it has the code in another one. Which component
+    is the test is said of each line."""
     found: Dict[str, int] = {}
+    tables: Dict[str, Codes] = {}
     for one in messages:
+        test = test_of(one.line)
+        table = tables.setdefault(test, Codes(rows, test))
         for _, _, entry in message_of(one).results():
-            name = codes.lacked(one.line, *code_and_unit(entry))
+            name = table.lacked(one.line, *field_and_unit(entry))
             if name:
                 found[name] = found.get(name, 0) + 1
     return found

@@ -1,25 +1,33 @@
-"""A message as a Bundle of FHIR R4: a transaction that creates an Observation for each result, unless the server has
-one with its identifier. So a message that is delivered twice is kept once."""
+"""A message as a Bundle of FHIR R4: a transaction with an Observation for each result and a DiagnosticReport for each
+order. A result that comes again is the same Observation, and a correction updates it."""
 import datetime
 import decimal
+import hashlib
 import json
 import uuid
-from typing import Any, Dict, List, Optional
+from collections import Counter
+from typing import Any, Dict, List, NamedTuple, Optional, Tuple, Union
+from urllib.parse import quote
 
-from ..host.store import Stored
 from .numbers import Number, number_of, range_of
-from .results import Case, Ordered, Result, cases_of, iso_of, marks_of, message_of
+from .oru import Wishes
+from .results import Case, Coding, Ordered, Result, Told, field_text, identities_of, parts_of, report_of
 
-#: The system of identifiers: a message's key, and for a result the key with its place in the message.
-SYSTEM = "urn:lislab:message"
-#: Status of a result (LIS02-A2, 10.9) as that of an Observation. A letter that isn't here is `unknown`, with a note.
+#: The systems of identifiers: of a message and what is made of it, of a result that has its time, of a sample's test.
+SYSTEM, _OF_RESULT, _OF_TEST = "urn:lislab:message", "urn:lislab:result", "urn:lislab:test"
+#: Status of a result (LIS02-A2, 9.5.9) as that of an Observation, and of an order's report (9.4.26) as that of one
+#: without a result and of a DiagnosticReport. A letter that isn't here is `unknown`, with a note.
 _STATUS = {
     **{one: "final" for one in ("", "F", "M", "Q", "R", "V")},
     **{"C": "corrected", "P": "preliminary", "S": "preliminary", "I": "registered", "X": "cancelled"},
 }
+_REPORT = {"X": "cancelled", "I": "registered", "P": "preliminary", "C": "corrected", "F": "final"}
 _TERMS = "http://terminology.hl7.org/CodeSystem/"
+_UCUM, _SYSTEMS = "http://unitsofmeasure.org", {"LN": "http://loinc.org", "SCT": "http://snomed.info/sct"}
 #: The flags that have the same meaning as codes of v3-ObservationInterpretation.
 _FLAGS = ("L", "H", "LL", "HH", "<", ">", "N", "A", "AA", "U", "D", "B", "W")
+#: An element that is plain data.
+Data = Dict[str, Any]
 
 
 def written(data: Any) -> str:
@@ -33,112 +41,268 @@ def written(data: Any) -> str:
     return json.dumps(data, ensure_ascii=False)
 
 
-def bundle_of(one: Stored) -> bytes:
-    """The Bundle, in a line of its own; nothing if the message has no result, as a query."""
-    cases = cases_of(message_of(one))
-    entries: List[Dict[str, Any]] = []
-    for case in cases:
-        for order in case.orders:
-            for result in order.results:
-                name = f"{one.key}-{len(entries) + 1}"
-                entries.append(_entry(name, _observation(one, name, case, order, result)))
-    if not entries:
+class _Name(NamedTuple):
+    """What a resource is known by: the identifiers that it has, and the search by which the server finds it."""
+
+    identifiers: List[Data]
+    search: str
+    updates: bool = False
+
+
+def bundle_of(told: Told, wishes: Wishes = Wishes()) -> bytes:
+    """The Bundle, in a line of its own; nothing if nothing is said of a patient or a control, as by a query."""
+    made = _Made(told, wishes)
+    for case in told.cases:
+        made.add_case(case)
+    if not made.entries:
         return b""
     bundle = {
         "resourceType": "Bundle",
-        "identifier": {"system": SYSTEM, "value": one.key},
+        "identifier": {"system": SYSTEM, "value": told.one.key},
         "type": "transaction",
-        "timestamp": _instant(one),
-        "entry": entries,
+        "timestamp": _instant(told),
+        "entry": made.entries,
     }
     return (written(bundle) + "\n").encode()
 
 
-def _instant(one: Stored) -> str:
+def _instant(told: Told) -> str:
+    one = told.one
     at = one.began if one.ended is None else one.ended
     return datetime.datetime.fromtimestamp(at).astimezone().isoformat(timespec="milliseconds")
 
 
-def _entry(name: str, resource: Dict[str, Any]) -> Dict[str, Any]:
+class _Made:
+    """The entries of a Bundle."""
+
+    def __init__(self, told: Told, wishes: Wishes) -> None:
+        self._told, self._wishes = told, wishes
+        self.entries: List[Data] = []
+        #: The addresses of resources by how they are found, and the other way.
+        self._urls: Dict[str, str] = {}
+        self._searches: Dict[str, str] = {}
+        self._turns: "Counter[Tuple[str, ...]]" = Counter()
+
+    def _add(self, name: _Name, resource: Data) -> str:
+        """Adds a resource; a patient, unless it is there: its address in the Bundle."""
+        kind = resource["resourceType"]
+        known = f"{kind}?{name.search}"
+        if known in self._urls and kind == "Patient":
+            return self._urls[known]
+        assert known not in self._urls, f"{known} is there twice"
+        url = self._urls[known] = f"urn:uuid:{uuid.uuid5(uuid.NAMESPACE_URL, known)}"
+        request = {"method": "POST", "url": kind, "ifNoneExist": name.search}
+        if name.updates:
+            request = {"method": "PUT", "url": f"{kind}?{name.search}"}
+        data = {key: each for key, each in resource.items() if each}
+        self._searches[url] = name.search
+        self.entries.append({"fullUrl": url, "resource": data, "request": request})
+        return url
+
+    def add_case(self, case: Case) -> None:
+        """A patient with its orders, or controls."""
+        subject = self._subject(case)
+        for order in case.orders:
+            results = list(self._told.results(order))
+            urls = [self._observation(case, order, one, subject) for one in results]
+            if not results and report_of(order.record):
+                urls = [self._missing(case, order, at, subject) for at in range(len(order.tests))]
+            self._report(case, order, results, subject, urls)
+
+    def _key_name(self, place: str) -> _Name:
+        """The name of what has no other than the message's: that of the first one, if it is a repeat."""
+        value = f"{self._told.one.again_of or self._told.one.key}-{place}"
+        return _Name([{"system": SYSTEM, "value": value}], f"identifier={SYSTEM}|{value}")
+
+    def _result_name(self, case: Case, order: Ordered, result: Result) -> _Name:
+        """The name of a result. If it has its time, this doesn't depend on the message in which it came."""
+        who = [] if case.patient is None else [*identities_of(case.patient).values(), *parts_of(case.patient, 6)]
+        what = [result.field, result.code, result.unit]
+        test = [self._told.one.line, order.sample, *who, "", *what]
+        names = self._key_name(_digest(str(order.record.number), *what, str(result.turn)))
+        by_test = {"system": _OF_TEST, "value": _digest(*test)}
+        if len(result.at) >= 12:
+            value = _digest(*test, str(result.turn), result.at, str(self._turn(*test, str(result.turn), result.at)))
+            is_first = self._told.one.again_of is None
+            names = _Name([{"system": _OF_RESULT, "value": value}], f"identifier={_OF_RESULT}|{value}", is_first)
+        if not (who and order.sample and result.turn == 0):
+            return names
+        if result.status == "C" and not self._turn(by_test["value"]):  # a server that has two rejects this
+            names = names._replace(search=f"identifier={_OF_TEST}|{by_test['value']}", updates=True)
+        return names._replace(identifiers=[*names.identifiers, by_test])
+
+    def _turn(self, *texts: str) -> int:
+        """How often this was asked for before."""
+        self._turns[texts] += 1
+        return self._turns[texts] - 1
+
+    def _subject(self, case: Case) -> Optional[Data]:
+        """The patient: in the Bundle if the system of an identity is set, else by its first identity alone."""
+        identities = {} if case.patient is None else identities_of(case.patient)
+        if case.patient is None or not identities:
+            return None
+        systems = {field: self._wishes.authorities.get(field, ("", ""))[0] for field in identities}
+        named = [
+            {"system": systems[field], "value": text} if ":" in systems[field] else {"value": text}
+            for field, text in identities.items()
+        ]
+        known = next((one for one in named if "system" in one), None)
+        if known is None:
+            return {"type": "Patient", "identifier": named[0]}
+        name = _Name(named, f"identifier={known['system']}|{quote(known['value'], safe='')}")
+        return {"reference": self._add(name, _patient(case, named))}
+
+    def _observation(self, case: Case, order: Ordered, result: Result, subject: Optional[Data]) -> str:
+        told = self._told
+        notes = [each.text for each in [*case.comments, *order.comments, *result.comments]]
+        notes += [] if result.status in _STATUS else [f"the analyzer's status is {result.status}"]
+        taken, value = told.iso(order.record.text(8)), _value(result)
+        if not taken and len(result.at) > 8 and not told.reading.zone:
+            notes.append(f"the analyzer's clock, whose zone is not known: {result.at}")
+        notes += [f"unit {result.unit}"] if "valueString" in value and result.unit else []
+        name = self._result_name(case, order, result)
+        return self._add(
+            name,
+            {
+                **self._head(name, _STATUS.get(result.status, "unknown"), result, subject),
+                "effectiveDateTime": taken or told.iso(result.at),
+                "issued": _instant(told),
+                "performer": [{"identifier": {"value": result.operator}}] if result.operator else None,
+                **value,
+                "interpretation": [_flag(each) for each in result.flags],
+                "note": self._notes(order, notes),
+                "specimen": self._specimen(order),
+                "device": {"type": "Device", "display": result.instrument} if result.instrument else None,
+                "referenceRange": _range(result),
+            },
+        )
+
+    @staticmethod
+    def _head(name: _Name, status: str, test: Union[Result, Coding], subject: Optional[Data]) -> Data:
+        return {
+            "resourceType": "Observation",
+            "identifier": name.identifiers,
+            "status": status,
+            "category": [{"coding": [{"system": f"{_TERMS}observation-category", "code": "laboratory"}]}],
+            "code": _code(test.code, test.system, test.name if isinstance(test, Result) else ""),
+            "subject": subject,
+        }
+
+    def _missing(self, case: Case, order: Ordered, at: int, subject: Optional[Data]) -> str:
+        """An ordered test of which no result came, as one that was cancelled."""
+        name = self._key_name(_digest(str(order.record.number), "", str(at)))
+        status = _REPORT.get(report_of(order.record), "unknown")
+        reason = "not-performed" if status == "cancelled" else "temp-unknown"
+        return self._add(
+            name,
+            {
+                **self._head(name, status, order.tests[at], subject),
+                "issued": _instant(self._told),
+                "dataAbsentReason": {"coding": [{"system": f"{_TERMS}data-absent-reason", "code": reason}]},
+                "note": self._notes(order, [each.text for each in [*case.comments, *order.comments]]),
+                "specimen": self._specimen(order),
+            },
+        )
+
+    def _notes(self, order: Ordered, texts: List[str]) -> List[Data]:
+        control = ["a control, and no sample of a patient"] if order.control else []
+        return [{"text": each} for each in [*texts, *self._told.marks, *control] if each.strip()]
+
+    def _specimen(self, order: Ordered) -> Optional[Data]:
+        if not order.sample:
+            return None
+        system = {"system": self._wishes.samples} if ":" in self._wishes.samples else {}
+        kind = field_text(order.record, 16)
+        named = {"type": "Specimen", "identifier": {**system, "value": order.sample}}
+        return {**named, "display": kind} if kind else named
+
+    def _report(
+        self, case: Case, order: Ordered, results: List[Result], subject: Optional[Data], urls: List[str]
+    ) -> None:
+        """A DiagnosticReport of an order."""
+        named, found = report_of(order.record), {_STATUS.get(one.status, "unknown") for one in results}
+        usual = next((one for one in ("unknown", "preliminary", "registered", "corrected") if one in found), "final")
+        status = _REPORT.get(named, "unknown") if named else "partial" if usual == "registered" else usual
+        name = self._key_name(f"report-{order.record.number}")
+        searches = [self._searches[url] for url in urls]
+        if searches and all(_OF_RESULT in one or _OF_TEST in one for one in searches):
+            value = _digest("report", *searches)
+            is_first = self._told.one.again_of is None
+            name = _Name([{"system": _OF_RESULT, "value": value}], f"identifier={_OF_RESULT}|{value}", is_first)
+        codes = [*(one.code for one in order.tests), *(one.code for one in results)]
+        texts = " ".join(dict.fromkeys(codes)) or "laboratory report"
+        self._add(
+            name,
+            {
+                "resourceType": "DiagnosticReport",
+                "identifier": name.identifiers,
+                "status": status,
+                "category": [{"coding": [{"system": f"{_TERMS}v2-0074", "code": "LAB"}]}],
+                "code": {"text": texts},
+                "subject": subject,
+                "effectiveDateTime": self._told.iso(order.record.text(8)),
+                "issued": _instant(self._told),
+                "specimen": [one for one in [self._specimen(order)] if one],
+                "result": [{"reference": url} for url in dict.fromkeys(urls)],
+                "conclusion": "; ".join(each.text for each in order.comments) if not results else "",
+            },
+        )
+
+
+def _digest(*texts: str) -> str:
+    """One text for all of these."""
+    return hashlib.sha256(json.dumps(texts).encode()).hexdigest()[:32]
+
+
+def _patient(case: Case, named: List[Data]) -> Data:
+    record = case.patient
+    assert record is not None
+    family, *given = [*parts_of(record, 6), ""]
+    name = {"family": family, "given": [one for one in given if one]}
+    day, sex = field_text(record, 8)[:8], field_text(record, 9).upper()
+    is_day = len(day) == 8 and day.isdigit()
     return {
-        "fullUrl": f"urn:uuid:{uuid.uuid5(uuid.NAMESPACE_URL, f'{SYSTEM}:{name}')}",
-        "resource": resource,
-        "request": {"method": "POST", "url": "Observation", "ifNoneExist": f"identifier={SYSTEM}|{name}"},
+        "resourceType": "Patient",
+        "identifier": named,
+        "name": [{key: one for key, one in name.items() if one}] if family or name["given"] else None,
+        "gender": {"M": "male", "F": "female", "U": "unknown"}.get(sex),
+        "birthDate": f"{day[:4]}-{day[4:6]}-{day[6:]}" if is_day else None,
     }
 
 
-def _observation(one: Stored, name: str, case: Case, order: Ordered, result: Result) -> Dict[str, Any]:
-    notes = [{"text": each.text} for each in [*case.comments, *order.comments, *result.comments] if each.text.strip()]
-    if result.status not in _STATUS:
-        notes.append({"text": f"the analyzer's status is {result.status}"})
-    notes += [{"text": mark} for mark in marks_of(one)]
-    if order.control:
-        notes.append({"text": "a control, and no sample of a patient"})
-    data = {
-        "resourceType": "Observation",
-        "identifier": [{"system": SYSTEM, "value": name}],
-        "status": _STATUS.get(result.status, "unknown"),
-        "category": [{"coding": [{"system": f"{_TERMS}observation-category", "code": "laboratory"}]}],
-        "code": _code(result),
-        "subject": _subject(case),
-        "effectiveDateTime": iso_of(order.record.text(8)) or iso_of(result.at),
-        "issued": _instant(one),
-        "performer": [{"identifier": {"value": result.operator}}] if result.operator.strip() else None,
-        **_value(result),
-        "interpretation": [_flag(each) for each in result.flags if each.strip()],
-        "note": notes,
-        "specimen": _by_identifier("Specimen", order.sample or order.instrument_sample),
-        "device": {"type": "Device", "display": result.instrument} if result.instrument.strip() else None,
-        "referenceRange": _range(result),
-    }
-    return {key: each for key, each in data.items() if each}
+def _code(code: str, system: str, name: str) -> Data:
+    known = _SYSTEMS.get(system, system if ":" in system else "")
+    coding = {"system": known, "code": " ".join(code.split())} if known else {"code": " ".join(code.split())}
+    return {"coding": [coding], "text": name or code}
 
 
-def _by_identifier(kind: str, value: str) -> Optional[Dict[str, Any]]:
-    return {"type": kind, "identifier": {"value": value}} if value.strip() else None
-
-
-def _subject(case: Case) -> Optional[Dict[str, Any]]:
-    """The patient by its identity: the practice's, else the laboratory's, else the third."""
-    if case.record is None:
-        return None
-    return _by_identifier("Patient", next((text for text in map(case.record.text, (3, 4, 5)) if text.strip()), ""))
-
-
-def _code(result: Result) -> Dict[str, Any]:
-    if not result.code.strip():
-        return {"text": "a test without a code"}
-    coding = {"code": " ".join(result.code.split())}
-    return {"coding": [coding], "text": result.name if result.name.strip() else result.code}
-
-
-def _quantity(number: Number, unit: str) -> Dict[str, Any]:
-    data = {"value": number.value, "comparator": number.comparator, "unit": unit if unit.strip() else ""}
+def _quantity(number: Number, result: Result) -> Data:
+    ucum = {"system": _UCUM, "code": result.ucum} if result.ucum else {}
+    data = {"value": number.value, "comparator": number.comparator, "unit": result.unit or result.ucum, **ucum}
     return {key: one for key, one in data.items() if one != ""}
 
 
-def _value(result: Result) -> Dict[str, Any]:
-    """The value as a quantity with its unit, or as a text with its unit after it."""
+def _value(result: Result) -> Data:
+    """The value as a quantity with its unit, or as a text."""
     number = number_of(result.value)
     if number is not None:
-        return {"valueQuantity": _quantity(number, result.unit)}
-    text = f"{result.value} {result.unit}".strip()
-    if result.value.strip():
-        return {"valueString": text}
+        return {"valueQuantity": _quantity(number, result)}
+    if result.value:
+        return {"valueString": result.value}
     return {"dataAbsentReason": {"coding": [{"system": f"{_TERMS}data-absent-reason", "code": "unknown"}]}}
 
 
-def _flag(flag: str) -> Dict[str, Any]:
+def _flag(flag: str) -> Data:
     if flag in _FLAGS:
         return {"coding": [{"system": f"{_TERMS}v3-ObservationInterpretation", "code": flag}]}
     return {"text": flag}
 
 
-def _range(result: Result) -> List[Dict[str, Any]]:
-    if not result.range.strip():
+def _range(result: Result) -> List[Data]:
+    if not result.range:
         return []
     usual = range_of(result.range)
     if usual is None or any(one is not None and one.comparator in ("<", ">") for one in usual):
         return [{"text": result.range}]
-    low, high = (None if one is None else _quantity(one._replace(comparator=""), result.unit) for one in usual)
+    low, high = (None if one is None else _quantity(one._replace(comparator=""), result) for one in usual)
     return [{key: one for key, one in (("low", low), ("high", high)) if one is not None}]

@@ -4,20 +4,22 @@ import contextlib
 import socket
 import ssl
 import time
-from typing import Callable, Optional
+from typing import Optional, Set
 
-from ..host.deliver import Refused, Unreachable
+from ..host.deliver import Target
 from ..host.export import Writer
 from ..host.store import Stored
-from .oru import acknowledgement
+from ..watch.unix import shown
+from .failures import Refused, Unreachable
+from .oru import acknowledgement, messages_of
 
 #: The bytes around a message; the most bytes of an answer; seconds for a connection.
-_START, _END, _MOST, _CONNECT = b"\x0b", b"\x1c\r", 1 << 20, 20.0
+_START, _END, _MOST, _CONNECT = b"\x0b", b"\x1c", 1 << 20, 20.0
 _ACCEPTED, _REJECTED = ("AA", "CA"), ("AE", "AR", "CE", "CR")
 
 
 class _Closed(Exception):
-    """The receiver closed the connection."""
+    """The receiver closed the connection, or never heard what was sent over it."""
 
 
 class Mllp:
@@ -27,10 +29,13 @@ class Mllp:
         self._host, self._port, self._seconds, self._context = host, port, seconds, context
         self._line: Optional[socket.socket] = None
         self._left = b""
+        #: To which other message the last answer was.
+        self._other = ""
 
     def deliver(self, data: bytes, key: str) -> None:
         """Sends a message, and waits until it is accepted; `Refused` if it isn't. If the connection is an earlier
-        message's, the receiver may have closed it meanwhile: the message is sent once more, over a new one."""
+        message's, the receiver may have closed it meanwhile, or it died silently, as firewalls let it: the message is
+        sent once more, over a new one."""
         fresh = self._line is None
         try:
             self._try(data, key)
@@ -46,11 +51,12 @@ class Mllp:
         line = self._line or self._connected()
         try:
             line.settimeout(self._seconds)
-            line.sendall(_START + data + _END)
+            line.sendall(_START + data + _END + b"\r")
             self._answered(line, key)
         except socket.timeout:
             self.close()
-            raise Refused(f"{self._host}:{self._port}: no answer within {self._seconds:g} seconds") from None
+            other = f": its last answer is to another message, {self._other}" if self._other else ""
+            raise _Closed(f"no answer within {self._seconds:g} seconds{other}") from None
         except OSError as error:
             self.close()
             raise _Closed(f"the connection is lost: {error.strerror or error}") from None
@@ -62,6 +68,7 @@ class Mllp:
         try:
             line = socket.create_connection((self._host, self._port), _CONNECT)
             line.setsockopt(socket.IPPROTO_TCP, socket.TCP_NODELAY, 1)
+            line.setsockopt(socket.SOL_SOCKET, socket.SO_KEEPALIVE, 1)
             if self._context is not None:
                 line = self._context.wrap_socket(line, server_hostname=self._host)
         except (OSError, ValueError) as error:
@@ -71,14 +78,18 @@ class Mllp:
 
     def _answered(self, line: socket.socket, key: str) -> None:
         """Waits for the answer to the message with this key. One to another message is late, and not looked at."""
-        until = time.monotonic() + self._seconds
+        until, self._other = time.monotonic() + self._seconds, ""
         while time.monotonic() < until:
             told = acknowledgement(self._block(line, until))
             if told is None:
                 self.close()
                 raise Refused(f"{self._host}:{self._port}: an answer that can't be read")
             code, control, error = told
+            if control and key.startswith(control) and control != key:
+                self.close()
+                raise Refused(f"{self._host}:{self._port}: an answer with {len(control)} of the {len(key)} of MSH-10")
             if control != key:
+                self._other = shown(control[:20]) or "without an id"
                 continue
             if code in _ACCEPTED:
                 return
@@ -111,12 +122,18 @@ class Mllp:
                 line.close()
 
 
-def to_mllp(receiver: Mllp, write: Writer) -> Callable[[Stored], None]:
-    """Sends each message to a receiver."""
+def to_mllp(receiver: Mllp, write: Writer) -> Target:
+    """Sends each message to a receiver, that of each patient by itself. Of one that failed in part, what was accepted
+    isn't sent again as long as this process runs."""
+    accepted: Set[bytes] = set()
 
-    def deliver(one: Stored) -> None:
-        data = write(one)
-        if data:
-            receiver.deliver(data, one.key)
+    def deliver(one: Stored) -> bool:
+        found = messages_of(write(one))
+        for data in found:
+            if data not in accepted:
+                receiver.deliver(data, data.split(b"|", 10)[9].decode())
+                accepted.add(data)
+        accepted.clear()
+        return bool(found)
 
     return deliver

@@ -64,3 +64,8 @@ def times(one: Number, factor: decimal.Decimal) -> Number:
     turned = {"<": ">", ">": "<", "<=": ">=", ">=": "<="}
     comparator = turned.get(one.comparator, "") if factor < 0 else one.comparator
     return Number(comparator, _EXACT.multiply(one.value, factor))
+
+
+def rounded(one: Number, digits: int) -> Number:
+    """A number with so many digits after the point: half to even."""
+    return one._replace(value=_EXACT.quantize(one.value, decimal.Decimal(1).scaleb(-digits)))

@@ -1,197 +1,312 @@
-"""A message as ORU^R01 of HL7 v2.5.1, built by the library `hl7` (Debian: python3-hl7). The same message gives the same
-bytes each time; its control id (MSH-10) is its key."""
+"""A message as ORU^R01 of HL7 v2: one for each patient, and one for the controls, so that no result can be under
+another patient. The same message gives the same bytes each time."""
 import datetime
-import importlib
+import hashlib
 import re
-from typing import Any, Dict, List, Optional, Sequence, Union
+from typing import Dict, Iterator, List, Mapping, NamedTuple, Optional, Sequence, Tuple, Union
 
-from .._library import LibraryMissing
-from ..host.store import Stored
+from ..host.options import OptionError
 from ..message import Entry
 from .numbers import number_of, range_of
-from .results import Case, Comment, Ordered, Result, cases_of, marks_of, message_of, text_of, time_of
+from .results import Case, Coding, Comment, Ordered, Result, Told, field_text, identities_of, parts_of, report_of
 
-#: Status of a result (LIS02-A2, 10.9) and of an order's report (9.26) as those of HL7 tables 0085 and 0123. A letter
-#: that isn't here is P, with a comment: HL7 has another meaning for some of them.
+#: Status of a result (LIS02-A2, 9.5.9) as that of HL7 table 0085. A letter that isn't here is P, with a comment: HL7
+#: has another meaning for some of them.
 _STATUS = {"": "F", **{one: one for one in "CFIPSX"}, **{one: "F" for one in "MQRV"}}
-_REPORT = {one: one for one in "CFIPXYZ"}
+#: The flags (table 0078) and natures of a range (0080) that both standards have; priorities (0485).
+_FLAGS, _NATURES, _PRIORITIES = ("L", "H", "LL", "HH", "<", ">", "N", "A", "U", "D", "B", "W"), "ASRN", "SARCPT"
+#: Specimen types of table 0487 by what analyzers write.
+_SPECIMENS = {
+    **{one: one for one in ("SER", "PLAS", "UR", "BLD", "CSF", "BLDA", "BLDV", "BLDC")},
+    **{"SERUM": "SER", "PLASMA": "PLAS", "URINE": "UR", "BLOOD": "BLD", "WHOLE BLOOD": "BLD"},
+}
 _ESCAPES = {"|": "\\F\\", "^": "\\S\\", "~": "\\R\\", "\\": "\\E\\", "&": "\\T\\"}
+_SPECIAL = re.compile(r"[|^~\\&\x00-\x1f]")
 #: A value of type NM, and the most characters of one of type ST.
 _NM, _ST = re.compile(r"[+-]?\d+(?:\.\d+)?$|[+-]?\.\d+$", re.ASCII), 199
 #: A field: a text, its components, or its repeats as lists of components.
 Field = Union[str, Sequence[str], Sequence[Sequence[str]]]
+VERSIONS = ("2.3.1", "2.5", "2.5.1")
 
 
-def library() -> Any:
-    """The library that builds and reads messages; LibraryMissing if it isn't installed."""
-    try:
-        return importlib.import_module("hl7")
-    except ImportError:
-        why = "messages of HL7 need the Python library hl7: install Debian's package python3-hl7, or pip's hl7"
-        raise LibraryMissing(why) from None
+class Wishes(NamedTuple):
+    """What a receiver wants in its messages: fields of MSH by their numbers; authority and type of the identities of
+    P-3, P-4 and P-5, by these numbers; the authority of samples; and an OBR for each test, in place of each order."""
+
+    header: Mapping[int, str] = {}
+    authorities: Mapping[int, Tuple[str, str]] = {}
+    samples: str = ""
+    by_test: bool = False
+
+    @property
+    def version(self) -> str:
+        """The version of HL7."""
+        return self.header.get(12, "2.5.1")
+
+
+_IDENTITIES = {"practice": 3, "laboratory": 4, "third": 5}
+_HEADER = {f"MSH-{number}": number for number in (3, 4, 5, 6, 11, 12)}
+
+
+def wishes_of(words: Sequence[str]) -> Wishes:
+    """Words `NAME=VALUE`: `MSH-5=LIS`, `practice=HOSP PI` (authority and type), `sample=AUTHORITY`, `obr=test`."""
+    header: Dict[int, str] = {}
+    authorities: Dict[int, Tuple[str, str]] = {}
+    samples, by_test = "", False
+    for word in words:
+        name, equals, value = word.partition("=")
+        if not equals or not value:
+            raise OptionError(f"{word}: NAME=VALUE is wanted")
+        if name in _HEADER:
+            header[_HEADER[name]] = value
+        elif name in _IDENTITIES:
+            authority, _, kind = value.partition(" ")
+            authorities[_IDENTITIES[name]] = authority, kind.strip()
+        elif name == "sample":
+            samples = value
+        elif name == "obr" and value in ("test", "order"):
+            by_test = value == "test"
+        else:
+            names = ", ".join([*_HEADER, *_IDENTITIES, "sample", "obr=test"])
+            raise OptionError(f"{word}: what can be set is {names}")
+    if header.get(12, VERSIONS[0]) not in VERSIONS:
+        raise OptionError(f"MSH-12={header[12]}: a version is {', '.join(VERSIONS)}")
+    return Wishes(header, authorities, samples, by_test)
 
 
 def escaped(text: str) -> str:
     """A text in which what has a meaning in HL7 is an escape."""
-    return "".join(_ESCAPES.get(one) or (f"\\X{ord(one):02X}\\" if ord(one) < 32 else one) for one in text)
+    return _SPECIAL.sub(lambda found: _ESCAPES.get(found[0]) or f"\\X{ord(found[0]):02X}\\", text)
 
 
-class _Builder:
-    """The segments of a message, in turn."""
-
-    def __init__(self, hl7: Any) -> None:
-        self._message = hl7.Message()
-
-    def add(self, name: str, fields: Dict[int, Field]) -> None:
-        """A segment with these fields, by their numbers; empty ones are left out."""
-        one = self._message.create_segment([self._message.create_field([name])])
-        if name == "MSH":
-            one.assign_field("|", 1)
-            one.assign_field("^~\\&", 2)
-        for number, value in sorted(fields.items()):
-            for at, components in enumerate(_repeats(value), 1):
-                for place, text in enumerate(components, 1):
-                    if text:
-                        one.assign_field(escaped(text), number, at, place)
-        self._message.append(one)
-
-    def bytes(self) -> bytes:
-        """The message, each segment with a CR after it."""
-        return str(self._message).encode()
+def segment(name: str, fields: Mapping[int, Field]) -> str:
+    """A segment with these fields, by their numbers, and the CR after it."""
+    cells = {number: _field(value) for number, value in fields.items()}
+    last = max((number for number, text in cells.items() if text), default=0)
+    first = 3 if name == "MSH" else 1  # MSH-1 is the delimiter itself
+    head = [name, "^~\\&"] if name == "MSH" else [name]
+    return "|".join(head + [cells.get(number, "") for number in range(first, last + 1)]) + "\r"
 
 
-def _repeats(value: Field) -> List[Sequence[str]]:
+def _field(value: Field) -> str:
     if isinstance(value, str):
-        return [[value]]
-    texts = [one for one in value if isinstance(one, str)]
-    return [texts] if texts else [one for one in value if not isinstance(one, str)]
+        return escaped(value)
+    if all(isinstance(one, str) for one in value):
+        return "^".join(escaped(str(one)) for one in value).rstrip("^")
+    return "~".join(_field(one) for one in value).rstrip("~")
 
 
-def oru_of(one: Stored) -> bytes:
-    """The message; nothing if it has no result, as a query."""
-    message = message_of(one)
-    cases = cases_of(message)
-    if not cases:
-        return b""
-    out = _Builder(library())
-    mode = message.header.text(12)
+def control_id(key: str, place: int = 1) -> str:
+    """MSH-10 of the n-th message that is made of a message with this key: 20 letters and digits, which HL7 v2.5.1 has
+    room for, always the same."""
+    if re.fullmatch(r"[0-9a-f]{24}", key) and place <= 128:
+        number = int(key, 16) * 128 + place - 1
+    else:
+        number = int(hashlib.sha256(f"{key} {place}".encode()).hexdigest(), 16)
+    digits = ""
+    for _ in range(20):
+        number, digit = divmod(number, 36)
+        digits = "0123456789ABCDEFGHIJKLMNOPQRSTUVWXYZ"[digit] + digits
+    return digits
+
+
+def oru_of(told: Told, wishes: Wishes = Wishes()) -> bytes:
+    """The messages, one after another; nothing if nothing is said of a patient or a control, as by a query."""
+    out = bytearray()
+    for place, case in enumerate(told.cases, 1):
+        for one in _segments(told, place, case, wishes):
+            out += one.encode()
+    return bytes(out)
+
+
+def messages_of(data: bytes) -> List[bytes]:
+    """Each of these messages by itself."""
+    return [one for one in re.split(rb"(?<=\r)(?=MSH\|)", data) if one]
+
+
+def _segments(told: Told, place: int, case: Case, wishes: Wishes) -> Iterator[str]:
+    """The segments of a patient, in turn."""
+    yield segment("MSH", _header(told, place, wishes))
+    yield from _patient(case, wishes)
+    marks = [Comment("L", mark) for mark in told.marks]
+    number = 0
+    for order in case.orders:
+        for one, results in _reports(told, order, wishes):
+            number += 1
+            yield from _order(told, number, one, results, marks, wishes)
+            marks = []
+
+
+def _header(told: Told, place: int, wishes: Wishes) -> Dict[int, Field]:
+    one, mode = told.one, told.message.header.text(12).strip()
     at = one.began if one.ended is None else one.ended
-    out.add(
-        "MSH",
+    fields: Dict[int, Field] = {
+        3: "lislab",
+        4: one.line,
+        7: datetime.datetime.fromtimestamp(at).astimezone().strftime("%Y%m%d%H%M%S%z"),
+        9: ["ORU", "R01", *([] if wishes.version == VERSIONS[0] else ["ORU_R01"])],
+        10: control_id(one.key, place),
+        11: mode if mode in ("D", "T") else "P",
+        12: wishes.version,
+        18: "UNICODE UTF-8",
+    }
+    given = {number: value.split("^") for number, value in wishes.header.items()}
+    return {**fields, **given}
+
+
+def _patient(case: Case, wishes: Wishes) -> Iterator[str]:
+    """PID and the comments on the patient; none if there is neither an identity nor a name."""
+    record = case.patient
+    identities = {} if record is None else identities_of(record)
+    name = [] if record is None else parts_of(record, 6)
+    if record is None or not (identities or name):
+        return
+    street, *town = [*parts_of(record, 11), ""]
+    sex = field_text(record, 9).upper()
+    yield segment(
+        "PID",
         {
-            3: "lislab",
-            4: one.line,
-            7: datetime.datetime.fromtimestamp(at).astimezone().strftime("%Y%m%d%H%M%S%z"),
-            9: ["ORU", "R01", "ORU_R01"],
-            10: one.key,
-            11: mode if mode in ("D", "T") else "P",
-            12: "2.5.1",
-            18: "UNICODE UTF-8",
+            1: "1",
+            3: [_identity(text, *wishes.authorities.get(field, ("", ""))) for field, text in identities.items()],
+            5: [*(name + [""] * 6)[:6], "L"] if name else ["", "", "", "", "", "", "U"],
+            6: parts_of(record, 7),
+            7: _day(record.text(8)),
+            8: sex if sex in ("M", "F", "U") else "",
+            11: [street, "", *town],
+            13: field_text(record, 13),
         },
     )
-    marks = [Comment("L", mark) for mark in marks_of(one)]
-    number = 0
-    for place, case in enumerate(cases, 1):
-        _patient(out, place, case)
-        for order in case.orders:
-            number += 1
-            _order(out, number, order, marks)
-            marks = []
-    return out.bytes()
+    yield from _notes(case.comments)
 
 
-def _patient(out: _Builder, place: int, case: Case) -> None:
-    """PID, with the patient's identities, name, birth date, sex, address and phone; none if there is neither an
-    identity nor a name."""
-    record = case.record
-    identities = [] if record is None else [[one] for one in map(record.text, (3, 4, 5)) if one]
-    name = [] if record is None else _components(record, 6)
-    if record is None or not (identities or any(name)):
+def _identity(text: str, authority: str, kind: str) -> List[str]:
+    """A patient's identity (CX). An authority that is an address is written as its universal id, which isn't done
+    here: it is its name."""
+    return [text, "", "", authority, kind]
+
+
+def _day(text: str) -> str:
+    return text.strip()[:8] if re.match(r"\d{8}", text.strip()) else ""
+
+
+def _reports(told: Told, order: Ordered, wishes: Wishes) -> Iterator[Tuple[Ordered, List[Result]]]:
+    """What one OBR is for: an order, or each of its tests."""
+    results = told.results(order)
+    if not wishes.by_test:
+        yield order, list(results)
         return
-    street, *town = [*_components(record, 11), ""]
-    fields: Dict[int, Field] = {
-        1: str(place),
-        3: identities,
-        5: [*(name + [""] * 6)[:6], "L"] if any(name) else ["", "", "", "", "", "", "U"],
-        6: _components(record, 7),
-        7: time_of(record.text(8)),
-        8: record.text(9).upper() if record.text(9).upper() in ("M", "F", "U") else "",
-        11: [street, "", *town],
-        13: record.text(13),
-    }
-    out.add("PID", fields)
-    _notes(out, case.comments)
+    found: Dict[str, Tuple[Ordered, List[Result]]] = {}
+    for one in results:
+        test = Coding(one.code, one.system)
+        found.setdefault(one.code, (order._replace(tests=[test]), []))[1].append(one)
+    missing = [test for test in order.tests if not found]
+    yield from found.values()
+    for test in missing:
+        yield order._replace(tests=[test]), []
+    if not found and not missing:
+        yield order, []
 
 
-def _components(entry: Entry, field: int) -> List[str]:
-    """The components of a field's first repeat."""
-    repeats = entry.row.field(field)
-    return [entry.text(field, 0, at) for at in range(len(repeats[0]))] if repeats else []
-
-
-def _order(out: _Builder, number: int, order: Ordered, more: List[Comment]) -> None:
-    """OBR, its comments, and its results; SPM if the specimen is described."""
-    record = order.record
-    taken = time_of(record.text(8))
-    out.add(
+def _order(
+    told: Told, number: int, order: Ordered, results: List[Result], more: List[Comment], wishes: Wishes
+) -> Iterator[str]:
+    """OBR, its comments, its priority, its results, and SPM."""
+    record, is_old = order.record, wishes.version == VERSIONS[0]
+    taken, kind = told.at(record.text(8)), _specimen(record)
+    priority = field_text(record, 6).upper()
+    priority = priority if len(priority) == 1 and priority in _PRIORITIES else ""
+    physician = parts_of(record, 17)
+    yield segment(
         "OBR",
         {
             1: str(number),
             2: order.sample,
             3: order.instrument_sample,
-            4: [order.tests[0], "", "L"] if len(order.tests) == 1 else ["", " ".join(order.tests) or "results"],
+            4: _service(order, results),
+            5: priority,
+            6: told.at(record.text(7)),
             7: taken,
-            8: time_of(record.text(9)),
-            11: "Q" if order.control else "",
-            13: text_of(record, 14),
-            14: time_of(record.text(15)),
-            22: time_of(record.text(23)),
-            25: _report(order),
+            8: told.at(record.text(9)),
+            13: field_text(record, 14),
+            14: told.at(record.text(15)),
+            15: kind if is_old else "",
+            16: physician,
+            22: told.at(record.text(23)),
+            25: _report(order, results),
         },
     )
-    _notes(out, [*order.comments, *more])
-    codes = [one.code for one in order.results]
-    for place, result in enumerate(order.results, 1):
-        same = codes[: place - 1].count(result.code) + 1 if codes.count(result.code) > 1 else 0
-        _result(out, place, same, result, taken)
-    if record.text(16):
-        identity = [order.sample, order.instrument_sample]
+    yield from _notes([*order.comments, *more])
+    if priority and not is_old:
+        yield segment("TQ1", {1: "1", 9: priority})
+    for place, result in enumerate(results, 1):
+        yield from _result(told, place, result, taken)
+    if (kind or order.control) and not is_old:
         role = "Q" if order.control else ""
-        out.add("SPM", {1: "1", 2: identity, 4: record.text(16), 11: role, 17: taken, 18: time_of(record.text(15))})
+        named = [order.sample, order.instrument_sample] if order.instrument_sample else [order.sample]
+        received = told.at(record.text(15))
+        kind = kind or ["", "control"]
+        yield segment("SPM", {1: "1", 2: named, 4: kind, 11: role, 17: taken, 18: received})
 
 
-def _report(order: Ordered) -> str:
+def _service(order: Ordered, results: List[Result]) -> List[str]:
+    """OBR-4: the test of an order, or of its results if they have one, else the list of its tests."""
+    tests = order.tests or [Coding(code, system) for code, system in {(one.code, one.system): 0 for one in results}]
+    if len(tests) == 1:
+        return [tests[0].code, "", _system(tests[0].system)]
+    return ["PANEL", " ".join(one.code for one in tests), "L"]
+
+
+def _system(system: str) -> str:
+    """The coding system in HL7; an address is one of FHIR alone."""
+    return system if system and ":" not in system else "L"
+
+
+def _specimen(record: Entry) -> List[str]:
+    """The type of a specimen, by table 0487 if that has it."""
+    text = field_text(record, 16)
+    code = _SPECIMENS.get(text.upper())
+    return [code, text, "HL70487"] if code else ["", text] if text else []
+
+
+def _report(order: Ordered, results: List[Result]) -> str:
     """The status of an order's report; if it says none, that of its results."""
-    named = _REPORT.get(order.record.text(26))
-    found = {_STATUS.get(one.status, "P") for one in order.results}
+    named = report_of(order.record)
+    found = {_status(one) for one in results}
     usual = "P" if found & set("PSI") else "C" if "C" in found else "X" if found == {"X"} else "F"
     return named or usual
 
 
-def _result(out: _Builder, place: int, same: int, result: Result, taken: str) -> None:
+def _status(result: Result) -> str:
+    """OBX-11. A final result without a value couldn't be obtained."""
+    status = _STATUS.get(result.status, "P")
+    return "X" if status == "F" and not result.value else status
+
+
+def _result(told: Told, place: int, result: Result, taken: str) -> Iterator[str]:
     kind, value = _value(result.value)
     usual = range_of(result.range)
-    out.add(
+    yield segment(
         "OBX",
         {
             1: str(place),
             2: kind,
-            3: [result.code, result.name, "L"],
-            4: str(same or ""),
+            3: [result.code, result.name, _system(result.system)],
+            4: str(result.turn or ""),
             5: value,
-            6: result.unit,
+            6: [result.ucum, result.unit, "UCUM"] if result.ucum else result.unit,
             7: result.range if usual is None else usual.text(),
-            8: [[one] for one in result.flags],
-            10: result.nature,
-            11: _STATUS.get(result.status, "P"),
+            8: [[one] for one in result.flags if one in _FLAGS],
+            10: result.nature if result.nature in _NATURES else "",
+            11: _status(result),
             14: taken,
             16: result.operator,
             18: result.instrument,
-            19: result.at,
+            19: told.at(result.at),
         },
     )
-    known = [] if result.status in _STATUS else [Comment("I", f"the analyzer's status is {result.status}")]
-    _notes(out, [*result.comments, *known])
+    told_so = [f"flag {one}" for one in result.flags if one not in _FLAGS]
+    told_so += [] if result.status in _STATUS else [f"the analyzer's status is {result.status}"]
+    yield from _notes([*result.comments, *(Comment("I", one) for one in told_so)])
 
 
 def _value(text: str) -> "tuple[str, Field]":
@@ -206,21 +321,27 @@ def _value(text: str) -> "tuple[str, Field]":
     return ("ST" if len(text) <= _ST else "TX"), text
 
 
-def _notes(out: _Builder, comments: Sequence[Comment]) -> None:
+def _notes(comments: Sequence[Comment]) -> Iterator[str]:
     for number, one in enumerate(comments, 1):
-        out.add("NTE", {1: str(number), 2: one.source if one.source in ("L", "P") else "O", 3: one.text})
+        yield segment("NTE", {1: str(number), 2: one.source if one.source in ("L", "P") else "O", 3: one.text})
+
+
+#: What of an answer's codes is said: its texts may say what a patient's message says.
+_CODE = re.compile(r"[A-Za-z0-9^._-]{1,20}$")
 
 
 def acknowledgement(data: bytes) -> "Optional[tuple[str, str, str]]":
     """The code of an answer (MSA-1), the control id that it is for (MSA-2), and the codes of its error (ERR-3, ERR-2);
-    None if it can't be read. Its texts are left out, since they may say what a patient's message says."""
-    hl7 = library()
-    try:
-        message = hl7.parse(data.decode("utf-8", "replace"))
-        msa = message.segment("MSA")
-        code, control = str(msa(1)).strip(), str(msa(2)).strip() if len(msa) > 2 else ""
-        errors = [one for one in message if str(one(0)) == "ERR"]
-        cells = [str(errors[0](at)) if errors and len(errors[0]) > at else "" for at in (3, 2)]
-        return code, control, " at ".join(cell for cell in (cells[0].split("^")[0], cells[1]) if cell)
-    except Exception:  # whatever the library makes of bytes that are no message
+    None if it can't be read. Its segments may end in CR, LF or both."""
+    rows = [row.strip() for row in re.split(r"[\r\n]+", data.decode("utf-8", "replace"))]
+    heads = [row for row in rows if re.match(r"MSH[^\w\s]", row)]
+    if not heads:
         return None
+    found = {row[:3]: row.split(heads[0][3]) for row in reversed(rows)}
+    msa, error = found.get("MSA", []), found.get("ERR", [])
+    if len(msa) < 2:
+        return None
+    cells = [error[3].split("^")[0] if len(error) > 3 else "", error[2] if len(error) > 2 else ""]
+    told = " at ".join(cell.strip() for cell in cells if _CODE.match(cell.strip()))
+    code = msa[1].strip()
+    return code if _CODE.match(code) else "", msa[2].strip() if len(msa) > 2 else "", told

@@ -1,14 +1,58 @@
-"""What a message says, in the terms that other systems share: patients, orders with their results, and comments."""
+"""What a message says, in the terms that other systems share: patients, orders with their results, and comments. A
+message of which this can't be said surely is quarantined: nothing of it goes out."""
+import codecs
 import datetime
 import re
-from typing import Iterator, List, NamedTuple, Optional
+import zoneinfo
+from collections import Counter
+from typing import Dict, Iterator, List, Mapping, NamedTuple, Optional, Tuple
 
-from ..host.deliver import Refused
+from ..host.options import LETTERS, TWICE
 from ..host.store import Stored
 from ..message import Entry, Fault, Message, read_all
+from ..rows import Row
+from ..watch.unix import shown
+from .failures import Quarantined, Refused
+from .numbers import number_of
 
 #: A time as records have it: a date, and maybe a time of day.
-_TIME = re.compile(r"(\d{4})(\d\d)(\d\d)(?:(\d\d)(\d\d)(\d\d)?)?$", re.ASCII)
+_TIME = re.compile(r"(\d{4})(\d\d)(\d\d)(?:(\d\d)(?:(\d\d)(\d\d)?)?)?$", re.ASCII)
+#: Report types of an order (LIS02-A2, 9.4.26) that say something of it, also without a result.
+REPORTS = "CPFXIYZ"
+#: Letters of one byte, in which UTF-8 can be read without a fault. The most records of a message.
+_ONE_BYTE, MOST_RECORDS = ("iso8859", "cp125", "koi8", "ascii"), 250_000
+
+
+class Reading(NamedTuple):
+    """How a line's records are read: its settings, as a file of lines has them. Empty ones are not given."""
+
+    sample: str = ""
+    test: str = ""
+    zone: str = ""
+    letters: str = ""
+    twice: str = ""
+    #: That of the line now. A message goes by the one that it came with, unless its letters aren't of that.
+    encoding: str = ""
+
+
+class Coding(NamedTuple):
+    """What a table of codes says of a test: the laboratory's code with its system, the unit's code in UCUM, and the
+    field that came."""
+
+    code: str
+    system: str = ""
+    ucum: str = ""
+    field: str = ""
+
+
+class Coded(NamedTuple):
+    """A message as it goes out by a table of codes: how it is read, what the table says of the tests of its records, by
+    the record's number in the message and the test's place in it, and how many results it leaves out."""
+
+    one: Stored
+    reading: Reading = Reading()
+    codings: Mapping[Tuple[int, int], Coding] = {}
+    left_out: int = 0
 
 
 class Comment(NamedTuple):
@@ -19,12 +63,14 @@ class Comment(NamedTuple):
 
 
 class Result(NamedTuple):
-    """A result, each field as text, and its record."""
+    """A result, each field as text without blanks around it, and how often its order had its code before."""
 
     code: str
     name: str
+    system: str
     value: str
     unit: str
+    ucum: str
     range: str
     flags: List[str]
     nature: str
@@ -33,26 +79,33 @@ class Result(NamedTuple):
     at: str
     instrument: str
     comments: List[Comment]
+    #: The whole field of the test, and which one of its code this is: 0 if its code is there once.
+    field: str
+    turn: int
 
 
 class Ordered(NamedTuple):
-    """An order with its results."""
+    """An order: its record, the sample, the instrument's sample, its tests, and whether it is a control."""
 
     record: Entry
     sample: str
     instrument_sample: str
-    tests: List[str]
+    tests: List[Coding]
     control: bool
-    results: List[Result]
     comments: List[Comment]
 
 
 class Case(NamedTuple):
-    """A patient with orders; without a record for orders below a query."""
+    """What goes out together: the orders of a patient; or, without a patient, controls, or orders below a query."""
 
-    record: Optional[Entry]
+    patient: Optional[Entry]
     orders: List[Ordered]
     comments: List[Comment]
+
+    @property
+    def is_control(self) -> bool:
+        """Whether these are controls."""
+        return self.orders[0].control
 
 
 def message_of(one: Stored) -> Message:
@@ -64,20 +117,214 @@ def message_of(one: Stored) -> Message:
     raise Refused(f"message {one.number} has no records")
 
 
-def cases_of(message: Message) -> List[Case]:
-    """The patients of a message that have results."""
-    found = []
-    for entry in message.entries:
-        if entry.letter in "PQ":
-            orders = [_ordered(message, order) for order in entry.orders if order.results]
-            if orders:
-                found.append(Case(entry if entry.letter == "P" else None, orders, comments_of(entry)))
+class Told:
+    """A message as another system gets it: its cases; `Quarantined` if they can't be said surely."""
+
+    def __init__(self, coded: Coded) -> None:
+        if coded.one.body.count(b"\r") > MOST_RECORDS:
+            raise Quarantined(f"it has more than {MOST_RECORDS} records")
+        self.one, self.reading, self._codings = coded.one, coded.reading, coded.codings
+        self.marks = marks_of(self.one)
+        #: The tests of results, by the records' numbers.
+        self._tests: Dict[int, Tuple[str, str, Coding]] = {}
+        self._look_at_letters()
+        self.message = message_of(self.one)
+        #: How many orders are left out, since nothing is said of them; how many codes are twice in an order.
+        self.orders_left_out = self.twice = 0
+        self.cases = [case for entry in self.message.entries if entry.letter in "PQ" for case in self._cases(entry)]
+
+    def _look_at_letters(self) -> None:
+        why = letters_fault(self.one.body, self.one.encoding)
+        if why and self.reading.letters != LETTERS[1]:
+            raise Quarantined(why)
+        self.has_other_letters = bool(why)
+        self.marks += [why] if why else []
+
+    def _cases(self, above: Entry) -> Iterator[Case]:
+        """The case of a patient or a query, and that of the controls below it, which are of no patient."""
+        told = [one for one in above.orders if one.results or comments_of(one) or report_of(one)]
+        self.orders_left_out += len(above.orders) - len(told)
+        orders = [self._ordered(one, above) for one in told]
+        own, controls = [[one for one in orders if one.control is of] for of in (False, True)]
+        if own:
+            yield Case(above if above.letter == "P" else None, own, comments_of(above))
+        if controls:
+            yield Case(None, controls, [])
+
+    def _ordered(self, record: Entry, above: Entry) -> Ordered:
+        sample, why = sample_of(record, above, self.reading)
+        if not why and not sample and not (above.letter == "P" and identities_of(above)):
+            why = "neither a sample nor a patient is named"
+        if why:
+            raise Quarantined(f"order, record {record.number} of the message: {why}")
+        self._check(record)
+        tests = []
+        for at in range(len(record.row.field(5))):
+            coding = self._codings.get((record.number, at)) or Coding(code_of(record, 5, at, self.reading))
+            tests += [coding] if coding.code else []
+        other = record.row.field(4)
+        instrument = record.text(4).strip() if len(other) == 1 and len(other[0]) == 1 else ""
+        control = is_control(self.message, record)
+        return Ordered(record, sample, "" if instrument == sample else instrument, tests, control, comments_of(record))
+
+    def _check(self, order: Entry) -> None:
+        """Whether each result has its test, and no test two contents."""
+        seen: Dict[str, Tuple[str, str, str]] = {}
+        for entry in order.results:
+            code, field, _ = self._test(entry)
+            content = (field, content_of(entry, 4), content_of(entry, 5))
+            if not code:
+                raise Quarantined(f"result, record {entry.number} of the message: no test is named")
+            first = seen.setdefault(code, content)
+            if first[1:] == content[1:]:
+                continue
+            self.twice += 1
+            merged = first[0] != field and self.reading.twice != TWICE[1]
+            if merged or self.reading.twice == TWICE[0]:
+                why = "out of different fields R-3" if merged else "with different values"
+                raise Quarantined(f"order, record {order.number} of the message: {shown(code)} is there twice, {why}")
+
+    def _test(self, entry: Entry) -> Tuple[str, str, Coding]:
+        """The code of a result, its whole field, and what the table says of it."""
+        found = self._tests.get(entry.number)
+        if found is None:
+            parts = parts_of(entry, 3)
+            coding = self._codings.get((entry.number, 0)) or Coding(code_among(parts, self.reading))
+            found = self._tests[entry.number] = coding.code, coding.field or "^".join(parts), coding
+        return found
+
+    def results(self, order: Ordered) -> Iterator[Result]:
+        """The results of an order."""
+        total = Counter(self._test(entry)[0] for entry in order.record.results)
+        turns: "Counter[str]" = Counter()
+        for entry in order.record.results:
+            code, field, coding = self._test(entry)
+            turns[code] += 1
+            yield self._result(entry, coding, field, turns[code] if total[code] > 1 else 0)
+
+    def _result(self, entry: Entry, coding: Coding, field: str, turn: int) -> Result:
+        parts = parts_of(entry, 3)
+        name = parts[1] if len(parts) == 4 and parts[1] != coding.code else ""
+        flags = [entry.text(7, at).strip() for at in range(len(entry.row.field(7)))]
+        return Result(
+            coding.code,
+            name,
+            coding.system,
+            content_of(entry, 4),
+            content_of(entry, 5),
+            coding.ucum,
+            content_of(entry, 6),
+            [one for one in flags if one],
+            field_text(entry, 8),
+            field_text(entry, 9),
+            entry.text(11).strip(),
+            time_of(entry.text(13)) or time_of(entry.text(12)),
+            entry.text(14).strip() or self.message.header.text(5).strip(),
+            comments_of(entry),
+            field,
+            turn,
+        )
+
+    def at(self, text: str) -> str:
+        """A time in the form of HL7, with the line's zone if it has one; empty for anything else."""
+        text, moment = time_of(text), moment_of(text)
+        if moment is None or len(text) == 8 or not self.reading.zone:
+            return text
+        return text + moment.replace(tzinfo=zoneinfo.ZoneInfo(self.reading.zone)).strftime("%z")
+
+    def iso(self, text: str) -> str:
+        """The same in the form of ISO 8601, which has no time of day without a zone: then it is the date."""
+        text, moment = time_of(text), moment_of(text)
+        if moment is None:
+            return ""
+        if len(text) < 12 or not self.reading.zone:
+            return moment.date().isoformat()
+        return moment.replace(tzinfo=zoneinfo.ZoneInfo(self.reading.zone)).isoformat()
+
+
+def is_control(message: Message, order: Entry) -> bool:
+    """Whether an order, or its whole message, is a control, and no sample of a patient."""
+    return "Q" in (order.text(12).strip().upper(), message.header.text(12).strip().upper())
+
+
+def report_of(order: Entry) -> str:
+    """The report type of an order that says something also without a result; empty for any other."""
+    word = order.text(26).strip().upper()
+    return word if len(word) == 1 and word in REPORTS else ""
+
+
+def identities_of(patient: Entry) -> Dict[int, str]:
+    """A patient's identities by their fields: the practice's (3), the laboratory's (4), and the third (5)."""
+    found = {field: field_text(patient, field) for field in (3, 4, 5)}
+    return {field: text for field, text in found.items() if text}
+
+
+def parts_of(entry: Entry, field: int, repeat: int = 0) -> List[str]:
+    """The components of a field without blanks around them, up to the last one that isn't empty."""
+    if not repeat and _is_plain(entry.row, field):
+        text = entry.row.written(field).decode(entry.encoding, "replace").strip()
+        return [text] if text else []
+    repeats = entry.row.field(field)
+    parts = repeats[repeat] if repeat < len(repeats) else []
+    found = [part.decode(entry.encoding, "replace").strip() for part in parts]
+    while found and not found[-1]:
+        found.pop()
     return found
+
+
+def _is_plain(row: Row, field: int) -> bool:
+    """Whether a field is one text as it came: without repeats, components and escapes."""
+    data = row.written(field)
+    return not any(mark in data for mark in row.delimiters[1:])
+
+
+def code_of(entry: Entry, field: int, repeat: int = 0, reading: Reading = Reading()) -> str:
+    """The code of a test: the components that the line's setting names; without one the maker's code if nothing is
+    after it (LIS02-A2, 6.6.1), else the whole field, so that two tests never have one code."""
+    return code_among(parts_of(entry, field, repeat), reading)
+
+
+def code_among(parts: List[str], reading: Reading) -> str:
+    """The same, of the components of a field."""
+    if reading.test:
+        places = [int(one) - 1 for one in reading.test.split("^")]
+        return "^".join(parts[at] if at < len(parts) else "" for at in places).strip("^")
+    return parts[3] if len(parts) == 4 else "^".join(parts)
+
+
+def sample_of(order: Entry, patient: Optional[Entry], reading: Reading = Reading()) -> Tuple[str, str]:
+    """The sample of an order, and why it isn't sure. Without a setting it is O-3, or O-4 if that is empty; which one of
+    several components it is, no one can say: one may be the rack."""
+    if reading.sample == "none":
+        return "", ""
+    if reading.sample:
+        letter, field, component = (reading.sample.split(".") + [""])[:3]
+        entry = order if letter == "O" else patient
+        repeats = entry.row.field(int(field)) if entry is not None else []
+        if entry is None or len(repeats) > 1 or (not component and repeats and len(repeats[0]) > 1):
+            return _whole(order, int(field)), f"{reading.sample} is not one sample"
+        text = entry.text(int(field), 0, int(component or 1) - 1).strip()
+        return text, "" if text else f"{reading.sample}, the sample, is empty"
+    for number in (3, 4):
+        repeats = order.row.field(number)
+        text = _whole(order, number)
+        if text and (len(repeats) > 1 or len(repeats[0]) > 1):
+            return text, f"which part of O-{number} is the sample? The line needs a setting, as sample = O.{number}.1"
+        if text:
+            return text, ""
+    return "", "the sample is missing: O-3 and O-4 are empty"
+
+
+def _whole(entry: Entry, field: int) -> str:
+    """A field as one text; empty if it has delimiters alone."""
+    is_there = any(part.strip() for repeat in entry.row.field(field) for part in repeat)
+    return field_text(entry, field) if is_there else ""
 
 
 def comments_of(entry: Entry) -> List[Comment]:
     """The comments on a record."""
-    return [Comment(one.text(3), text_of(one, 4)) for one in entry.notes if one.letter == "C"]
+    found = [Comment(one.text(3), field_text(one, 4)) for one in entry.notes if one.letter == "C"]
+    return [one for one in found if one.text]
 
 
 def marks_of(one: Stored) -> List[str]:
@@ -88,69 +335,60 @@ def marks_of(one: Stored) -> List[str]:
 
 def text_of(entry: Entry, field: int) -> str:
     """A field as its text; with components or repeats as `whole` has it."""
+    if _is_plain(entry.row, field):
+        return entry.row.written(field).decode(entry.encoding, "replace")
     parts = entry.parts(field)
     return parts if isinstance(parts, str) else entry.whole(field)
 
 
-def code_of(entry: Entry, field: int) -> str:
-    """The code of a test: the maker's (the fourth component), else the whole field."""
-    return entry.text(field, 0, 3) or entry.whole(field)
+def field_text(entry: Entry, field: int) -> str:
+    """The same without blanks around it."""
+    return text_of(entry, field).strip()
 
 
-def _ordered(message: Message, entry: Entry) -> Ordered:
-    repeats = range(len(entry.row.field(5)))
-    tests = [entry.text(5, at, 3) or entry.text(5, at) for at in repeats]
-    control = "Q" in (entry.text(12), message.header.text(12))
-    results = [_result(message, one) for one in entry.results]
-    samples = entry.text(3), entry.text(4)
-    return Ordered(entry, *samples, [one for one in tests if one], control, results, comments_of(entry))
+def content_of(entry: Entry, field: int) -> str:
+    """The same of a value, a unit or a range: alone if other components are empty, and two numbers as a range."""
+    parts = parts_of(entry, field) if len(entry.row.field(field)) == 1 else []
+    filled = [part for part in parts if part]
+    if len(filled) == 1:
+        return filled[0]
+    is_range = field == 6 and len(parts) == 2 and all(number_of(part) for part in parts)
+    return "-".join(parts) if is_range else field_text(entry, field)
 
 
-def _result(message: Message, entry: Entry) -> Result:
-    code = entry.text(3, 0, 3)
-    name = entry.text(3, 0, 1)
-    code = code or entry.text(3) or name
-    flags = [entry.text(7, at) for at in range(len(entry.row.field(7)))]
-    return Result(
-        code,
-        name if name != code else "",
-        text_of(entry, 4),
-        text_of(entry, 5),
-        text_of(entry, 6),
-        [one for one in flags if one],
-        entry.text(8),
-        entry.text(9),
-        entry.text(11),
-        time_of(entry.text(13)) or time_of(entry.text(12)),
-        entry.text(14) or message.header.text(5),
-        comments_of(entry),
-    )
+def letters_fault(body: bytes, encoding: str) -> str:
+    """Why the letters of a message aren't of its encoding; empty if they may be."""
+    try:
+        body.decode(encoding)
+    except UnicodeDecodeError as error:
+        return f"byte {error.start} of the message is no letter of {encoding}, the line's encoding"
+    if body.isascii() or not codecs.lookup(encoding).name.startswith(_ONE_BYTE):
+        return ""
+    try:
+        body.decode("utf-8")
+    except UnicodeDecodeError:
+        return ""
+    return f"its letters are those of UTF-8, and the line's encoding is {encoding}"
+
+
+def in_its_letters(one: Stored, reading: Reading) -> Stored:
+    """A message in the encoding that its line has now, if its letters are of that and not of the one it came with."""
+    if not reading.encoding or not letters_fault(one.body, one.encoding):
+        return one
+    return one if letters_fault(one.body, reading.encoding) else one._replace(encoding=reading.encoding)
 
 
 def time_of(text: str) -> str:
     """A date or a time as records have it; empty for anything else."""
-    return text if _moment(text) is not None else ""
+    text = text.strip()
+    return text if moment_of(text) is not None else ""
 
 
-def iso_of(text: str) -> str:
-    """The same in the form of ISO 8601. A time of day is in this machine's zone, since records have none."""
-    at = _moment(text)
-    if at is None:
-        return ""
-    return at.date().isoformat() if len(text) == 8 else at.astimezone().isoformat()
-
-
-def _moment(text: str) -> Optional[datetime.datetime]:
-    found = _TIME.match(text)
+def moment_of(text: str) -> Optional[datetime.datetime]:
+    """What a time of a record means, which has no zone; None for anything else."""
+    found = _TIME.match(text.strip())
     year, month, day, hour, minute, second = [int(one or 0) for one in found.groups()] if found else [0] * 6
     try:
         return datetime.datetime(year, month, day, hour, minute, second)
     except ValueError:
         return None
-
-
-def all_results(cases: List[Case]) -> Iterator[Result]:
-    """The results of these patients."""
-    for case in cases:
-        for order in case.orders:
-            yield from order.results

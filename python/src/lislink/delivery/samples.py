@@ -1,22 +1,24 @@
 """The samples that a message is about: its order among others is kept by them."""
-from typing import FrozenSet
+import contextlib
+from typing import FrozenSet, Optional, Set
 
 from ..host.store import Stored
-from ..message import Entry, Found, read_all
+from ..message import Entry
+from ..records import MessageError, Reader
+from .results import Reading, parts_of, sample_of
 
 
-def samples_of(one: Stored) -> FrozenSet[str]:
-    """The samples of a message's orders, by their identity alone (the first component); none if it names none."""
-    found = set()
-    for each in read_all(one.body, one.encoding):
-        if isinstance(each, Found):
-            for entry in each.message.entries:
-                if entry.letter == "O":
-                    found |= _named(entry, 3) or _named(entry, 4)
-    return frozenset(found)
-
-
-def _named(entry: Entry, field: int) -> "set[str]":
-    """The specimen's identity in a field of an order, one for each repeat."""
-    repeats = entry.row.field(field)
-    return {text for text in (entry.text(field, at).strip() for at in range(len(repeats))) if text}
+def samples_of(one: Stored, reading: Reading = Reading()) -> FrozenSet[str]:
+    """The samples of a message's orders, as the line's settings have them; the whole field where that isn't sure, and a
+    patient's identity where there is no sample. None if it names none. A record is read at a time, so that a message
+    that is too large for a delivery isn't for this."""
+    found: Set[str] = set()
+    above: Optional[Entry] = None
+    with Reader() as reader, contextlib.suppress(MessageError):
+        for row in reader.feed(one.body):
+            if row.letter in "PQ":
+                above = Entry(row, 0, one.encoding)
+            elif row.letter == "O" and above is not None:
+                text = sample_of(Entry(row, 0, one.encoding), above, reading)[0]
+                found.update((text or "^".join(parts_of(above, 3) or parts_of(above, 4))).split("\\"))
+    return frozenset(found - {""})

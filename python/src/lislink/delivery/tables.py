@@ -1,18 +1,20 @@
-"""The tables of codes by which messages go out: that of a line, as a file of lines names it, and one for all others. A
-delivery that goes on reads them again when they changed."""
+"""By what messages go out: the settings of each line and its table of codes, as a file of lines has them, and a table
+for all other lines. A delivery that goes on reads them again when they changed."""
 import os
 from typing import Callable, Dict, List, NamedTuple, Optional, Sequence, Tuple
 
 from ..host.lines import LinesError, read_lines
 from ..host.options import ANY, OptionError
 from ..host.store import WHOLE, Stored
-from .codes import Codes, codes_of
+from .codes import Codes, read_codes
+from .results import Coded, Reading, in_its_letters
 
 
 class _Read(NamedTuple):
-    """The tables of lines by the lines' names, and that of all others."""
+    """The tables of lines and how their records are read, by the lines' names, and the table of all others."""
 
     lines: Dict[str, Codes]
+    readings: Dict[str, Reading]
     others: Optional[Codes]
 
 
@@ -38,7 +40,17 @@ class Tables:
             self._paths = paths  # what is new was read before it was looked at
         if found and found.faults:
             raise LinesError("\n".join(found.faults))
-        return _Read(found.tables if found else {}, codes_of(self._codes) if self._codes else None)
+        places = found.places if found else []
+        readings = {one.name: Reading(*(getattr(one, name) for name in Reading._fields)) for one in places}
+        tables = dict(found.tables) if found else {}
+        if not self._codes:
+            return _Read(tables, readings, None)
+        others = read_codes(self._codes)
+        if others.faults:
+            raise OptionError(others.faults[0])
+        for name, reading in readings.items():
+            tables.setdefault(name, Codes(others.codes, reading.test))
+        return _Read(tables, readings, Codes(others.codes))
 
     def _look(self) -> None:
         """Reads them again if a file changed."""
@@ -52,12 +64,17 @@ class Tables:
                 self._say(row)
             self._say("the tables of codes stay as they were")
 
-    def applied(self, one: Stored) -> Stored:
-        """A message by the table of its line; as it is, if that has none or the message isn't whole. It fails as
-        `applied` of a table does."""
+    def reading(self, line: str) -> Reading:
+        """How the records of a line are read."""
+        return self._read.readings.get(line, Reading())
+
+    def applied(self, one: Stored) -> Coded:
+        """A message by the settings and the table of its line; as it is, if that has none or the message isn't whole.
+        It fails as `applied` of a table does."""
         self._look()
-        table = self._read.lines.get(one.line, self._read.others)
-        return one if table is None or one.state != WHOLE else table.applied(one)
+        reading, table = self.reading(one.line), self._read.lines.get(one.line, self._read.others)
+        one = in_its_letters(one, reading)
+        return Coded(one, reading) if table is None or one.state != WHOLE else table.applied(one, reading)
 
 
 def _states_of(paths: Sequence[str]) -> List[Optional[Tuple[int, ...]]]:
@@ -73,8 +90,8 @@ def _state_of(path: str) -> Optional[Tuple[int, ...]]:
     return found.st_mtime_ns, found.st_size, found.st_dev, found.st_ino
 
 
-def coder_of(
+def tables_of(
     codes: Optional[str], lines: Optional[str], say: Optional[Callable[[str], None]] = None
-) -> Optional[Callable[[Stored], Stored]]:
-    """What makes a message by the tables of a command's files; None if it names none."""
-    return Tables(codes, lines, say).applied if codes or lines else None
+) -> Optional[Tables]:
+    """The tables of a command's files; None if it names none."""
+    return Tables(codes, lines, say) if codes or lines else None

@@ -137,7 +137,7 @@ class Replay:
             self._put(self._station.timer().send)  # it asks again
             return
         try:
-            self._put(self._station.start([b"."] * max(1, self._frames(place))))
+            self._put(self._station.start([b"."] * max(1, self._frames(place)), is_quiet=True))
             self.sessions += 1
         except LinkError:
             pass  # the line is the analyzer's: its ENQ is a difference

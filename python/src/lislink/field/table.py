@@ -53,16 +53,21 @@ def _nested_component(entry: Entry, number: int, component: int) -> str:
 
 
 def columns_of(
-    names: List[str], sample_from: int = 3, nested: bool = False, orders: bool = False
+    names: List[str],
+    sample_from: int = 3,
+    nested: bool = False,
+    orders: bool = False,
+    usual: "Optional[Dict[str, Callable[[Where], Any]]]" = None,
 ) -> List[Column]:
     """Columns by their names: those of USUAL, `R.4`, `O.3`, `P.6`, `H.5`, `R.3.4` (a component, from 1), the standard's
     names such as `result.operator`, and each with a heading of its own before `=`. Nested ones have lists where a field
-    has components or repeats. A table of orders has those of OF_ORDERS, and none of results."""
+    has components or repeats. A table of orders has those of OF_ORDERS, and none of results. `usual` says how some of
+    the usual ones are made."""
     field: Field = _nested if nested else _flat
     part: Component = _nested_component if nested else _flat_component
-    usual: Dict[str, Callable[[Where], Any]] = {
+    known: Dict[str, Callable[[Where], Any]] = {
         "sample": lambda where: field(where[2], sample_from),
-        "patient": lambda where: next((text for text in (field(where[1], one) for one in (3, 4, 5)) if text), ""),
+        "patient": lambda where: _patient(where[1], field),
         "test": lambda where: part(where[3], 3, 3) or field(where[3], 3),  # the maker's code, else the whole field
         "value": lambda where: field(where[3], 4),
         "unit": lambda where: field(where[3], 5),
@@ -78,18 +83,25 @@ def columns_of(
         "action": lambda where: field(where[2], 12),
         "report": lambda where: field(where[2], 26),
     }
+    known.update(usual or {})
     if orders:
-        usual = {name: usual[name] for name in OF_ORDERS}
+        known = {name: known[name] for name in OF_ORDERS}
     told = []
     for name in names:
         heading, _, source = name.rpartition("=")
-        if source in usual:
-            told.append(Column(heading or source, usual[source]))
+        if source in known:
+            told.append(Column(heading or source, known[source]))
         else:
             if orders and source[:2] in ("R.", "re"):
                 raise TableError(f"{source}: an order has no result")
             told.append(Column(heading or source, _of_field(source, field, part)))
     return told
+
+
+def _patient(above: Entry, field: Field) -> Any:
+    """The patient's first identity; none of a query."""
+    texts = (field(above, one) for one in (3, 4, 5)) if above.letter == "P" else ()
+    return next((text for text in texts if text), "")
 
 
 def _of_field(source: str, field: Field, component: Component) -> Callable[[Where], Any]:

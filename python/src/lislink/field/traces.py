@@ -263,7 +263,7 @@ def _marked(
     if grammar.name == "words":
         _no_text_around(pieces)
         pieces = _with_line_ends(pieces, remarks)
-    return Log("trace-" + grammar.name, pieces, remarks)
+    return Log("trace", pieces, remarks)
 
 
 def _has_bytes(line: str) -> bool:
@@ -410,7 +410,7 @@ def with_control_bytes(data: bytes) -> Optional[Log]:
         bare = body[: -len(end_of_line)] if body.endswith(end_of_line) else body
         # Where a frame's own CR LF ends the line, the log has no other.
         pieces.append(Piece(time, side, body if re.search(rb"[\x03\x17][0-9A-Fa-f]{2}\r?\Z", bare) else bare))
-    return Log("trace-bytes", pieces, left_out([at for at, row in enumerate(before.split(b"\n"), 1) if row.strip()]))
+    return Log("trace", pieces, left_out([at for at, row in enumerate(before.split(b"\n"), 1) if row.strip()]))
 
 
 def _goes_on(line: str, grammar: Grammar, pieces: List[Piece]) -> bool:
@@ -495,7 +495,7 @@ def _named(read: List[Tuple[int, str]], grammar: Grammar, others: List[Tuple[int
     for number, line in left:
         if holds_bytes(line):
             raise LogError(f"bytes that can't be read: {line[:60]!r}", number)
-    return Log("trace-" + grammar.name, pieces, left_out(sorted(number for number, _ in left)))
+    return Log("trace", pieces, left_out(sorted(number for number, _ in left)))
 
 
 #: What is before the bytes of a line without a direction: a time, a counter.
@@ -537,7 +537,7 @@ def _unmarked(lines: List[str], grammar: Grammar) -> Log:
         _no_text_around(pieces)
     remarks = [f"no line has a direction: {how}"]
     remarks += left_out([number for number, _ in left])
-    return Log("trace-" + grammar.name, pieces, remarks)
+    return Log("trace", pieces, remarks)
 
 
 def _without_sides(lines: List[str], grammar: Grammar) -> Tuple[List[Piece], str]:

@@ -9,17 +9,21 @@ import re
 import shlex
 import socket
 import sys
+from collections import Counter
 from typing import Any, Callable, ContextManager, Iterator, List, Optional, Sequence, Union
 
 from .._library import calls
-from ..delivery.tables import coder_of
+from ..delivery.failures import Quarantined
+from ..delivery.tables import tables_of
+from ..field import table
 from ..field.table import form_of
 from ..orders.book import open_book
 from ..watch.unix import shown, socket_of
 from . import asker, export, lines, options, send, serve, status
-from .outbox import Outbox
 from .files import Output, writing
+from .left import left_of
 from .options import Limits, Network, OptionError, Place
+from .outbox import Outbox
 from .said import say
 from .store import UNFINISHED, UNREADABLE, WHOLE, open_store
 
@@ -144,8 +148,9 @@ def run_serve(ask: argparse.Namespace) -> int:
     try:
         left = store.start(ask.host_name)
         if left:
-            say(f"{left} messages were open when the host stopped: they are unfinished")
-        asyncio.run(serve.serve(asked, store))
+            say(f"{len(left)} messages were open when the host stopped: they are unfinished")
+        ends = left_of(store, left, {place.name: place.mend for place in asked.places})
+        asyncio.run(serve.serve(asked, store, ends))
     finally:
         store.close()
     return GOOD
@@ -332,7 +337,7 @@ def run_status(ask: argparse.Namespace) -> int:
         data = status.data_of(store, status.read_state(state_file(ask.store, ask.status)), ask.cursor)
     finally:
         store.close()
-    sys.stdout.write(json.dumps(data, ensure_ascii=False) + "\n" if ask.json else status.text_of(data))
+    sys.stdout.write(json.dumps(data) + "\n" if ask.json else status.text_of(data))
     return GOOD if data["running"] and status.is_fresh(data["state_age"]) else WRONG
 
 
@@ -343,43 +348,72 @@ def _add_export(one: argparse.ArgumentParser) -> None:
     one.add_argument(
         "--after", type=_PLACE, default=0, metavar="NUMBER", help="whole messages with a greater number"
     )
-    one.add_argument("--line", metavar="NAME", help="of this line alone")
     one.add_argument("--state", choices=(WHOLE, UNFINISHED, UNREADABLE, "all"), default=WHOLE, help="(%(default)s)")
-    one.add_argument("--without-repeats", action="store_true", help="leave out messages that came again")
-    add_tables(one)
+    add_forms(one)
     one.add_argument("-o", "--output", metavar="FILE")
     one.set_defaults(run=run_export)
 
 
-def add_tables(one: argparse.ArgumentParser) -> None:
-    """The options that name tables of codes."""
+def add_forms(one: argparse.ArgumentParser) -> None:
+    """The options that say which messages are written, and how."""
+    one.add_argument("--line", metavar="NAME", help="of this line alone")
+    one.add_argument("--without-repeats", action="store_true", help="leave out messages that came again")
     what = "the laboratory's codes and units, as lislab codes checks them; of lines that have no table of their own"
     one.add_argument("--codes", metavar="FILE", help=what)
-    one.add_argument("--lines", metavar="FILE", help="a file of lines, as serve has it: the table of codes of each")
+    file = "a file of lines, as serve has it: the settings and the table of codes of each"
+    one.add_argument("--lines", metavar="FILE", help=file)
+    one.add_argument("--controls", choices=("with", "without", "only"), default="with", help="(%(default)s)")
+    one.add_argument("--fields", metavar="NAMES", help="the columns of csv and tsv, as lislab table has them")
+    one.add_argument("--safe-cells", action="store_true", help="an apostrophe before cells of csv that are formulas")
+    names = "what the receiver wants: MSH-5=LIS, practice=HOSP PI, obr=test; more in HOST.md"
+    one.add_argument("--set", action="append", default=[], metavar="NAME=VALUE", help=names)
+
+
+def form_asked(ask: argparse.Namespace, form: str, said: Optional[Callable[[str], None]] = None) -> export.Form:
+    """How messages are written, as these options have it."""
+    from ..delivery.oru import wishes_of
+
+    fields = tuple(ask.fields.split(",")) if ask.fields else table.USUAL
+    if ask.fields and form not in ("csv", "tsv"):
+        raise OptionError(f"--fields are the columns of csv and tsv, and not of {form}")
+    try:
+        table.columns_of(list(fields))
+    except table.TableError as error:
+        raise OptionError(str(error)) from None
+    tables = tables_of(ask.codes, ask.lines, said)
+    return export.Form(form, tables, fields, ask.safe_cells, ask.controls, wishes_of(ask.set), counts=Counter())
 
 
 def run_export(ask: argparse.Namespace) -> int:
-    """Writes messages out of a store."""
+    """Writes messages out of a store; one that can't be said surely is named and left out."""
     try:
         since = None if ask.since is None else export.time_of(ask.since)
     except ValueError:
         raise OptionError(f"--since {ask.since}: a time is 2026-11-27 or 2026-11-27T10:30") from None
     states = [WHOLE, UNFINISHED, UNREADABLE] if ask.state == "all" else [ask.state]
     wanted = export.Wanted(states, ask.after, since, ask.line, not ask.without_repeats)
-    write = export.writer_of(ask.format, coder_of(ask.codes, ask.lines))
+    form = form_asked(ask, ask.format)._replace(is_strict=False)
+    write = export.writer_of(form)
     store = open_store(ask.store)
+    status = GOOD
     try:
         with _output(ask.output) as out:
             out.write(write(None))
             is_named = ask.line is None
             for one in export.wanted_of(store, wanted):
-                out.write(write(one))
                 is_named = True
+                try:
+                    out.write(write(one))
+                except Quarantined as error:
+                    say(f"message {one.number} {one.key} is left out: {error}")
+                    status = WRONG
         names = [] if is_named else [one.line for one in store.counts()]
     finally:
         store.close()
+    for text in export.counted_texts(form):
+        say(text)
     if is_named or ask.line in names:
-        return GOOD
+        return status
     say(f"{ask.store}: {shown(options.no_line(ask.line, names))}")
     return WRONG
 

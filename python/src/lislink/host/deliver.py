@@ -1,34 +1,34 @@
 """`lislab deliver`: whole messages out of a store to a command or a directory: in order, each at least once. What was
 delivered last is kept in a small file, so that a delivery that was stopped goes on where it was."""
+import contextlib
 import json
 import os
+import signal
 import subprocess
 import time
 from typing import Any, Callable, Dict, List, NamedTuple, Optional, Set
 
 from ..delivery.aside import Aside, Held, grant, wishes
+from ..delivery.failures import Quarantined, Refused, Unreachable
 from .export import Writer
-from .files import take_lock, write_synced
+from .files import take_lock, write_synced, write_unsynced
 from .store import Store, StoreError, Stored
 
 #: How long a store without new messages is left alone, and how long a delivery that failed waits: at first, at most.
 POLL, FIRST_WAIT, LONGEST_WAIT = 1.0, 1.0, 60.0
 
 
-#: Of so many messages a cursor says how long they took.
-TOOK = 200
-
-
-class Refused(Exception):
-    """A message could not be delivered."""
-
-
-class Unreachable(Refused):
-    """Nothing could be delivered now, whatever the message is: this isn't counted as its failure."""
+#: Of so many messages a cursor says how long they took. For so many seconds it may be ahead of the disk: a power cut
+#: makes the messages of that time come again, a process that ends doesn't.
+TOOK, SYNC = 200, 0.2
 
 
 class NotNoted(StoreError):
     """A message was delivered, and the cursor that says so can't be written."""
+
+
+class Stopped(BaseException):
+    """The delivery is asked to end."""
 
 
 class WrongStore(Exception):
@@ -38,15 +38,17 @@ class WrongStore(Exception):
 class Cursor:
     """The file that says which message was delivered last. Only one delivery has it."""
 
-    def __init__(self, path: str) -> None:
+    def __init__(self, path: str, say: Callable[[str], None] = lambda text: None) -> None:
         self.path = path
-        lock = take_lock(path + ".lock")
-        if lock is None:
-            raise StoreError(f"{path}: another delivery has this cursor")
-        self._lock = lock
+        #: The lock, which a command has too as long as it runs.
+        self.lock = _locked(path, say)
+        #: What is on the disk, and since when; whether more is delivered than that.
+        self._disk, self._synced, self._is_ahead = _read_number(path), -SYNC, False
         self.number, self.key = read_cursor(path)
         #: How long the last messages took from when they were kept, in seconds.
         self._took = read_took(path)
+        if (self.number, self.key) == self._disk:
+            _forget(path)
 
     def check(self, store: Store) -> None:
         """Whether the store has the message that was delivered last: else it isn't the same store any more."""
@@ -61,21 +63,85 @@ class Cursor:
         """This message is delivered."""
         assert one.number is not None
         took = [*self._took, round(max(0.0, time.time() - (one.ended or one.began)), 3)][-TOOK:]
-        data = {"number": one.number, "key": one.key, "took": took}
         try:
-            write_synced(self.path, (json.dumps(data) + "\n").encode())
+            if not self._disk[0] or time.monotonic() - self._synced >= SYNC:
+                self._sync(one.number, one.key, took)
+            else:
+                data = {"after": self._disk, "number": one.number, "key": one.key}
+                write_unsynced(self.path + ".ahead", (json.dumps(data) + "\n").encode())
+                self._is_ahead = True
         except OSError as error:
             why = f"{self.path}: {error.strerror or error}"
             raise NotNoted(f"{why}: message {one.number} {one.key} is done, and the cursor doesn't say so") from None
         self.number, self.key, self._took = one.number, one.key, took
 
+    def _sync(self, number: int, key: str, took: List[float]) -> None:
+        data = {"number": number, "key": key, "took": took}
+        write_synced(self.path, (json.dumps(data) + "\n").encode())
+        self._disk, self._synced, self._is_ahead = (number, key), time.monotonic(), False
+        _forget(self.path)
+
+    def settle(self) -> None:
+        """Brings what is delivered to the disk; one that can't be written is ahead of it, as it was."""
+        if self._is_ahead:
+            with contextlib.suppress(OSError):
+                self._sync(self.number, self.key, self._took)
+
     def close(self) -> None:
         """Gives the file back."""
-        os.close(self._lock)
+        self.settle()
+        os.close(self.lock)
+
+
+def _locked(path: str, say: Callable[[str], None]) -> int:
+    """The lock of a cursor. If the delivery that had it is gone and its command isn't, that is waited for; StoreError
+    if another delivery has it."""
+    is_said = False
+    while True:
+        lock = take_lock(path + ".lock")
+        if lock is not None:
+            os.ftruncate(lock, 0)
+            os.pwrite(lock, str(os.getpid()).encode(), 0)
+            return lock
+        if _is_there(path + ".lock"):
+            raise StoreError(f"{path}: another delivery has this cursor")
+        if not is_said:
+            say(f"{path}: a command of a delivery that was killed still runs, and is waited for")
+            is_said = True
+
+
+def _is_there(path: str) -> bool:
+    """Whether the process that a lock names is there."""
+    try:
+        with open(path, encoding="ascii") as file:
+            os.kill(int(file.read()), 0)
+    except (ProcessLookupError, FileNotFoundError):
+        return False
+    except (OSError, ValueError):
+        return True
+    return True
+
+
+def _forget(path: str) -> None:
+    """Takes away what a cursor was ahead of the disk."""
+    with contextlib.suppress(OSError):
+        os.unlink(path + ".ahead")
 
 
 def read_cursor(path: str) -> "tuple[int, str]":
     """The number and the key of the message that was delivered last; 0 if none was."""
+    disk = _read_number(path)
+    try:
+        with open(path + ".ahead", encoding="utf-8") as file:
+            data: Dict[str, Any] = json.load(file)
+        is_after = tuple(data["after"]) == disk and disk[0] > 0  # and not of a cursor that somebody put there
+        return (int(data["number"]), str(data["key"])) if is_after else disk
+    except (OSError, ValueError, KeyError, TypeError):
+        return disk
+
+
+def _read_number(path: str) -> "tuple[int, str]":
+    """What the file of a cursor says."""
     try:
         with open(path, encoding="utf-8") as file:
             data: Dict[str, Any] = json.load(file)
@@ -84,6 +150,50 @@ def read_cursor(path: str) -> "tuple[int, str]":
         return 0, ""
     except (OSError, ValueError, KeyError) as error:
         raise StoreError(f"{path}: {error}") from None
+
+
+class State(NamedTuple):
+    """How a delivery does: since when nothing goes, and why, or since when all is well; and what was counted since its
+    start."""
+
+    since: float = 0.0
+    why: str = ""
+    counts: Dict[str, int] = {}
+
+
+def read_state(cursor: str) -> State:
+    """How the delivery with this cursor did last."""
+    try:
+        with open(cursor + ".state", encoding="utf-8") as file:
+            data: Dict[str, Any] = json.load(file)
+        return State(float(data["since"]), str(data["why"]), {str(one): int(of) for one, of in data["counts"].items()})
+    except (OSError, ValueError, KeyError, TypeError, AttributeError):
+        return State()
+
+
+class _Notes:
+    """Writes how a delivery does, when that changes. It is for who looks: one that can't be written says nothing."""
+
+    def __init__(self, delivery: "Delivery") -> None:
+        self._path, self._counts = delivery.cursor.path + ".state", delivery.counts
+        self._state = State(0.0, " ")
+
+    def well(self) -> None:
+        """It goes."""
+        self._write("")
+
+    def failed(self, why: str) -> None:
+        """Nothing goes."""
+        self._write(why)
+
+    def _write(self, why: str) -> None:
+        counts = self._counts()
+        if (why, counts) == (self._state.why, self._state.counts):
+            return
+        is_as_before = bool(why) == bool(self._state.why.strip()) and self._state.since
+        self._state = State(self._state.since if is_as_before else time.time(), why, counts)
+        with contextlib.suppress(OSError):
+            write_unsynced(self._path, (json.dumps(self._state._asdict()) + "\n").encode())
 
 
 def read_took(path: str) -> List[float]:
@@ -95,26 +205,33 @@ def read_took(path: str) -> List[float]:
         return []
 
 
-def to_directory(folder: str, form: str, write: Writer) -> Callable[[Stored], None]:
+#: What delivers a message: whether there was something to hand over. Whether a message is to be delivered at all.
+Target = Callable[[Stored], bool]
+Wants = Callable[[Stored], bool]
+
+
+def to_directory(folder: str, form: str, write: Writer) -> Target:
     """Puts each message into a file of its own; one that is delivered again takes the same name."""
     os.makedirs(folder, 0o700, exist_ok=True)
 
-    def deliver(one: Stored) -> None:
-        data = (write(None) or b"") + write(one)
+    def deliver(one: Stored) -> bool:
+        data = write(one)
         if not data:
-            return
+            return False
         try:
-            write_synced(os.path.join(folder, f"{one.number:016}-{one.key}.{form}"), data)
+            write_synced(os.path.join(folder, f"{one.number:016}-{one.key}.{form}"), (write(None) or b"") + data)
         except OSError as error:
             raise Unreachable(str(error)) from None
+        return True
 
     return deliver
 
 
-def to_command(words: List[str], write: Writer, seconds: float) -> Callable[[Stored], None]:
-    """Runs a command with a message on its standard input; it took the message if it ends with status 0."""
+def to_command(words: List[str], write: Writer, seconds: float, lock: Optional[int] = None) -> Target:
+    """Runs a command with a message on its standard input; it took the message if it ends with status 0. The command
+    has the cursor's lock too: if this process is killed, the next delivery waits until the command ends."""
 
-    def deliver(one: Stored) -> None:
+    def deliver(one: Stored) -> bool:
         about = {
             "LISLAB_NUMBER": str(one.number),
             "LISLAB_KEY": one.key,
@@ -123,19 +240,34 @@ def to_command(words: List[str], write: Writer, seconds: float) -> Callable[[Sto
             "LISLAB_AGAIN_OF": one.again_of or "",
             "LISLAB_MENDED": one.reason,
         }
-        data = (write(None) or b"") + write(one)
+        data = write(one)
         if not data:
-            return
-        try:
-            done = subprocess.run(words, input=data, timeout=seconds, env={**os.environ, **about}, check=False)
-        except OSError as error:
-            raise Unreachable(str(error)) from None
-        except subprocess.TimeoutExpired as error:
-            raise Refused(str(error)) from None
-        if done.returncode:
-            raise Refused(f"{words[0]} ended with status {done.returncode}")
+            return False
+        status = _run(words, (write(None) or b"") + data, seconds, {**os.environ, **about}, lock)
+        if status:
+            raise Refused(f"{words[0]} ended with status {status}")
+        return True
 
     return deliver
+
+
+def _run(words: List[str], data: bytes, seconds: float, about: Dict[str, str], lock: Optional[int]) -> int:
+    """Runs a command in a group of its own, which is ended if it takes too long: its status."""
+    kept = () if lock is None else (lock,)
+    try:
+        child = subprocess.Popen(words, stdin=subprocess.PIPE, env=about, pass_fds=kept, start_new_session=True)
+    except OSError as error:
+        raise Unreachable(str(error)) from None
+    try:
+        child.communicate(data, timeout=seconds)
+        return child.returncode
+    except subprocess.TimeoutExpired as error:
+        raise Refused(str(error)) from None
+    finally:
+        if child.poll() is None:
+            with contextlib.suppress(ProcessLookupError):
+                os.killpg(child.pid, signal.SIGKILL)
+            child.wait()
 
 
 class Delivery(NamedTuple):
@@ -143,10 +275,13 @@ class Delivery(NamedTuple):
 
     store: Store
     cursor: Cursor
-    deliver: Callable[[Stored], None]
+    deliver: Target
     say: Callable[[str], None]
     sleep: Callable[[float], None] = time.sleep
     aside: Optional[Aside] = None
+    wants: Wants = lambda one: True
+    #: What it has counted.
+    counts: Callable[[], Dict[str, int]] = dict
 
 
 class _Round:
@@ -154,8 +289,8 @@ class _Round:
 
     def __init__(self, delivery: Delivery) -> None:
         self._to, self._aside, self._cursor = delivery, delivery.aside, delivery.cursor
-        #: How many messages are delivered, and how many are done with: delivered or set aside.
-        self.delivered = self.done = 0
+        #: How many messages are delivered, how many had nothing to hand over, and how many are done with.
+        self.delivered = self.empty = self.done = 0
         #: What is done with, and isn't noted in the cursor; which messages were sent again, and still are set aside.
         self._unnoted: Optional[Stored] = None
         self._sent: Set[str] = set()
@@ -171,10 +306,12 @@ class _Round:
         self._cursor.check(self._to.store)
         for one in self._to.store.messages(self._cursor.number, 100):
             found += 1
-            if self._aside is None or not self._aside.takes(one):
+            if self._to.wants(one) and (self._aside is None or not self._aside.takes(one)):
                 self._next(one)
             self._note(one)
             self.done += 1
+        if not found:
+            self._cursor.settle()
         return found
 
     def _note(self, one: Stored) -> None:
@@ -184,15 +321,33 @@ class _Round:
 
     def _next(self, one: Stored) -> None:
         """Delivers a message, or sets it aside."""
+        kept = self._aside
+        if kept is not None and not kept.begins(one):
+            self._to.say(f"message {one.number} {one.key} is set aside: each try ended the delivery itself")
+            return
         try:
-            self._to.deliver(one)
-            self.delivered += 1
-        except Unreachable:
+            self._handed(self._delivered(one))
+        except (Unreachable, Stopped):
+            if kept is not None:
+                kept.takes_back(one)
             raise
         except Refused as error:
-            if self._aside is None or not self._aside.failed(one, str(error)):
+            if kept is None or not (isinstance(error, Quarantined) or kept.failed(one, str(error))):
                 raise
+            if isinstance(error, Quarantined):
+                kept.quarantine(one, str(error))
             self._to.say(f"message {one.number} {one.key} is set aside: {error}")
+
+    def _delivered(self, one: Stored) -> bool:
+        """Delivers a message; whether there was something to hand over."""
+        try:
+            return self._to.deliver(one)
+        except MemoryError:
+            raise Refused("it takes more memory than there is") from None
+
+    def _handed(self, is_handed: bool) -> None:
+        self.delivered += is_handed
+        self.empty += not is_handed
 
     def again(self, key: str) -> bool:
         """Sends a message that is set aside, with those of its samples, in order; whether none of them is left. One
@@ -206,7 +361,7 @@ class _Round:
                 continue
             try:
                 if held.key not in self._sent:
-                    self._to.deliver(self._found(held))
+                    self._handed(self._delivered(self._found(held)))
             except Unreachable:
                 raise
             except Refused as error:
@@ -217,7 +372,6 @@ class _Round:
             self._sent.add(held.key)
             self._aside.sent(held)
             self._sent.remove(held.key)
-            self.delivered += 1
         return not {held.key for held in asked} & {held.key for held in self._aside.held}
 
     def _found(self, held: Held) -> Stored:
@@ -227,14 +381,22 @@ class _Round:
         return one
 
 
-def run(delivery: Delivery, once: bool) -> int:
-    """Delivers what there is, and then, unless it is to be done once, what comes: how many messages."""
-    one, wait, done = _Round(delivery), FIRST_WAIT, 0
+class Count(NamedTuple):
+    """How many messages were delivered, and how many had nothing to hand over."""
+
+    delivered: int
+    empty: int
+
+
+def run(delivery: Delivery, once: bool) -> Count:
+    """Delivers what there is, and then, unless it is to be done once, what comes."""
+    one, notes, wait, done = _Round(delivery), _Notes(delivery), FIRST_WAIT, 0
     while True:
         failed: Optional[str] = None
-        found = 0
+        found, least = 0, 0.0
         try:
             found = one.run()
+            notes.well()
         except NotNoted as error:
             if once:
                 raise
@@ -242,17 +404,19 @@ def run(delivery: Delivery, once: bool) -> int:
         except (Refused, StoreError) as error:
             after = f"after message {delivery.cursor.number} " if delivery.cursor.number else ""
             failed = f"nothing is delivered {after}as long as this holds: {error}"
+            least = error.wait if isinstance(error, Unreachable) else 0.0
         if one.done > done:
             done, wait = one.done, FIRST_WAIT
         if failed is not None:
             delivery.say(failed)
+            notes.failed(failed)
             if once:
                 raise Refused(failed)
-            delivery.sleep(wait)
+            delivery.sleep(max(wait, least))
             wait = min(wait * 2, LONGEST_WAIT)
         elif not found:
             if once:
-                return one.delivered
+                return Count(one.delivered, one.empty)
             delivery.sleep(POLL)
 
 

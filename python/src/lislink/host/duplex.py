@@ -3,11 +3,11 @@ proved station decides what each byte means and for whom it is; this module deci
 analyzer sends comes first."""
 import asyncio
 from collections import deque
-from typing import Any, Deque, List, Optional, Sequence
+from typing import Any, Deque, Dict, List, NamedTuple, Optional, Sequence, Set
 
 from ..codes import Note, Outcome, Phase, Role
 from ..link import LinkError
-from ..records import MessageError, Reader
+from ..records import MessageError, Reader, messages
 from ..rows import Row
 from ..station import Answer, Station
 from .outbox import Batch, Outbox, Site
@@ -18,8 +18,9 @@ from .store import Add, Change
 #: After a text that can't be kept, and after a session of the host's own that failed on a serial line, none starts for
 #: so many seconds: what is on its way has come by then. The most bytes of a query that are held.
 QUIET, QUERY = 16.0, 1 << 16
-#: So many bytes of a text are searched for a query before the other lines have their turn.
-PIECE = 1024
+#: So many bytes of a text are searched for a query before the other lines have their turn; of a message the results of
+#: so many samples are noted.
+PIECE, MOST_SAMPLES = 1024, 1000
 #: So many NAKs to its ENQ end a session, and so many times that the other end asked too and then sent nothing.
 BUSY = 6
 _REPLIES = (b"\x04", b"\x06", b"\x15")
@@ -28,33 +29,61 @@ _WHY = {Outcome.TIMED_OUT: "no reply came in time", Outcome.SIX_TRIES: "a frame 
 _OVER = (Note.OPENED, Note.NOT_READY, Note.ENDED, Note.TIMED_OUT)
 
 
+class Read(NamedTuple):
+    """A message that has ended: its records, if it holds a query, and the samples that it has results for, each with all
+    that may name a test of them."""
+
+    rows: List[Row]
+    results: Dict[str, Set[str]]
+
+
 class Asking:
-    """The queries in the texts of a line. Where a record ends is decided by the proved reader."""
+    """The queries and the results in the texts of a line. Where a record ends is decided by the proved reader."""
 
-    def __init__(self) -> None:
+    def __init__(self, encoding: str) -> None:
+        self._encoding = encoding
         self._reader: Optional[Reader] = None
-        self._rows: List[Row] = []
-        self._size = 0
+        #: The records of the message so far, as far as it may be a query; how long it is, and whether it has one.
+        self._held, self._size, self._asks = bytearray(), 0, False
+        #: The samples that the last order names, and the results of the message.
+        self._samples: List[str] = []
+        self._results: Dict[str, Set[str]] = {}
 
-    def take(self, text: bytes) -> List[List[Row]]:
-        """A piece of a text: the messages that it ends and that hold a query, each as its records. A message that can't
-        be read, or is too long for a query, holds none; MessageError at the first record that can't be read."""
-        found: List[List[Row]] = []
+    def take(self, text: bytes) -> List[Read]:
+        """A piece of a text: the messages that it ends. A message that can't be read has neither queries nor results,
+        and one that is too long for a query no query; MessageError at the first record that can't be read."""
+        found: List[Read] = []
         if self._reader is None:
             self._reader = Reader()
         for row in self._reader.feed(text):
-            self._size += len(row.text)
-            self._rows += [row] if self._size <= QUERY else []
+            self._size, self._asks = self._size + len(row.text) + 1, self._asks or row.letter == "Q"
+            self._held += row.text + b"\r" if self._size <= QUERY else b""
+            self._note(row)
             if row.letter == "L":
-                found += [self._rows] if any(one.letter == "Q" for one in self._rows) else []
-                self._rows, self._size = [], 0
+                is_query = self._asks and self._size <= QUERY
+                rows = [list(one) for one in messages([bytes(self._held)])][0] if is_query else []
+                found.append(Read(rows, self._results))
+                self._held, self._size, self._asks, self._results = bytearray(), 0, False, {}
         return found
+
+    def _note(self, row: Row) -> None:
+        """Notes what a record says of results."""
+        if row.letter == "O":
+            self._samples = [*self._parts(row, 3), *self._parts(row, 4)]
+        elif row.letter == "R" and len(self._results) < MOST_SAMPLES:
+            for sample in self._samples:
+                self._results.setdefault(sample, set()).update(self._parts(row, 3))
+
+    def _parts(self, row: Row, field: int) -> List[str]:
+        parts = (part.decode(self._encoding, "replace").strip() for repeat in row.field(field) for part in repeat)
+        return [part for part in parts if part]
 
     def over(self) -> None:
         """The session is over: no more comes of the message."""
         if self._reader is not None:
             self._reader.close()
-        self._reader, self._rows, self._size = None, [], 0
+        self._reader, self._held, self._size, self._asks = None, bytearray(), 0, False
+        self._samples, self._results = [], {}
 
 
 class TwoWayLine(Line):
@@ -62,18 +91,20 @@ class TwoWayLine(Line):
 
     def __init__(self, outbox: Outbox, site: Site, *given: Any) -> None:
         super().__init__(*given)
-        self._outbox, self._site, self._asking = outbox, site, Asking()
+        self._outbox, self._site, self._asking = outbox, site, Asking(site.encoding)
         #: What is to be sent next; what is being sent; whether the outbox may have more; when a session may start.
         self._ready: Deque[Batch] = deque()
         self._sending: Optional[Batch] = None
         self._has_work, self._free_at, self._busy = True, self._loop.time(), 0
         #: How often both asked in a row, and what the station did before the last byte.
         self._contended, self._phase = 0, Phase.NEUTRAL
+        #: The queries that are looked up, one after another.
         self._answers: "set[asyncio.Task[None]]" = set()
+        self._look_ups = asyncio.Lock()
         if not self.is_tcp:  # a reply to the host that was here before may still be on its way
             self._quiet()
-        #: Whether a session of the host's own had no reply, and nothing came since.
-        self._unanswered = False
+        #: Whether a session of the host's own had no reply, and nothing came since; whether anything ever came.
+        self._unanswered = self._has_heard = False
         outbox.wakes(self._woken)
 
     def _begin(self, frame: int) -> None:
@@ -93,10 +124,13 @@ class TwoWayLine(Line):
         self._outbox.forget(self._site, self._woken)
         for task in self._answers:
             task.cancel()
-        if self._sending is not None:
+        if self._sending is not None and self._has_heard and self._sending.placed:
             self._over_in_vain("the line was closed")
+        elif self._sending is not None:
+            self._outbox.unsent(self._site, self._sending)
+            self._sending = None
         for batch in self._ready:
-            self._outbox.failed(self._site, batch, "the line was closed")
+            self._outbox.unsent(self._site, batch)
         self._station.close()
         self._asking.over()
 
@@ -115,6 +149,8 @@ class TwoWayLine(Line):
                 step = answer.step and self._feeds.restored(heard, answer.step)
                 await self._meant(answer._replace(step=step), place + heard.start, arrived)
                 await self._take_turns()
+                if self._is_through():
+                    return
 
     async def _meant(self, answer: Answer, place: int, arrived: float) -> None:
         before, self._phase = self._phase, self._station.phase
@@ -136,7 +172,7 @@ class TwoWayLine(Line):
 
     def _note_late(self, data: bytes) -> None:
         """Says that a reply came after the session to which it belongs had ended without it."""
-        was_unanswered, self._unanswered = self._unanswered, False
+        was_unanswered, self._unanswered, self._has_heard = self._unanswered, False, True
         if was_unanswered and data[:1] in _REPLIES:
             self._counts["late_replies"] += 1
             byte = f"byte {self._watch.heard - len(data)} of the connection is 0x{data[0]:02X}"
@@ -160,17 +196,26 @@ class TwoWayLine(Line):
             return False
         try:
             for start in range(0, len(text), PIECE):
-                for rows in self._asking.take(text[start : start + PIECE]):
-                    self._asks(rows)
+                for read in self._asking.take(text[start : start + PIECE]):
+                    self._takes(read)
                 await self._take_turns()
         except MessageError:
             self._asking.over()
         return True
 
     def _took_mended(self, key: str, changes: Sequence[Change]) -> None:
+        if self._lost:
+            return
         body = b"".join(one.body for one in changes if isinstance(one, Add) and one.key == key)
-        for rows in Asking().take(body[: QUERY + 1]):
-            self._asks(rows)
+        for read in Asking(self._site.encoding).take(body[: QUERY + 1]):
+            self._takes(read)
+
+    def _takes(self, read: Read) -> None:
+        """A message is stored."""
+        for sample, tests in read.results.items():
+            self._outbox.came(self._site, sample, tests)
+        if read.rows:
+            self._asks(read.rows)
 
     def _asks(self, rows: List[Row]) -> None:
         """A message that holds a query is kept."""
@@ -188,11 +233,12 @@ class TwoWayLine(Line):
         """A query is kept: what the outbox has for it is sent as soon as the line is free."""
         from ..orders.query import query_of
 
-        queries = [query_of(row, self._site.encoding) for row in rows if row.letter == "Q"]
+        queries = [query_of(row, self._site.encoding, self._site.asks) for row in rows if row.letter == "Q"]
         if any(one.cancels for one in queries):
             await self._take_back()
             return
-        batch = await self._outbox.answer(self._site, queries, b"".join(row.text + b"\r" for row in rows))
+        async with self._look_ups:
+            batch = await self._outbox.answer(self._site, queries, b"".join(row.text + b"\r" for row in rows))
         if batch is not None:
             self._ready.append(batch)
         self._has_work = True
@@ -234,7 +280,7 @@ class TwoWayLine(Line):
             self._ready.appendleft(batch)
             return
         try:
-            out = self._station.start(batch.texts)
+            out = self._station.start(batch.texts, is_quiet=True)  # `_free_at` is over
         except LinkError as error:
             self._outbox.failed(self._site, batch, str(error))
             return
@@ -253,21 +299,21 @@ class TwoWayLine(Line):
             self._sending = None
             self._free_at = self._loop.time()
             self._counts["orders"] += len(batch.placed)
-            self._outbox.sent(batch)
+            self._outbox.sent(self._site, batch)
             return
         if BUSY in (self._busy, self._contended):
             both = "the analyzer asks for the line, too, and sends nothing"
             self._over_in_vain("the analyzer is busy" if self._busy >= BUSY else both)
             return
-        self._over_in_vain(_WHY.get(outcome, f"the session ended as {outcome.name}"))
+        self._over_in_vain(_WHY.get(outcome, f"the session ended as {outcome.name}"), outcome is Outcome.SIX_TRIES)
         self._unanswered = outcome is Outcome.TIMED_OUT
         self._quiet()
         if self.is_tcp and outcome is not Outcome.SIX_TRIES:
             self.stop("since a session of the host's own failed")
 
-    def _over_in_vain(self, why: str) -> None:
+    def _over_in_vain(self, why: str, is_rejected: bool = False) -> None:
         batch, self._sending = self._sending, None
         assert batch is not None
         self._counts["failed_sessions"] += 1
         self._probe.in_vain(why)
-        self._outbox.failed(self._site, batch, why)
+        self._outbox.failed(self._site, batch, why, is_rejected)

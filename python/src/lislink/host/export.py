@@ -1,7 +1,9 @@
 """`lislab export`: messages out of a store."""
 import datetime
 import json
-from typing import Callable, Iterator, List, NamedTuple, Optional
+import re
+from collections import Counter
+from typing import TYPE_CHECKING, Callable, Dict, Iterator, List, NamedTuple, Optional, Sequence
 
 from ..field import table
 from ..message import Fault, read_all
@@ -10,8 +12,15 @@ from .store import UNFINISHED, UNREADABLE, WHOLE, Store, Stored
 FORMATS = ("records", "json", "csv", "tsv", "oru", "fhir")
 #: What makes the bytes of a message; of None those at the head of all.
 Writer = Callable[[Optional[Stored]], bytes]
-#: The columns of a table before those of a result, and after them.
+#: The columns of a table before those of a result, and after them; the last one of all is `control`, Q for a control.
 OWN, LAST = ("number", "line", "received", "again_of"), ("mended",)
+#: A cell that a program for tables would take for a formula, unless it is a number.
+_FORMULA, _NUMBER = re.compile(r"\s*[=+\-@]"), re.compile(r"[+-]?[\d.,]+(?:[eE][+-]?\d+)?$", re.ASCII)
+
+if TYPE_CHECKING:
+    from ..delivery.oru import Wishes
+    from ..delivery.results import Coded, Told
+    from ..delivery.tables import Tables
 
 
 class Wanted(NamedTuple):
@@ -53,47 +62,134 @@ def _is_wanted(one: Stored, wanted: Wanted) -> bool:
     return (wanted.line is None or one.line == wanted.line) and (wanted.repeats or one.again_of is None)
 
 
-def writer_of(form: str, coded: Optional[Callable[[Stored], Stored]] = None) -> Writer:
-    """What writes messages in this form, each as `coded` makes it by a table of codes."""
-    if coded is None:
-        return _plain_writer(form, [])
+class Form(NamedTuple):
+    """How messages are written: in which form, by which table of codes and settings of lines, and as their receiver
+    wants it. A table has these columns; its formulas are made harmless; controls go out too, or they alone."""
+
+    form: str
+    tables: "Optional[Tables]" = None
+    fields: Sequence[str] = table.USUAL
+    safe: bool = False
+    controls: str = "with"
+    wishes: "Optional[Wishes]" = None
+    #: Whether a table is kept back too, as the forms of HL7 are, if a result has no sample or no test.
+    is_strict: bool = True
+    #: What was left out, and what else is to be looked at, is counted here.
+    counts: "Counter[str]" = Counter()
+
+
+def writer_of(form: Form) -> Writer:
+    """What writes messages in this form. It fails with `Quarantined` for a message that can't be said surely."""
+    from ..delivery.results import Coded
+
+    coded: "Callable[[Stored], Coded]" = Coded
+    if form.tables:
+        coded = form.tables.applied
+    if form.form == "records":
+        return lambda one: b"" if one is None else coded(one).one.body
+    if form.form == "json":
+        return lambda one: b"" if one is None else (_json(_as_data(coded(one).one)) + "\n").encode()
+    return _message_writer(form, coded) if form.form in ("oru", "fhir") else _table_writer(form, coded)
+
+
+def counted_texts(form: Form) -> List[str]:
+    """What was left out so far, and what else is to be looked at."""
+    return [f"{count} {name}" for name, count in form.counts.items() if count]
+
+
+def _json(data: object) -> str:
+    return json.dumps(data, ensure_ascii=False)
+
+
+def _message_writer(form: Form, coded: "Callable[[Stored], Coded]") -> Writer:
+    """What writes each message by itself in a form of HL7. One that isn't whole, or says nothing of a patient or a
+    control, gives nothing."""
+    from ..delivery import fhir, oru
+
+    write = oru.oru_of if form.form == "oru" else fhir.bundle_of
+    wishes = form.wishes or oru.Wishes()
+    return lambda one: b"" if one is None or one.state != WHOLE else write(_told(form, coded(one)), wishes)
+
+
+def _told(form: Form, coded: "Coded") -> "Told":
+    """A message as its receiver gets it; what is left out of it is counted."""
+    from ..delivery.results import Told
+
+    told = Told(coded)
+    if form.controls != "with":
+        wanted = [one for one in told.cases if one.is_control is (form.controls == "only")]
+        form.counts["orders left out by --controls"] += sum(len(one.orders) for one in told.cases if one not in wanted)
+        told.cases = wanted
+    form.counts["results left out by a table"] += coded.left_out
+    form.counts["orders left out, without a result"] += told.orders_left_out
+    form.counts["tests twice in an order, with different values"] += told.twice
+    form.counts["messages with letters of another encoding"] += told.has_other_letters
+    return told
+
+
+def _table_writer(form: Form, coded: "Callable[[Stored], Coded]") -> Writer:
+    """What writes results as rows."""
     from ..delivery.codes import mark_of
+    from ..delivery.results import is_control
 
-    made, write = coded, _plain_writer(form, [table.Column("mark", lambda where: mark_of(where[3]))])
-    return lambda one: write(one if one is None else made(one))
-
-
-def _plain_writer(form: str, more: List[table.Column]) -> Writer:
-    """The same without; more are the last columns of a table."""
-    if form == "records":
-        return lambda one: b"" if one is None else one.body
-    if form == "json":
-        return lambda one: b"" if one is None else (json.dumps(_as_data(one), ensure_ascii=False) + "\n").encode()
-    if form in ("oru", "fhir"):
-        return _message_writer(form)
-    columns = [*table.columns_of(list(table.USUAL)), *more]
+    more = [table.Column("mark", lambda where: mark_of(where[3]))] if form.tables else []
+    control = table.Column("control", lambda where: "Q" if is_control(where[0], where[2]) else "")
     own, last = ([table.Column(name, lambda where: "") for name in names] for names in (OWN, LAST))
-    line = table.line_writer(form, [*own, *columns, *last])
+    line = table.line_writer(form.form, [*own, *table.columns_of(list(form.fields)), *more, *last, control])
 
     def rows(one: Optional[Stored]) -> bytes:
         if one is None:
             return line(None).encode()
+        message = coded(one)
+        if form.is_strict and one.state == WHOLE:
+            _told(form, message)
+        columns = [*table.columns_of(list(form.fields), usual=_usual(message)), *more, control]
         own = ["" if one.number is None else str(one.number), one.line, time_text(one.ended), one.again_of or ""]
-        found = table.rows_of(one.body, columns, one.encoding)
+        found = table.rows_of(message.one.body, columns, one.encoding)
+        wanted = {"with": ("", "Q"), "without": ("",), "only": ("Q",)}[form.controls]
+        told = [row for row, _ in found if row and row[-1] in wanted]
         mended = one.reason if one.state == WHOLE else ""
-        return "".join(line([*own, *row, mended]) for row, _ in found if row is not None).encode()
+        cells = ([*own, *row[:-1], mended, row[-1]] for row in told)
+        return "".join(line(_harmless(row) if form.safe else row) for row in cells).encode()
 
     return rows
 
 
-def _message_writer(form: str) -> Writer:
-    """What writes each message by itself in a form of HL7. One that isn't whole, or has no results, gives nothing."""
-    from ..delivery import fhir, oru
+def _usual(coded: "Coded") -> "Dict[str, Callable[[table.Where], str]]":
+    """The usual columns of a table as the forms of HL7 have them: the sample and the test by the settings of the line,
+    no patient of a control, no blanks around a text."""
+    from ..delivery.results import code_of, field_text, identities_of, is_control, sample_of
 
-    if form == "oru":
-        oru.library()
-    write = oru.oru_of if form == "oru" else fhir.bundle_of
-    return lambda one: b"" if one is None or one.state != WHOLE else write(one)
+    def patient(where: table.Where) -> str:
+        if where[1].letter != "P" or is_control(where[0], where[2]):
+            return ""
+        return next(iter(identities_of(where[1]).values()), "")
+
+    def test(where: table.Where) -> str:
+        coding = coded.codings.get((where[3].number, 0))
+        return coding.code if coding else code_of(where[3], 3, 0, coded.reading)
+
+    texts = {"value": 4, "unit": 5, "range": 6, "flag": 7, "status": 9}
+    return {
+        "sample": lambda where: sample_of(where[2], where[1], coded.reading)[0],
+        "patient": patient,
+        "test": test,
+        **{name: _text(field) for name, field in texts.items()},
+        "date": lambda where: field_text(where[3], 13) or field_text(where[3], 12),
+        "instrument": lambda where: field_text(where[3], 14) or field_text(where[0].header, 5),
+    }
+
+
+def _text(field: int) -> "Callable[[table.Where], str]":
+    """What makes the cell of a result's field."""
+    from ..delivery.results import content_of, field_text
+
+    return lambda where: (content_of if field < 7 else field_text)(where[3], field)
+
+
+def _harmless(row: List[str]) -> List[str]:
+    """Cells of which none is a formula: one that would be has an apostrophe before it."""
+    return [f"'{one}" if _FORMULA.match(one) and not _NUMBER.match(one) else one for one in row]
 
 
 def _as_data(one: Stored) -> "dict[str, object]":

@@ -98,6 +98,15 @@ def write_synced(path: str, data: bytes) -> None:
     sync_folder(os.path.dirname(os.path.realpath(path)))
 
 
+def write_unsynced(path: str, data: bytes) -> None:
+    """Writes a small file that a power cut may take or damage, in place: a name that is replaced costs a sync on some
+    file systems. It ends in blanks, so that a shorter text after a longer one is whole at once."""
+    with _closing(os.open(path, os.O_WRONLY | os.O_CREAT | os.O_NOFOLLOW | os.O_CLOEXEC, _MODE)) as file:
+        size = max(len(data), os.fstat(file).st_size)
+        if os.pwrite(file, data.ljust(size), 0) < size:
+            raise OSError(errno.ENOSPC, os.strerror(errno.ENOSPC))
+
+
 def sync_folder(path: str) -> None:
     """Makes the names of a directory's files last."""
     with _closing(os.open(path, os.O_RDONLY | os.O_DIRECTORY | os.O_CLOEXEC)) as descriptor:

@@ -19,13 +19,33 @@ _WORDS = {
 }
 
 
-#: A step of the work takes so many bytes of a text, if a record ends there.
-PIECE = 1024
+#: A step of the work takes so many bytes of a text, if a record ends there. So many bytes of each message are held.
+PIECE, FIRST = 1024, 1 << 16
 _NEXT_HEADER = re.compile(rb"\r[Hh][^0-9A-Za-z]")
 
 
 class TooLong(Exception):
     """A message has more bytes than the line takes."""
+
+
+class Held:
+    """How many bytes of messages that aren't whole yet the lines of a host may hold: the first ones of each message,
+    and of longer ones up to `most` of one and `all_lines` of all."""
+
+    def __init__(self, most: int, all_lines: int = 0) -> None:
+        self.most, self._left = most, all_lines or most
+
+    def takes(self, one: "_Message") -> bool:
+        """Whether a message may be held as long as it is now."""
+        more = max(0, len(one.body or b"") - FIRST) - one.held
+        if one.size > self.most or more > self._left:
+            return False
+        one.held, self._left = one.held + more, self._left - more
+        return True
+
+    def drop(self, one: "_Message") -> None:
+        """A message is held no more."""
+        self._left, one.held, one.body = self._left + one.held, 0, None
 
 
 class _Message:
@@ -35,8 +55,8 @@ class _Message:
         self.key, self.begin, self.reader, self.digest = begin.key, begin, Reader(), hashlib.sha256()
         #: Whether the codes of its results are looked up.
         self.is_coded = is_coded
-        #: All its bytes, as long as they aren't too many to be mended.
-        self.body = body
+        #: All its bytes, as long as they aren't too many to be mended; how many of them count.
+        self.body, self.held = body, 0
         self.places = self.size = self.records = 0
         self.fault = ""
         #: Where its last record ended, in bytes of the message.
@@ -44,7 +64,7 @@ class _Message:
 
 
 class Intake:
-    """What is to be kept of each text of a line. Of a message it holds so many bytes at most until it ends, and those
+    """What is to be kept of each text of a line. Of a message it holds what `held` allows until it ends, and the bytes
     of one that isn't whole until they are taken out of `bodies`: how it began, and its bytes, by its key."""
 
     def __init__(
@@ -54,13 +74,13 @@ class Intake:
         encoding: str,
         most: int,
         clock: Callable[[], float],
-        hold: int = 0,
+        held: Optional[Held] = None,
         unknown: Optional[Unknown] = None,
     ) -> None:
         self.line, self.peer, self.encoding, self.most, self.clock = line, peer, encoding, most, clock
         #: The codes that the line's table lacks.
         self.unknown = unknown or Unknown(line)
-        self._hold, self.bodies = hold, {}  # type: int, Dict[str, Tuple[Begin, bytes]]
+        self._held, self.bodies = held, {}  # type: Optional[Held], Dict[str, Tuple[Begin, bytes]]
         self._message: Optional[_Message] = None
         #: The ends of messages that aren't known to be kept.
         self._ends: List[End] = []
@@ -97,13 +117,6 @@ class Intake:
         if one is not None:
             one.fault, one.body = _after(one, reason) + (f"; {one.fault}" if one.fault else ""), None
 
-    def unread(self) -> Optional[bytes]:
-        """The bytes of the message that goes on, if not all of them could be read."""
-        one = self._message
-        if one is None or not one.body or not (one.fault or one.size > one.ended):
-            return None
-        return bytes(one.body)
-
     def undo(self, reason: str) -> List[Change]:
         """The changes if those that were given last aren't kept: their messages are not whole."""
         ends, self._ends = self._ends, []
@@ -123,7 +136,7 @@ class Intake:
 
     def _begin(self, changes: List[Change]) -> None:
         begin = Begin(new_key(), self.line, self.peer, self.encoding, self.clock())
-        self._message = _Message(begin, bytearray() if self._hold else None, self.unknown.table is not None)
+        self._message = _Message(begin, bytearray() if self._held else None, self.unknown.table is not None)
         changes.append(begin)
 
     def _take_some(self, text: bytes, changes: List[Change]) -> int:
@@ -181,9 +194,10 @@ class Intake:
         one.places += 1
         one.size += len(body)
         one.digest.update(body)
-        if one.body is not None:
+        if one.body is not None and self._held is not None:
             one.body += body
-            one.body = one.body if one.size <= self._hold else None
+            if not self._held.takes(one):
+                self._held.drop(one)
 
     def _end(self, state: str, reason: str, changes: List[Change]) -> None:
         one, self._message = self._message, None
@@ -191,6 +205,8 @@ class Intake:
         one.reader.close()
         if state != WHOLE and one.body:
             self.bodies[one.key] = one.begin, bytes(one.body)
+        if self._held is not None:
+            self._held.drop(one)
         changes.append(End(one.key, self.line, state, reason, one.digest.hexdigest(), one.size, self.clock()))
 
 

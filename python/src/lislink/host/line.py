@@ -1,6 +1,8 @@
 """One line of a host: it hears bytes, keeps texts, and replies. The proved receiver decides what each byte means and
 what is answered; this module decides when an answer goes out: after its text is kept, and never late."""
 import asyncio
+import functools
+import time
 from collections import Counter, deque
 from typing import Callable, Deque, Dict, List, Optional, Sequence, Tuple
 
@@ -10,14 +12,16 @@ from ..watch.pulse import Probe
 from .commits import Committer
 from .feeds import AsItComes, LineFeeds
 from .intake import Intake, TooLong
-from .mend import LINE_FEEDS, Bodies, Mender, seems_over
+from .mend import LINE_FEEDS, Ended
+from .mender import Bodies, Mender, is_mended
 from .notices import CODES, CONNECTION, MESSAGE, REJECTED, REPLY
 from .options import Limits
 from .store import MENDED, WHOLE, Add, Change, End, StoreError
 
-#: How many bytes may wait to be heard before the line is read no further; for how many seconds one line is heard before
-#: the others have their turn; how many bytes of a long text are kept in one row.
-WAITING, TURN, TOGETHER = 1 << 16, 0.005, 1 << 14
+#: How many bytes may wait to be heard before the line is read no further; for how many seconds one line is heard,
+#: whatever pieces its bytes come in, before the others have their turn, and for how many they have it; how many bytes of
+#: a long text are kept in one row.
+WAITING, HEARS, TURN, TOGETHER = 1 << 16, 0.002, 0.005, 1 << 14
 #: EOT after so many seconds without a frame is that of an analyzer that heard no reply.
 BROKEN = 10.0
 #: What ends a session, and what that makes of a message without its L record.
@@ -105,6 +109,8 @@ class Line:
         mender: Mender,
     ) -> None:
         self._mender = mender
+        #: Messages that ended, of which it is to be tried which setting would deliver them.
+        self._tries: List[Ended] = []
         #: Whether the last frame was taken, and when a reply went out last.
         self._is_taken, self._replied = False, 0.0
         self._wire, self._intake, self._committer, self._limits = wire, intake, committer, limits
@@ -116,10 +122,10 @@ class Line:
         self._pieces: Deque[Tuple[float, bytes]] = deque()
         self._size, self._paused_at = 0, None  # type: int, Optional[float]
         self._due: Optional[float] = None
-        #: When bytes came last, by the loop's clock; whether there was a session; whether it makes room for another.
+        #: When bytes came last, by the loop's clock; whether there was a session.
         self.last_byte = self._loop.time()
-        self.had_session = self.gives_way = False
-        #: When its turn is over, and whether a text is kept in parts.
+        self.had_session = False
+        #: When its turn is over, by the time that this thread works, and whether a text is kept in parts.
         self._over, self._is_long = 0.0, False
         self._lost = self._stopping = False
         #: Why the line is closed, once that is known.
@@ -166,6 +172,8 @@ class Line:
                 self._watch.step(place + heard.start, step)
                 await self._step(step, arrived)
                 await self._take_turns()
+                if self._is_through():
+                    return
 
     def _start_at(self) -> Optional[float]:
         """When a session of the host's own may start, if it has something to send."""
@@ -198,8 +206,7 @@ class Line:
         self._wake()
 
     def give_way(self) -> None:
-        """Closes the line for another, unless a session begins before."""
-        self.gives_way = True
+        """Closes a line that has had no session for another one."""
         self.stop("for another connection")
 
     @property
@@ -229,6 +236,7 @@ class Line:
                     if self._due is not None and arrived >= self._due:
                         await self._timer(now)
                     await self._hear(data, arrived)
+                    await self._take_turns()
                 elif self._due is not None and now >= self._due:
                     await self._timer(now)
                 elif _is_over(self._start_at(), now):
@@ -242,6 +250,7 @@ class Line:
             self._closed = self._closed or "since the host stops"
             raise
         finally:
+            self._lost = True
             self._drop(why)
             self._watch.over()
             self._end()
@@ -250,14 +259,20 @@ class Line:
             self._wire.close()
             self._tape.close()
 
+    def _is_through(self) -> bool:
+        """Whether the line is to be closed and no session goes on: what came since, as ENQ, is heard by nobody."""
+        return self._stopping and not self._is_busy()
+
     async def _nothing_left(self) -> bool:
         """Waits until there is something to do; whether the line is over."""
+        if self._is_through():
+            return True
         if self._pieces:
             return False
         if self._paused_at is not None:
             self._paused_at = None
             self._wire.resume()
-        if self._lost or (self._stopping and not self._is_busy()):
+        if self._lost:
             return True
         others = [at for at in (self._due, self._start_at()) if at is not None]
         due = min([self.last_byte + self._limits.idle, *others])
@@ -268,7 +283,8 @@ class Line:
         finally:
             alarm.cancel()
             self._waiter = None
-        return self._lost and not self._pieces
+        self._over = time.thread_time() + HEARS
+        return self._is_through() or (self._lost and not self._pieces)
 
     async def _timer(self, now: float) -> None:
         self._tape.event("T")
@@ -277,14 +293,13 @@ class Line:
     async def _hear(self, data: bytes, arrived: float) -> None:
         self._tape.bytes(">", data)
         self._watch.hears(data)
-        self._over = self._loop.time() + TURN
         await self._heard(data, arrived)
 
     async def _take_turns(self) -> None:
         """Lets the others have their turn, if this line has had its own."""
-        if self._loop.time() > self._over:
+        if time.thread_time() > self._over:
             await self._turns.wait()
-            self._over = self._loop.time() + TURN
+            self._over = time.thread_time() + HEARS
 
     async def _step(self, step: Step, arrived: float) -> None:
         self.had_session = self.had_session or step.note is Note.OPENED
@@ -332,10 +347,10 @@ class Line:
             self._counts["not_kept"] += 1
             self._probe.not_kept(error)
             self._is_long = False
+            self._tries.clear()
             undone = self._intake.undo(f"a text could not be kept: {error}")
             if undone:
-                self._committer.put_later(undone)
-                self._note_ends(undone)
+                self._put_later(undone)
             self._restart("a text could not be kept")
             return False
         self._probe.kept()
@@ -345,38 +360,32 @@ class Line:
         """Keeps a text, one part of its changes after another: however many they are, no other line waits for all."""
         part: List[Change] = []
         for changes in self._intake.take(text):
-            changes = await self._mended(changes, True)
+            changes = await self._mended(changes)
             if len(part) + len(changes) > self._committer.part:
                 self._is_long = True
                 await self._put(part)
                 part = []
             _join(part, changes)
             await self._take_turns()
-        _join(part, await self._ends_now(text))
         if part:
             await self._put(part)
         self._is_long = False
+        self._mender.begin_tries(self._tries, self._put_later)
 
-    async def _ends_now(self, text: bytes) -> List[Change]:
-        """The changes that end a message that is whole with what the line mends, though it can't be read: it is
-        delivered before its last text is acknowledged."""
-        body = self._intake.unread() if seems_over(text) else None
-        if body is None or not await self._mender.is_whole(body):
-            return []
-        return await self._mended(self._intake.drop("no CR ended its last record"), True)
-
-    async def _mended(self, changes: List[Change], is_over: bool) -> List[Change]:
-        """The same changes, with what is made of the messages that aren't whole; whether the analyzer ended them."""
-        bodies, self._intake.bodies = self._intake.bodies, {}
-        if not bodies:
-            return changes
-        made = await self._mender.of_all(changes, bodies, is_over)
-        self._intake.also(one for one in made if isinstance(one, End) and one.state == WHOLE and one.reason)
-        return made
+    async def _mended(self, changes: List[Change]) -> List[Change]:
+        """The same changes, with what is made of the messages that end and aren't whole."""
+        if self._intake.bodies:
+            bodies, self._intake.bodies = self._intake.bodies, {}
+            changes = await self._mender.of_all(changes, bodies, True, self._tries)
+            self._over = time.thread_time() + HEARS
+            self._intake.also(is_mended(changes))
+        return changes
 
     async def _put(self, part: Sequence[Change]) -> None:
+        if any(isinstance(one, End) and one.state == WHOLE for one in part):
+            await self._mender.order.over()  # nothing overtakes what is made of an earlier message
         await self._committer.put(part, self._is_long)
-        self._over = self._loop.time() + TURN  # the others had theirs
+        self._over = time.thread_time() + HEARS  # the others had theirs
         self._intake.kept()
         self._note_ends(part)
 
@@ -421,17 +430,23 @@ class Line:
         changes = self._intake.drop(reason)
         if self._intake.bodies:
             bodies, self._intake.bodies = self._intake.bodies, {}
-            self._mender.tasks.begin(self._end_later(changes, bodies, is_over))
+            self._mender.order.begin(functools.partial(self._end_later, changes, bodies, is_over))
         elif changes:
             self._put_later(changes)
 
     async def _end_later(self, changes: List[Change], bodies: Bodies, is_over: bool) -> None:
-        """Ends a message for which nobody waits, with what is made of it."""
-        self._put_later(await self._mender.of_all(changes, bodies, is_over))
+        """Ends a message for which no reply waits, with what is made of it."""
+        tries: List[Ended] = []
+        made = await self._mender.of_all(changes, bodies, is_over, tries)
+        if made:
+            await self._put_later(made)
+        self._mender.begin_tries(tries, self._put_later)
 
-    def _put_later(self, changes: Sequence[Change]) -> None:
-        self._committer.put_later(changes, self._is_long)
-        self._note_ends(changes)
+    def _put_later(self, changes: Sequence[Change]) -> "asyncio.Future[None]":
+        """Keeps changes for which no reply waits. What they end is counted and said once it is kept."""
+        kept = self._committer.put_later(changes, self._is_long)
+        kept.add_done_callback(lambda done: None if done.cancelled() else self._note_ends(changes))
+        return kept
 
 
 class Ticks:

@@ -5,15 +5,16 @@ import re
 from typing import Any, Callable, Dict, Iterator, List, NamedTuple, Sequence, Tuple
 
 from ..delivery.codes import Codes, Read, read_codes
+from ..orders.asks import told
 from . import options
 from .options import Connect, Listen, Network, OptionError, Place, Serial
 
 _HEAD = re.compile(r"\[.+\]")
 #: Where a line is: the key that says so, what reads it, and the settings that it may have.
 _WHERE: Dict[str, Tuple[Callable[[str], Any], Tuple[str, ...]]] = {
-    "listen": (options.split_address, ("allow", *options.TCP_WORDS, "codes")),
-    "connect": (options.split_peer, (*options.TCP_WORDS, "codes")),
-    "serial": (options.split_device, (*options.SERIAL_WORDS, "codes")),
+    "listen": (options.split_address, ("allow", *options.TCP_WORDS, *options.OF_FILES)),
+    "connect": (options.split_peer, (*options.TCP_WORDS, *options.OF_FILES)),
+    "serial": (options.split_device, (*options.SERIAL_WORDS, *options.OF_FILES)),
 }
 
 
@@ -66,7 +67,7 @@ class _File:
 
     def found(self) -> Lines:
         """What was found, the faults in the order of their rows."""
-        tables = {one.name: Codes(self._tables[one.codes].codes) for one in self.places if one.codes}
+        tables = {one.name: Codes(self._tables[one.codes].codes, one.test) for one in self.places if one.codes}
         faults = [text for _, text in sorted(self._faults, key=lambda one: one[0])]
         return Lines(self.places, faults, tables, list(self._tables))
 
@@ -137,7 +138,7 @@ class _File:
                 elif key == "codes":
                     values[key] = self._table(word, section.rows[key])
                 elif key in known:
-                    values[key] = options.READS[key](word)
+                    values[key] = options.read_setting(key, word)
                 else:
                     raise OptionError(f"there is no setting {key}: a line with {kind} has {', '.join(known)}")
             except OptionError as error:
@@ -179,7 +180,7 @@ class _File:
 
 def _place_of(kind: str, where: Any, name: str, values: Dict[str, Any]) -> Place:
     kinds: Dict[str, Callable[..., Place]] = {"listen": Listen, "connect": Connect, "serial": Serial}
-    return kinds[kind](*where, name, **values)
+    return kinds[kind](*where, name, **options.gathered(values))
 
 
 def read_lines(path: str, networks: Sequence[Network]) -> Lines:
@@ -208,7 +209,8 @@ def text_of(place: Place) -> str:
         where = f"{kind}={host}:{place.port}"
     given = place._asdict()
     shown = [key for key in options.READS if given.get(key) and (key != "none" or place.orders)]
-    return f"{place.name}: {where} " + " ".join(f"{key}={_word(given[key])}" for key in shown)
+    words = {**{key: _word(given[key]) for key in shown}, **told(place.asks)}
+    return f"{place.name}: {where} " + " ".join(f"{key}={word}" for key, word in words.items())
 
 
 def _word(value: Any) -> str:

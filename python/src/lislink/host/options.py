@@ -2,9 +2,12 @@
 import codecs
 import ipaddress
 import re
+import zoneinfo
 from typing import Any, Callable, Dict, Iterable, List, NamedTuple, Sequence, Tuple, TypeVar, Union
 
 from ..field.normalize import CHANGES
+from ..orders import asks
+from ..orders.asks import Asks
 from ..link import FRAME_TEXT, LONG_FRAME_TEXT
 
 Network = Union[ipaddress.IPv4Network, ipaddress.IPv6Network]
@@ -12,6 +15,10 @@ _MODES = re.compile(r"[5-8][NEO][12]$")
 #: When orders are sent: to an analyzer that asks, or also unasked. How an analyzer learns that there is no order: the
 #: message ends with I, its query comes back with X, or nothing comes.
 ORDERS, NOTHINGS = ("ask", "send"), ("L-I", "Q-X", "silence")
+#: Which field of an order, or of its patient, is the sample, or that there is none; what becomes of a message with
+#: letters that aren't of the line's encoding, and of one that has a test twice in an order with different contents.
+_SAMPLE = re.compile(r"(?:O\.[34]|P\.[345])(?:\.[1-9]\d?)?$|none$")
+LETTERS, TWICE = ("quarantine", "mark"), ("quarantine", "deliver")
 #: The links of a line: the standard's, and records between STX and ETX with no number and no checksum.
 LINKS = ("lis01", "plain")
 #: What is mended on each line, whatever it names; the names of the other mends, and one that means the same as another.
@@ -40,6 +47,12 @@ class Listen(NamedTuple):
     link: str = ""
     telnet: str = ""
     codes: str = ""
+    sample: str = ""
+    test: str = ""
+    zone: str = ""
+    letters: str = ""
+    twice: str = ""
+    asks: Asks = Asks()
 
 
 class Connect(NamedTuple):
@@ -56,6 +69,12 @@ class Connect(NamedTuple):
     link: str = ""
     telnet: str = ""
     codes: str = ""
+    sample: str = ""
+    test: str = ""
+    zone: str = ""
+    letters: str = ""
+    twice: str = ""
+    asks: Asks = Asks()
 
 
 class Serial(NamedTuple):
@@ -73,6 +92,12 @@ class Serial(NamedTuple):
     mend: Tuple[str, ...] = ()
     link: str = ""
     codes: str = ""
+    sample: str = ""
+    test: str = ""
+    zone: str = ""
+    letters: str = ""
+    twice: str = ""
+    asks: Asks = Asks()
 
 
 Place = Union[Listen, Connect, Serial]
@@ -168,6 +193,34 @@ def _telnet(word: str) -> str:
     return "" if word == "no" else word
 
 
+def _sample(word: str) -> str:
+    if not _SAMPLE.match(word):
+        raise OptionError(f"{word}: the sample is O.3, O.4 or a component of one, as O.4.3, or none")
+    return word
+
+
+def _test(word: str) -> str:
+    if not re.match(r"[1-9]\d?(?:\^[1-9]\d?)*$", word):
+        raise OptionError(f"{word}: the test is a component of R-3, as 4, or some of them, as 4^7")
+    return word
+
+
+def _zone(word: str) -> str:
+    try:
+        return zoneinfo.ZoneInfo(word).key
+    except (zoneinfo.ZoneInfoNotFoundError, ValueError, OSError):
+        raise OptionError(f"there is no time zone {word}: name one as Europe/Berlin") from None
+
+
+def _one_of(words: Sequence[str]) -> Callable[[str], str]:
+    def read(word: str) -> str:
+        if word not in words:
+            raise OptionError(f"{' or '.join(words)} is wanted, not {word}")
+        return word
+
+    return read
+
+
 #: What reads each setting of a line; those that its words may have, on TCP and on a serial line.
 READS: Dict[str, Callable[[str], Any]] = {
     "mode": _mode,
@@ -181,13 +234,37 @@ READS: Dict[str, Callable[[str], Any]] = {
     "link": _link,
     "telnet": _telnet,
     "codes": str,
+    "sample": _sample,
+    "test": _test,
+    "zone": _zone,
+    "letters": _one_of(LETTERS),
+    "twice": _one_of(TWICE),
 }
+#: The settings that only a file of lines has: what a line's records mean, and how its queries are read.
+OF_FILES = ("codes", "sample", "test", "zone", "letters", "twice", *asks.READS)
 _WORDS = ("frame", "encoding", "orders", "none", "mend", "link")
 TCP_WORDS, SERIAL_WORDS = (*_WORDS, "telnet"), ("mode", "flow", *_WORDS)
 
 
+def read_setting(key: str, word: str) -> Any:
+    """The value of a setting of a line."""
+    if key not in asks.READS:
+        return READS[key](word)
+    try:
+        return asks.READS[key][1](word)
+    except ValueError as error:
+        raise OptionError(str(error)) from None
+
+
+def gathered(values: Dict[str, Any]) -> Dict[str, Any]:
+    """The settings of a line, with those of its queries as one."""
+    of_queries = {asks.READS[key][0]: one for key, one in values.items() if key in asks.READS}
+    others = {key: one for key, one in values.items() if key not in asks.READS}
+    return {**others, "asks": Asks(**of_queries)}
+
+
 def _read(given: Dict[str, str]) -> Dict[str, Any]:
-    return {key: READS[key](word) for key, word in given.items()}
+    return gathered({key: read_setting(key, word) for key, word in given.items()})
 
 
 def _fitting(place: AnyPlace) -> AnyPlace:
@@ -199,6 +276,8 @@ def check_settings(place: Place) -> None:
     """Settings that don't go together."""
     if place.link and place.orders:
         raise OptionError(f"a line with link={place.link} sends no orders: its sessions have no station")
+    if place.asks != Asks() and not place.orders:
+        raise OptionError(f"{', '.join(asks.told(place.asks))}: a line that answers queries has orders = ask or send")
 
 
 def no_line(name: str, names: Iterable[str]) -> str:

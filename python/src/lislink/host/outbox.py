@@ -2,20 +2,28 @@
 import asyncio
 import functools
 import re
+import time
 from concurrent.futures import ThreadPoolExecutor
-from typing import Any, Callable, Dict, List, NamedTuple, Optional, Sequence, Set
+from typing import Any, Callable, Collection, Dict, List, Mapping, NamedTuple, Optional, Sequence, Set, Tuple
 
-from ..orders.book import Failed, OrderBook, Placed
-from ..orders.order import ANSWERED, NORMAL, ORDERED, QUERIED, OrderError, nothing_of, texts_of, told_of
-from ..orders.query import Query
+from ..orders.book import FAILED, Asked, Failed, OrderBook, Placed, Wanted
+from ..orders.order import ANSWERED, NORMAL, ORDERED, QUERIED, Order, OrderError
+from ..orders.order import failure, nothing_of, texts_of, told_of
+from ..orders.asks import Asks
+from ..orders.query import Query, echoed
 from ..records import MessageError, messages
+from .program import output_of
 from .store import StoreError
 from .tasks import Tasks
 
-#: The most orders of a session, and of an answer; seconds between looks at the store; the seconds that a command has;
-#: the most bytes that it may answer; seconds until the next try, by the tries so far.
-MOST, ASKED, LOOK, COMMAND, ANSWER = 20, 200, 1.0, 5.0, 1 << 20
+#: The most orders of a session that nobody asked for, and of an answer; seconds between looks at the store; the seconds
+#: that a command has, the most bytes that it may answer, and how many run at once; seconds until the next try, by the
+#: tries so far.
+MOST, ASKED, LOOK, COMMAND, ANSWER, AT_ONCE = 20, 10_000, 1.0, 5.0, 1 << 20, 4
 WAITS = (5.0, 15.0, 60.0, 300.0)
+#: How often a query is looked up while the store gives no answer, a look apart; an answer that couldn't be sent waits so
+#: many seconds for its analyzer to connect anew.
+LOOKS, KEPT = 3, 600.0
 
 
 class Site(NamedTuple):
@@ -28,6 +36,9 @@ class Site(NamedTuple):
     none: str
     #: The number of the connection.
     seat: str
+    #: How its queries are read and answered; which component of an order's O-5 is the test.
+    asks: Asks = Asks()
+    component: int = 4
 
     @property
     def place(self) -> str:
@@ -64,7 +75,7 @@ class Outbox:
         say: Callable[[str], None],
     ) -> None:
         self._open, self._command, self._tries, self._scale, self._say = open_book, command, tries, scale, say
-        self._thread = ThreadPoolExecutor(1, "orders")
+        self._thread, self._asking = ThreadPoolExecutor(1, "orders"), asyncio.Semaphore(AT_ONCE)
         self._book: Optional[OrderBook] = None
         #: The orders that are being sent, or are sent and not yet marked.
         self._in_hand: Set[int] = set()
@@ -74,9 +85,14 @@ class Outbox:
         #: Who sees which orders have failed, and how many had when that was looked at.
         self._seen: Callable[[Dict[str, Failed]], None] = lambda failed: None
         self._failed = (0, 0.0)
-        self._said = ""
-        #: The last query of each place whose orders weren't taken yet.
-        self._queries: Dict[str, Query] = {}
+        self._said, self._told = "", set()  # type: str, Set[str]
+        self._codes: Callable[[str], Mapping[str, str]] = lambda line: {}
+        #: The queries of each place whose orders weren't taken yet.
+        self._queries: Dict[str, Sequence[Query]] = {}
+        #: The answers that wait for a place to connect anew, each with when it was made.
+        self._kept: Dict[str, Tuple[Batch, float]] = {}
+        #: How many orders may be in one session with this one: fewer after a session that was rejected.
+        self._lots: Dict[int, int] = {}
 
     async def start(self) -> None:
         """Opens the store; StoreError."""
@@ -108,26 +124,35 @@ class Outbox:
         """`seen(failed)` is called when other orders have failed than before: those of each line, with the last one."""
         self._seen = seen
 
-    def forget(self, site: Site, woken: Callable[[str, str], None]) -> None:
-        """The connection is over."""
-        self._woken.remove(woken)
-        self._queries.pop(site.place, None)
-        if self._book is not None:
-            self._work.begin(self._left(site))
+    def codes(self, of: Callable[[str], Mapping[str, str]]) -> None:
+        """`of(line)` has the codes of a line's analyzer for those that orders have."""
+        self._codes = of
 
-    async def _left(self, site: Site) -> None:
-        assert self._book is not None
-        try:
-            await self._run(self._book.leave, site.seat)
-        except StoreError as error:
-            self._say_once(f"orders can't be marked: {error}")
+    def forget(self, site: Site, woken: Callable[[str, str], None]) -> None:
+        """The connection is over. What was asked for over it is sent over the next one from there."""
+        self._woken.remove(woken)
+        if self._book is not None:
+            self._work.begin(self._until_kept(self._book.leave, site.seat))
+
+    async def _until_kept(self, change: Callable[..., None], *words: Any) -> None:
+        """Changes the store, again each second until it holds."""
+        while True:
+            try:
+                await self._run(change, *words)
+                return
+            except StoreError as error:
+                self._say_once(f"orders can't be marked: {error}")
+                await asyncio.sleep(1.0)
 
     async def _look(self) -> None:
         assert self._book is not None
         while True:
             try:
-                for told in await self._run(self._book.take_in):
-                    self._say(told)
+                told = await self._run(self._book.take_in)
+                for text in told:  # a file that can't be taken in is said once
+                    if text not in self._told:
+                        self._say(text)
+                self._told = set(told)
                 due = await self._run(self._book.due)
                 await self._look_at_failed()
                 self._said = ""
@@ -155,26 +180,40 @@ class Outbox:
 
     async def answer(self, site: Site, queries: Sequence[Query], message: bytes) -> Optional[Batch]:
         """The answer to the queries of a message, if it isn't in the store: there the orders are marked as asked for,
-        and `take` gives them."""
-        if self._command:
-            texts = await self._asked_of_command(site, message)
-            return Batch(texts or self._nothing(site, queries[0])) if texts or site.none != "silence" else None
-        assert self._book is not None
-        try:
-            found = 0
-            for query in queries:
-                found += await self._run(self._book.ask, site.place, site.seat, site.line, query.wanted, ASKED)
-        except StoreError as error:
-            self._say(f"{site.line}: a query can't be looked up: {error}")
-        if found:
-            self._queries[site.place] = queries[0]
-        if found or site.none == "silence":
+        and `take` gives them, all in one session."""
+        command = site.asks.command or self._command
+        if command:
+            texts = await self._asked_of_command(site, command, message)
+            return Batch(texts or self._nothing(site, queries)) if texts or site.none != "silence" else None
+        wanted = [one.wanted for one in queries]
+        found = await self._look_up(site, wanted)
+        if found is None:
+            return Batch(failure()) if site.none != "silence" else None
+        if found.found:
+            self._queries[site.place] = queries
+        if any(found) or site.none == "silence":
             return None
-        return Batch(self._nothing(site, queries[0]))
+        return Batch(self._nothing(site, queries))
+
+    async def _look_up(self, site: Site, wanted: Sequence[Wanted]) -> Optional[Asked]:
+        """The orders that are marked as asked for; None if the store doesn't say."""
+        assert self._book is not None
+        for left in range(LOOKS, 0, -1):
+            try:
+                words = (site.place, site.seat, site.line, wanted, site.asks.again)
+                found: Asked = await self._run(self._book.ask, *words)
+                return found
+            except StoreError as error:
+                self._say(f"{site.line}: a query can't be looked up: {error}")
+            if left > 1:
+                await asyncio.sleep(LOOK * max(self._scale, 0.05))
+        return None
 
     async def take_back(self, site: Site, batches: Sequence[Batch]) -> None:
         """The analyzer takes its query back: what it asked for waits as if it hadn't, also these batches, which are not
         sent."""
+        self._kept.pop(site.place, None)
+        self._queries.pop(site.place, None)
         if self._book is None:
             return
         numbers = [one.number for batch in batches for one in batch.placed]
@@ -185,17 +224,17 @@ class Outbox:
         self._in_hand.difference_update(numbers)
 
     @staticmethod
-    def _nothing(site: Site, query: Query) -> List[bytes]:
-        return nothing_of(query.record, site.none)
+    def _nothing(site: Site, queries: Sequence[Query]) -> List[bytes]:
+        return nothing_of(queries[0].row, site.none)
 
-    async def _asked_of_command(self, site: Site, message: bytes) -> List[bytes]:
+    async def _asked_of_command(self, site: Site, command: Sequence[str], message: bytes) -> List[bytes]:
         """The records that the command answers, each a text; none, and why is said, if they are no messages."""
         try:
-            out = await asyncio.wait_for(self._command_says(message), COMMAND)
+            async with self._asking:
+                about = {"LISLAB_LINE": site.line, "LISLAB_PEER": site.peer}
+                out = await output_of(command, message, ANSWER, COMMAND, about)
             rows = [row for rows in messages([re.sub(rb"\r?\n|\r", b"\r", out)]) for row in rows]
             return [row.text + b"\r" for row in rows]
-        except asyncio.TimeoutError:
-            why = f"it took over {COMMAND:g} s"
         except MessageError as error:
             why = f"its answer is no message: {error}"
         except (OSError, StoreError) as error:
@@ -203,87 +242,111 @@ class Outbox:
         self._say(f"{site.line}: the command that was asked gives no orders: {why}")
         return []
 
-    async def _command_says(self, message: bytes) -> bytes:
-        pipe = asyncio.subprocess.PIPE
-        running = await asyncio.create_subprocess_exec(*self._command, stdin=pipe, stdout=pipe)
-        try:
-            assert running.stdin is not None and running.stdout is not None
-            running.stdin.write(message)
-            running.stdin.close()
-            out = await running.stdout.read(ANSWER + 1)
-            while len(out) <= ANSWER:
-                more = await running.stdout.read(ANSWER + 1)
-                if not more:
-                    break
-                out += more
-            if len(out) > ANSWER:
-                raise StoreError(f"it answers over {ANSWER} bytes")
-            status = await running.wait()
-            if status:
-                raise StoreError(f"it ended with status {status}")
-            return out
-        finally:
-            if running.returncode is None:
-                running.kill()
-                await running.wait()
-
     # ---- what a line sends
 
     async def take(self, site: Site) -> Optional[Batch]:
         """What is to be sent on a line now; None if there is nothing, or the store doesn't say."""
-        if self._book is None:
+        kept = self._kept.pop(site.place, None)
+        if kept is not None and time.monotonic() - kept[1] < KEPT:
+            return kept[0]
+        if self._book is None or site.asks.command:
             return None
         for place in [site.place, ""] if site.unasked else [site.place]:
             placed = await self._taken(site, place)
+            if placed is None:
+                return None
+            queries = self._queries.pop(site.place, None) if place else None
             good = [one for one in placed if self._can_be_written(site, one)]
-            query = self._queries.pop(site.place, None) if place else None
-            if placed and not good and query is not None and site.none != "silence":
-                return Batch(self._nothing(site, query))
+            if not good and queries is not None and site.none != "silence":
+                return Batch(self._nothing(site, queries))
             if good:
-                report, end = (QUERIED, ANSWERED) if place else (ORDERED, NORMAL)
-                return Batch(texts_of([one.order for one in good], site.encoding, report=report, end=end), good)
+                return await self._batch_of(site, good, place, queries or ())
         return None
 
-    async def _taken(self, site: Site, place: str) -> List[Placed]:
+    async def _batch_of(self, site: Site, placed: List[Placed], place: str, queries: Sequence[Query]) -> Batch:
+        """The orders that go together: fewer of them after a session with them was rejected."""
+        lot = min(self._lots.get(one.number, len(placed)) for one in placed)
+        now, later = placed[:lot], placed[lot:]
+        if later:
+            self._queries.update({site.place: queries} if place else {})
+            await self._give_back(later)
+        report, end = (QUERIED, NORMAL if later else ANSWERED) if place else (ORDERED, NORMAL)
+        beside = functools.partial(_beside, site, queries)
+        orders = [self._coded(site, one.order) for one in now]
+        how: Dict[str, Any] = {"report": report, "end": end, "beside": beside, "component": site.component}
+        texts = texts_of(orders, site.encoding, **how)
+        return Batch(texts, now)
+
+    async def _give_back(self, placed: Sequence[Placed]) -> None:
+        """Orders that were taken, and of which none was begun, wait again."""
+        assert self._book is not None
+        numbers = [one.number for one in placed]
+        await self._until_kept(self._book.give_back, numbers)
+        self._in_hand.difference_update(numbers)
+
+    async def _taken(self, site: Site, place: str) -> Optional[List[Placed]]:
         assert self._book is not None
         try:
-            words = (place, site.seat, site.line, MOST, list(self._in_hand))
+            words = (place, site.seat, site.line, ASKED if place else MOST, list(self._in_hand))
             placed: List[Placed] = await self._run(self._book.take, *words)
         except StoreError as error:
             self._say_once(f"orders can't be read: {error}")
-            return []
-        self._in_hand.update(one.number for one in placed)
-        return placed
+            return None
+        for one in placed:
+            if one.state == FAILED:
+                self._say(f"{site.line}: order {one.number} has failed: {one.reason}")
+        good = [one for one in placed if one.state != FAILED]
+        self._in_hand.update(one.number for one in good)
+        return good
 
     def _can_be_written(self, site: Site, one: Placed) -> bool:
         try:
-            texts_of([one.order], site.encoding)
+            texts_of([self._coded(site, one.order)], site.encoding)
             return True
         except OrderError as error:
             self._work.begin(self._in_vain(site, [one], str(error), 1))
             return False
 
-    def sent(self, batch: Batch) -> None:
+    def _coded(self, site: Site, order: Order) -> Order:
+        """An order with the codes of the line's analyzer."""
+        codes = self._codes(site.line)
+        return order._replace(tests=tuple(codes.get(test, test) for test in order.tests))
+
+    def came(self, site: Site, sample: str, tests: Collection[str]) -> None:
+        """Results of these tests of a sample are stored. They have the codes of the line's analyzer."""
+        ordered = {test for test, code in self._codes(site.line).items() if code in tests}
+        if self._book is not None:
+            self._work.begin(self._until_kept(self._book.results, site.line, sample, ordered | set(tests)))
+
+    def sent(self, site: Site, batch: Batch) -> None:
         """All of it was acknowledged, in a session that is done."""
         if batch.placed:
-            self._work.begin(self._mark([one.number for one in batch.placed]))
+            self._work.begin(self._mark(site, [one.number for one in batch.placed]))
 
-    async def _mark(self, numbers: List[int]) -> None:
+    async def _mark(self, site: Site, numbers: List[int]) -> None:
         """Marks orders as sent. Until that is done nobody sends them again but a host that starts anew."""
         assert self._book is not None
-        while True:
-            try:
-                await self._run(self._book.sent, numbers)
-                break
-            except StoreError as error:
-                self._say_once(f"orders that are sent can't be marked: {error}")
-                await asyncio.sleep(1.0)
+        await self._until_kept(self._book.sent, site.line, numbers)
         self._in_hand.difference_update(numbers)
+        for number in numbers:
+            self._lots.pop(number, None)
 
-    def failed(self, site: Site, batch: Batch, why: str) -> None:
-        """It was sent in vain."""
-        self._say(f"{site.line}: not sent: {batch.told}: {why}")
+    def unsent(self, site: Site, batch: Batch) -> None:
+        """The connection is over before it was begun, or before anything came over it: that is no try. An answer that
+        isn't in the store waits for its analyzer."""
         if batch.placed:
+            self._work.begin(self._give_back(batch.placed))
+        else:
+            self._kept[site.place] = batch, time.monotonic()
+
+    def failed(self, site: Site, batch: Batch, why: str, is_rejected: bool = False) -> None:
+        """It was sent in vain. Orders that were rejected together are sent in halves, and then alone: one that an
+        analyzer rejects takes no other along."""
+        self._say(f"{site.line}: not sent: {batch.told}: {why}")
+        if is_rejected and len(batch.placed) > 1:
+            self._lots.update((one.number, (len(batch.placed) + 1) // 2) for one in batch.placed)
+            self._work.begin(self._give_back(batch.placed))
+        elif batch.placed:
             self._work.begin(self._in_vain(site, batch.placed, why, self._tries))
 
     async def _in_vain(self, site: Site, placed: Sequence[Placed], why: str, most: int) -> None:
@@ -297,3 +360,12 @@ class Outbox:
         except StoreError as error:
             self._say_once(f"orders can't be marked: {error}")
         self._in_hand.difference_update(numbers)
+
+
+def _beside(site: Site, queries: Sequence[Query], order: Order) -> Tuple[int, List[bytes]]:
+    """What an order's record has from its query next to the sample, as rack and position, and in which field."""
+    for query in queries if site.asks.echo[0] else ():
+        parts = echoed(query, site.asks, order.sample, site.encoding)
+        if parts:
+            return site.asks.echo[0], parts
+    return 0, []

@@ -4,11 +4,13 @@ It needs psycopg 3 or psycopg2 (Debian: python3-psycopg, python3-psycopg2).
 """
 import contextlib
 import importlib
+import re
 import time
-from typing import Any, Iterator, Optional, Sequence
+from typing import Any, Iterator, List, Optional, Sequence, Set
+from urllib.parse import urlsplit
 
 from .sql import SqlStore
-from .store import StoreError
+from .store import Stored, StoreError
 
 #: The advisory locks: one for the numbers of messages and the tables, one for each host by its name.
 _NUMBERS, _HOSTS = 5401, 5402
@@ -46,12 +48,13 @@ class PostgresStore(SqlStore):
         self.address, self._driver = address, _driver()
         self._db: Optional[Any] = None
 
-    def start(self, host: str) -> int:
+    def start(self, host: str) -> List[Stored]:
+        self._give_up()  # a connection that only read has no host's name
         self.host = host
         with self.changing():
             self.lock_numbers()
             self.make_tables()
-            return self.end_open()
+            return self.take_left()
 
     def join(self) -> None:
         with self.changing():
@@ -59,7 +62,19 @@ class PostgresStore(SqlStore):
             self.make_tables()
 
     def _connect(self) -> None:
-        self._db = self._driver.connect(self.address, **_CONNECTION)
+        try:
+            self._db = self._driver.connect(self.address, **_CONNECTION)
+        except self._driver.Error as error:
+            raise StoreError(_without_secrets(_first_line(error), self.address)) from None
+        try:
+            self._prepare()
+        except Exception:
+            self._give_up()
+            raise
+
+    def _prepare(self) -> None:
+        """Makes a connection one that keeps what it commits, and takes the host's name."""
+        assert self._db is not None
         self._db.autocommit = True
         for statement in _SESSION:
             self.run(statement)
@@ -101,7 +116,7 @@ class PostgresStore(SqlStore):
     def read(self, statement: str, values: Sequence[Any] = ()) -> Any:
         try:
             return super().read(statement, values)
-        except self._driver.Error as error:
+        except (self._driver.Error, StoreError) as error:
             self._give_up()
             raise StoreError(f"PostgreSQL: {_first_line(error)}") from None
 
@@ -124,8 +139,16 @@ class PostgresStore(SqlStore):
             yield
             self._committed()
         except Exception as error:  # whatever it is, nothing of it may stay in the transaction
-            self._give_up()
+            self._undo(isinstance(error, (StoreError, self._driver.DataError, self._driver.IntegrityError)))
             raise StoreError(f"PostgreSQL: {_first_line(error)}") from None
+
+    def _undo(self, is_answered: bool) -> None:
+        """Undoes a transaction; on a connection that is good still, since it was answered, by a statement."""
+        if is_answered and self._db is not None:
+            with contextlib.suppress(self._driver.Error):
+                self.run("ROLLBACK")
+                return
+        self._give_up()
 
     def _committed(self) -> None:
         done = self.run("COMMIT")
@@ -147,3 +170,14 @@ class PostgresStore(SqlStore):
 
 def _first_line(error: Exception) -> str:
     return (str(error).strip() or type(error).__name__).splitlines()[0]
+
+
+def _without_secrets(text: str, address: str) -> str:
+    """Why nobody could connect, without what libpq quotes of an address that it can't read as it was meant: that may be
+    a part of the password."""
+    known: Set[str] = set()
+    with contextlib.suppress(ValueError):
+        one = urlsplit(address)
+        if one.netloc.count("@") == address.count("@") < 2:
+            known = {one.hostname or "", one.username or "", one.path[1:]}
+    return re.sub(r'"([^"]*)"', lambda found: found[0] if found[1] in known else '".."', text)

@@ -28,6 +28,15 @@ def about(line: str) -> Iterator[None]:
         _LINE.reset(token)
 
 
+def shown(text: str) -> str:
+    """Text for a terminal: what isn't printed there, or turns what is around it, is shown by its number."""
+    return "".join(one if one.isprintable() else _number(ord(one)) for one in text)
+
+
+def _number(code: int) -> str:
+    return f"\\x{code:02x}" if code < 256 else f"\\u{code:04x}"
+
+
 def say(text: str) -> None:
     """A line on standard error."""
     if not (_is_journal() and _to_journal(text)):
@@ -47,7 +56,7 @@ def _is_journal() -> bool:
 def _to_journal(text: str) -> bool:
     """Whether the journal took it."""
     fields = {"PRIORITY": "4", "SYSLOG_IDENTIFIER": "lislab", "LISLAB_LINE": _LINE.get(), "MESSAGE": text}
-    rows = [f"{name}={' '.join(value.splitlines())}\n" for name, value in fields.items() if value]
+    rows = [f"{name}={shown(' '.join(value.splitlines()))}\n" for name, value in fields.items() if value]
     try:
         with socket.socket(socket.AF_UNIX, socket.SOCK_DGRAM | socket.SOCK_CLOEXEC) as one:
             one.setblocking(False)
@@ -63,7 +72,7 @@ def announce(text: str) -> None:
 
 
 def _put(stream: Any, text: str) -> None:
-    line = " ".join(text.splitlines()).encode("utf-8", "replace")[:MOST] + b"\n"
+    line = shown(" ".join(text.splitlines())).encode("utf-8", "replace")[:MOST] + b"\n"
     try:
         stream.flush()
         descriptor = stream.fileno()

@@ -19,15 +19,17 @@ from . import mend, systemd
 from .commits import Committer
 from .duplex import TwoWayLine
 from .files import write_whole
-from .intake import Intake
+from .intake import Held, Intake
 from .line import Line, Ticks, Turns, Wire
-from .mend import Mender
-from .notices import CONNECTION, Notices
+from .left import Left
+from .mend import Ended
+from .mender import InOrder, Mender, Workers, is_mended
+from .notices import CONNECTION, MESSAGE, Notices
 from .options import Connect, Limits, Listen, Network, OptionError, Place, Serial, is_allowed, plain_address
 from .outbox import Outbox, Site
 from .plainlink import PlainLine
 from .said import announce, say
-from .store import Store, StoreError
+from .store import LEFT, Store, StoreError
 from .tape import Tape
 from .tasks import Tasks
 from .telnet import Telnet
@@ -38,6 +40,14 @@ from .unknown import Unknown
 STATUS, REOPEN = 2.0, 1.0
 #: How long the host waits until it connects to an address anew: at first, and at most; and how long for an answer.
 FIRST, MOST, ANSWER = 1.0, 60.0, 10.0
+#: How long a stop waits for what is mended, and a start for the ends of what was left open.
+MENDING = ENDING = 3.0
+#: So many connections are accepted before other lines have their turn; so many may wait for it.
+ACCEPTS, BACKLOG = 4, 100
+#: So many bytes of long messages are held until they end, to be mended if they aren't whole.
+HELD = 32 << 20
+#: So many bytes of a connection are heard before it is asked whose turn it is.
+PIECE = 4096
 #: How long the thread that commits waits for its turn while a line is busy: it needs one after each statement.
 SWITCH = 0.0005
 
@@ -87,7 +97,7 @@ class Port:
         is_known = is_allowed(peer, networks)
         if not is_known:
             host.notices.say(place.name, f"{peer}: a connection is refused: the address isn't allowed", CONNECTION)
-        if is_over or not is_known or not host.has_room(place, peer):
+        if is_over or not is_known or not host.room.has_room(place.name, peer):
             host.refused += 1
             return False
         return True
@@ -96,6 +106,44 @@ class Port:
         """Nobody can connect any more. Who is connected isn't touched."""
         self.is_closed = True
         self.server.close()
+
+
+class Room:
+    """The lines of those who connected, by their addresses. If there are too many, of one or of all, the one that is
+    silent for the longest and never had a session gives way."""
+
+    def __init__(self, host: "Host") -> None:
+        self._host, self._lines = host, {}  # type: Host, Dict[str, Dict[Line, str]]
+
+    def add(self, line: Line, name: str) -> None:
+        """A line of this name is connected."""
+        self._lines.setdefault(line.peer, {})[line] = name
+
+    def remove(self, line: Line) -> None:
+        """A line is closed, or will be before it is heard again."""
+        same = self._lines.get(line.peer, {})
+        same.pop(line, None)
+        if not same:
+            self._lines.pop(line.peer, None)
+
+    def has_room(self, name: str, peer: str) -> bool:
+        """Whether an address may have another line of this name: if one has to give way for it, it does so now."""
+        among, limits = self._lines.get(peer, {}), self._host.limits
+        if len(among) < limits.address:
+            if sum(map(len, self._lines.values())) < limits.lines:
+                return True
+            among = {line: name for same in self._lines.values() for line, name in same.items()}
+        idle = [line for line in among if not line.had_session]
+        if not idle:
+            text = f"{peer}: a connection is refused, there are {len(among)} with a session"
+            self._host.notices.say(name, text, CONNECTION)
+            return False
+        one = min(idle, key=lambda line: line.last_byte)
+        text = f"{one.peer}: a connection without a session gives way to one of {peer}"
+        self._host.notices.say(among[one], text, CONNECTION)
+        self.remove(one)
+        one.give_way()
+        return True
 
 
 class Call:
@@ -112,7 +160,8 @@ class Call:
 class Host:
     """The lines of a host, and what they share."""
 
-    def __init__(self, asked: Asked, store: Store) -> None:
+    def __init__(self, asked: Asked, store: Store, left: Left = Left([], [])) -> None:
+        self._left = left
         self.asked, self.limits = asked, asked.limits
         self.notices = Notices(say)
         self.committer = Committer(store, functools.partial(self.notices.say, "store"))
@@ -124,6 +173,7 @@ class Host:
         self.last: Dict[str, float] = {}
         self.lines: "Dict[Line, asyncio.Task[None]]" = {}
         self._places: Dict[Line, Place] = {}
+        self.room = Room(self)
         self.refused, self.captures, self.seats, self.begun = 0, 0, 0, time.time()
         self.stopping = False
         #: The serial lines whose devices can't be what is asked for, and whether it was said that the host is ready.
@@ -140,7 +190,8 @@ class Host:
         self._others = Tasks(say)
         #: What mends messages, by the names of lines; and how many of each line a setting would deliver.
         self._menders: List[Tuple[str, Mender]] = []
-        self._mending = ThreadPoolExecutor(1, "mending")
+        self._workers, self._held = Workers(), Held(mend.MOST, HELD)
+        self._orders: Dict[str, InOrder] = {}
         self.would: Dict[str, "Counter[str]"] = {}
         #: What the table of each line lacks.
         self.unknown: Dict[str, Unknown] = {}
@@ -152,7 +203,7 @@ class Host:
         counts["connections"] += 1
         mender = self._mender(place)
         unknown = self.unknown.setdefault(place.name, Unknown(place.name))
-        intake = Intake(place.name, peer, place.encoding, self.limits.message, time.time, mend.MOST, unknown)
+        intake = Intake(place.name, peer, place.encoding, self.limits.message, time.time, self._held, unknown)
         notice = functools.partial(self._notice, place.name, peer)
         probe = self.board.probe(place, self._tape(place.name), notice)
         given = (wire, intake, self.committer, self.limits, counts, probe, place.frame, notice, self.turns, mender)
@@ -160,6 +211,8 @@ class Host:
         notice("connected" if wire.is_tcp else "open", CONNECTION)
         task = asyncio.ensure_future(line.run())
         self.lines[line], self._places[line] = task, place
+        if isinstance(place, Listen):
+            self.room.add(line, place.name)
         task.add_done_callback(lambda done: self._over(line, done))
         return line
 
@@ -169,7 +222,8 @@ class Host:
         if self.outbox is None or not place.orders:
             return Line(*given)
         self.seats += 1
-        site = Site(place.name, peer, place.encoding, place.orders == "send", place.none, str(self.seats))
+        where = place.name, peer, place.encoding, place.orders == "send", place.none, str(self.seats)
+        site = Site(*where, place.asks, int(place.test.split("^")[0] or 4))
         return TwoWayLine(self.outbox, site, *given)
 
     def _mender(self, place: Place) -> Mender:
@@ -178,36 +232,35 @@ class Host:
         if one is None:
             would = self.would.setdefault(place.name, Counter())
             unknown = self.unknown.setdefault(place.name, Unknown(place.name))
-            one = Mender(place.mend, self._mending, would, unknown)
+            order = self._orders.setdefault(place.name, InOrder())
+            one = Mender(place.mend, self._workers, would, unknown, order)
             self._menders.append((place.name, one))
         return one
 
-    def has_room(self, place: Listen, peer: str) -> bool:
-        """Whether an address may have another line. If there are too many, of it or of all, the one that is silent for
-        the longest and never had a session gives way. A line that the host connected itself isn't counted."""
-        listens = [line for line, one in self._places.items() if isinstance(one, Listen)]
-        lines = [line for line in listens if not line.gives_way]
-        same = [line for line in lines if line.peer == peer]
-        if len(same) < self.limits.address:
-            if len(lines) < self.limits.lines:
-                return True
-            same = lines
-        idle = [line for line in same if not line.had_session]
-        if not idle:
-            text = f"{peer}: a connection is refused, there are {len(same)} with a session"
-            self.notices.say(place.name, text, CONNECTION)
-            return False
-        one = min(idle, key=lambda line: line.last_byte)
-        text = f"{one.peer}: a connection without a session gives way to one of {peer}"
-        self.notices.say(self._places[one].name, text, CONNECTION)
-        one.give_way()
-        return True
+    async def _end_left(self) -> None:
+        """Ends what the host left open that was here before, and begins to mend it: what comes now is after it."""
+        part, ends = self.committer.part, self._left.ends
+        kept = [self.committer.put_later(ends[start : start + part]) for start in range(0, len(ends), part)]
+        if kept:  # a store that keeps nothing now is no reason not to start
+            await asyncio.wait(kept, timeout=ENDING)
+        places = {place.name: place for place in self.asked.places}
+        for one in self._left.to_mend:
+            place = places.get(one.begin.line, Listen("", 0, one.begin.line))
+            mender = self._mender(place)
+            mender.order.begin(functools.partial(self._mend_one, mender, one))
+
+    async def _mend_one(self, mender: Mender, one: Ended) -> None:
+        made = await mender.changes(one)
+        await self.committer.put_later(made)
+        for end in is_mended(made):
+            self.notices.say(end.line, f"message {one.end.key} is mended: delivered as {end.key}; {LEFT}", MESSAGE)
 
     def _notice(self, name: str, peer: str, text: str, kind: str) -> None:
         self.notices.say(name, text if peer == name else f"{peer}: {text}", kind)
 
     def _over(self, line: Line, done: "asyncio.Task[None]") -> None:
         name = self._places.pop(line).name
+        self.room.remove(line)
         self._note_last(line, name)
         del self.lines[line]
         if not done.cancelled() and done.exception() is not None:
@@ -228,6 +281,7 @@ class Host:
     async def start(self) -> None:
         """Opens the ports and the devices."""
         await self._start_outbox(self.asked)
+        await self._end_left()
         warn(self.asked.places)
         for place in self.asked.listens:
             await self._listen(place)
@@ -247,8 +301,14 @@ class Host:
         if self.outbox is None and asked.outbox is not None:
             outbox = asked.outbox(functools.partial(self.notices.say, "orders"))
             outbox.shows(self.board.take_failed)
+            outbox.codes(self._codes_of_orders)
             await outbox.start()
             self.outbox = outbox
+
+    def _codes_of_orders(self, line: str) -> Mapping[str, str]:
+        """A line's codes for those of the laboratory."""
+        table = self.asked.tables.get(line)
+        return {} if table is None else table.of_orders(line)
 
     async def _open_board(self) -> None:
         """Lets `lislab watch` look. A host that can't be looked at serves all the same."""
@@ -265,10 +325,12 @@ class Host:
     async def _listen(self, place: Listen) -> None:
         port = Port(place)
         port.server = await asyncio.get_running_loop().create_server(
-            functools.partial(TcpWire, self, port), place.host, place.port, backlog=100, reuse_address=True
+            functools.partial(TcpWire, self, port), place.host, place.port, backlog=ACCEPTS, reuse_address=True
         )
         self._ports.append(port)
         for one in port.server.sockets or ():
+            with socket.socket(fileno=os.dup(one.fileno())) as same:
+                same.listen(BACKLOG)
             announce(f"listening {one.getsockname()[0]}:{one.getsockname()[1]} {place.name}")
 
     # ---- the file of lines
@@ -453,9 +515,9 @@ class Host:
         for task in self.lines.values():
             task.cancel()
         await asyncio.gather(*self.lines.values(), self._others.cancel(), return_exceptions=True)
-        for _, mender in self._menders:
-            await mender.tasks.finish()
-        self._mending.shutdown()
+        await asyncio.gather(*(order.stop(MENDING) for order in self._orders.values()))
+        await asyncio.gather(*(mender.stop() for _, mender in self._menders))
+        self._workers.stop()
         self.ticks.stop()
         await self.board.close()
         if self.outbox is not None:
@@ -574,12 +636,14 @@ class TcpWire(asyncio.BufferedProtocol, Wire):
         """Bytes came."""
         if self.line is None:
             return
-        data = bytes(self._buffer[:nbytes])
-        if self._telnet is not None:
-            data, answer = self._telnet.heard(data)
-            self._put(answer)
-        if data:
-            self.line.data(data, self._host.ticks.before)
+        came = memoryview(self._buffer)[:nbytes]
+        for start in range(0, nbytes, PIECE):
+            data = bytes(came[start : start + PIECE])
+            if self._telnet is not None:
+                data, answer = self._telnet.heard(data)
+                self._put(answer)
+            if data:
+                self.line.data(data, self._host.ticks.before)
 
     def eof_received(self) -> bool:
         """The peer sends no more: the connection is closed."""
@@ -616,8 +680,9 @@ class TcpWire(asyncio.BufferedProtocol, Wire):
             self._transport.resume_reading()
 
 
-async def serve(asked: Asked, store: Store) -> None:
-    """Serves until SIGTERM or SIGINT comes. At SIGHUP it reads its file of lines again, if it has one."""
+async def serve(asked: Asked, store: Store, left: Left = Left([], [])) -> None:
+    """Serves until SIGTERM or SIGINT comes, and mends what was left open first. At SIGHUP it reads its file of lines
+    again, if it has one."""
     sys.setswitchinterval(SWITCH)
     stop, again = asyncio.Event(), asyncio.Event()
     loop = asyncio.get_running_loop()
@@ -625,7 +690,7 @@ async def serve(asked: Asked, store: Store) -> None:
         loop.add_signal_handler(name, stop.set)
     if asked.again is not None:
         loop.add_signal_handler(signal.SIGHUP, again.set)
-    host = Host(asked, store)
+    host = Host(asked, store, left)
     try:
         await host.start()
         host.reads_again(again)

@@ -46,12 +46,14 @@ class SpoolStore(Store):
         self.folder = folder
         self._lock: Optional[int] = None
         self._open: Dict[str, "_Open"] = {}
+        #: The messages that a commit ended which failed, and may be tried again.
+        self._ended: Set[str] = set()
         self._number = 0
         #: The mark that the last whole message still needs, and its key.
         self._unmarked: Optional[Tuple[str, str]] = None
         self._syncing: Optional[ThreadPoolExecutor] = None
 
-    def start(self, host: str) -> int:
+    def start(self, host: str) -> List[Stored]:
         try:
             os.makedirs(self.folder, 0o700, exist_ok=True)
             self._lock = take_lock(self._path("host"))
@@ -61,7 +63,7 @@ class SpoolStore(Store):
                 os.makedirs(os.path.join(self.folder, name), 0o700, exist_ok=True)
             sync_folder(self.folder)
             self._take_last()
-            return self._end_open()
+            return self._take_left()
         except OSError as error:
             raise StoreError(f"{self.folder}: {error}") from None
 
@@ -102,22 +104,26 @@ class SpoolStore(Store):
         places = (self._path(OPEN, str(key)), self._path(UNFINISHED, f"{key}.records"))
         return None if any(map(os.path.exists, places)) else key
 
-    def _end_open(self) -> int:
+    def _take_left(self) -> List[Stored]:
+        """What an earlier run left open. Files without a text, and those that were being written, go."""
         left = self._names(OPEN)
-        for key in left:
-            with open(self._path(OPEN, key), "rb") as file:
-                body = file.read()
-            about = _read_about(self._path(OPEN, key + ".about"))
-            digest, line = hashlib.sha256(body).hexdigest(), str(about.get("line", ""))
-            self._move(End(key, line, UNFINISHED, LEFT, digest, len(body), float(about.get("began", 0))), about, None)
         for name in os.listdir(self._path(OPEN)):
-            os.unlink(self._path(OPEN, name))
-        self._sync_folders({OPEN, UNFINISHED})
-        return len(left)
+            if name.split(".about")[0] not in left:
+                os.unlink(self._path(OPEN, name))
+        self._sync_folders({OPEN})
+        for key in left:
+            path = self._path(OPEN, key)
+            self._open[key] = _Open(path, _read_about(path + ".about"), 0)
+            self._open[key].keep()
+        return [self._left(key)._replace(body=b"") for key in left]
+
+    def body_of(self, key: str) -> bytes:
+        return self._left(key).body
 
     def commit(self, units: Sequence[Unit]) -> None:
         changed: Set[str] = set()
         folders: Set[str] = set()
+        ended: Set[str] = set()
         try:
             for unit in units:
                 for change in unit:
@@ -128,33 +134,40 @@ class SpoolStore(Store):
             ends = [change for unit in units for change in unit if isinstance(change, End)]
             for end in ends:
                 folders |= {OPEN, end.state}
-                self._end(end)
+                self._end(end, ended)
             self._sync_folders(folders)
         except OSError as error:
             for key in changed & set(self._open):
-                self._open[key].cut(self._open[key].good)
+                self._open[key].take_back()
+            self._ended.update(ended)
             raise StoreError(f"{self.folder}: {error}") from None
         for key in changed & set(self._open):
-            self._open[key].good = self._open[key].size
+            self._open[key].keep()
+        self._ended.difference_update(ended)
 
     def _change(self, change: Change, changed: Set[str], folders: Set[str]) -> None:
-        if isinstance(change, Begin):
+        """Does what a change does to the files that are open. What a commit that failed has done already stays."""
+        one = self._open.get(change.key)
+        if change.key in self._ended or isinstance(change, End):
+            return
+        if isinstance(change, Begin) and one is None:
             folders.add(OPEN)
             about = {"line": change.line, "peer": change.peer, "encoding": change.encoding, "began": change.at}
             _write_about(self._path(OPEN, change.key + ".about"), about)
             self._open[change.key] = _Open(self._path(OPEN, change.key), about)
         elif isinstance(change, Add):
-            if change.key not in self._open:
+            if one is None:
                 raise OSError(f"message {change.key} isn't open")
             changed.add(change.key)
-            self._open[change.key].add(change.body)
+            one.take(change)
 
-    def _end(self, end: End) -> None:
+    def _end(self, end: End, ended: Set[str]) -> None:
         one = self._open.get(end.key)
-        if one is None:
-            if end.state == WHOLE:
-                raise OSError(f"message {end.key} isn't open")
+        if end.key in self._ended or (one is None and end.state != WHOLE):
+            ended.add(end.key)
             return
+        if one is None:
+            raise OSError(f"message {end.key} isn't open")
         if not one.size:  # nothing of it was kept
             os.unlink(self._path(OPEN, end.key))
             os.unlink(self._path(OPEN, end.key + ".about"))
@@ -167,6 +180,7 @@ class SpoolStore(Store):
                 self._unmarked = mark, end.key
         else:
             self._move(end, one.about, None)
+        ended.add(end.key)
         del self._open[end.key]
         one.close()
         self._write_mark()
@@ -301,10 +315,25 @@ def _count(line: str, rows: List[Tuple[str, Dict[str, Any]]]) -> LineCount:
 class _Open(Appended):
     """The file of a message that isn't whole."""
 
-    def __init__(self, path: str, about: Dict[str, Any]) -> None:
-        super().__init__(path)
-        #: Its line; and how long it was at the last commit.
-        self.about, self.good = about, 0
+    def __init__(self, path: str, about: Dict[str, Any], how: int = os.O_TRUNC) -> None:
+        super().__init__(path, how)  # if it is begun, what is there is of a try that failed
+        #: Its line; how long it was at the last commit, and how many texts or parts of texts it had then and has now.
+        self.about, self.good, self._kept, self._places = about, 0, 0, 0
+
+    def take(self, one: Add) -> None:
+        """Puts bytes after the others, unless a commit whose answer was an error has kept them."""
+        if one.place >= self._places:
+            self.add(one.body)
+            self._places = one.place + 1
+
+    def keep(self) -> None:
+        """All that it has is kept."""
+        self.good, self._kept = self.size, self._places
+
+    def take_back(self) -> None:
+        """Takes back what came since the last commit."""
+        self.cut(self.good)
+        self._places = self._kept
 
 
 def _size_of(path: str) -> int:

@@ -1,7 +1,7 @@
 """What the stores in databases share: the tables and the statements. A text, or a part of a long one, is one row; a
 message's bytes are those of its texts in order. So nothing is copied when a message becomes whole."""
 import abc
-from typing import Any, ContextManager, Iterator, List, Optional, Sequence, Tuple
+from typing import Any, ContextManager, Dict, Iterator, List, Optional, Sequence, Tuple, TypeVar
 
 from .store import (
     LEFT,
@@ -20,8 +20,8 @@ from .store import (
     Unit,
 )
 
-#: The version of the tables.
-SCHEMA = 1
+#: The version of the tables; how many rows one statement puts.
+SCHEMA, ROWS = 1, 100
 TABLES = (
     "CREATE TABLE IF NOT EXISTS about (name TEXT PRIMARY KEY, value TEXT NOT NULL)",
     f"""CREATE TABLE IF NOT EXISTS message (
@@ -39,7 +39,23 @@ TABLES = (
 )
 # In the words of the index of messages that aren't whole.
 _OPEN_HOSTS = f"SELECT DISTINCT host FROM message WHERE state <> '{WHOLE}' AND state = '{OPEN}'"
+T = TypeVar("T")
 _COLUMNS = "number, key, line, peer, encoding, began, ended, state, reason, again_of"
+
+
+def _lots(rows: Sequence[T]) -> Iterator[Sequence[T]]:
+    """Rows in lots, each for one statement."""
+    return (rows[start : start + ROWS] for start in range(0, len(rows), ROWS))
+
+
+def _marks(rows: Sequence[Any], width: int = 0) -> str:
+    """The signs for the values of rows."""
+    width = width or len(rows[0])
+    return ",".join([f"({','.join('?' * width)})"] * len(rows))
+
+
+def _flat(rows: Sequence[Tuple[Any, ...]]) -> List[Any]:
+    return [value for row in rows for value in row]
 
 
 class SqlStore(Store):
@@ -94,14 +110,18 @@ class SqlStore(Store):
     def is_gone(self, host: str) -> bool:
         """Whether no other host runs that has this name; inside the transaction of a start."""
 
-    def end_open(self) -> int:
-        """Makes unfinished what this host, or one that is gone, left open: how many messages."""
-        left = 0
+    def take_left(self) -> List[Stored]:
+        """What this host, or one that is gone, left open: all of it is this host's now."""
         for (host,) in self.run(_OPEN_HOSTS).fetchall():
-            if self.is_gone(host):
-                statement = "UPDATE message SET state = ?, reason = ?, ended = began WHERE state = ? AND host = ?"
-                left += int(self.run(statement, (UNFINISHED, LEFT, OPEN, host)).rowcount)
-        return left
+            if host != self.host and self.is_gone(host):
+                self.run("UPDATE message SET host = ? WHERE state = ? AND host = ?", (self.host, OPEN, host))
+        where = f"state <> '{WHOLE}' AND state = '{OPEN}' AND host = ?"
+        rows = self.run(f"SELECT {_COLUMNS} FROM message WHERE {where} ORDER BY began, key", (self.host,)).fetchall()
+        return [Stored._make([*row, b""]) for row in rows]
+
+    def body_of(self, key: str) -> bytes:
+        rows = self.read("SELECT body FROM text WHERE message = ? ORDER BY place", (key,))
+        return b"".join(bytes(row[0]) for row in rows)
 
     def _left(self) -> Tuple[str, List[str]]:
         """The condition of messages that hosts left open that don't run, and its values."""
@@ -110,46 +130,64 @@ class SqlStore(Store):
         return f"(state = '{OPEN}' AND host IN ({', '.join('?' * len(gone))}))" if gone else "(1 = 0)", gone
 
     def apply(self, units: Sequence[Unit]) -> None:
-        """The changes, inside a transaction. Numbers come last, so that their lock is short."""
-        ends: List[End] = []
-        for unit in units:
-            for change in unit:
-                if isinstance(change, Begin):
-                    self.run(
-                        "INSERT INTO message (key, host, line, peer, encoding, began, state) VALUES (?,?,?,?,?,?,?)",
-                        (change.key, self.host, change.line, change.peer, change.encoding, change.at, OPEN),
-                    )
-                elif isinstance(change, Add):
-                    self.run(
-                        "INSERT INTO text (message, place, at, body) VALUES (?,?,?,?)",
-                        (change.key, change.place, change.at, change.body),
-                    )
-                elif change.state == WHOLE:
-                    ends.append(change)
-                else:
-                    self.run(
-                        "UPDATE message SET state = ?, reason = ?, digest = ?, size = ?, ended = ?"
-                        " WHERE key = ? AND state = ?",
-                        (change.state, change.reason, change.digest, change.size, change.at, change.key, OPEN),
-                    )
-        if ends:
-            self._number(ends)
+        """The changes, inside a transaction. What is there already, since a commit was kept whose answer was lost, stays
+        as it is. Numbers come last, so that their lock is short."""
+        changes = [change for unit in units for change in unit]
+        rows: List[Tuple[Any, ...]] = [
+            (one.key, self.host, one.line, one.peer, one.encoding, one.at, OPEN)
+            for one in changes
+            if isinstance(one, Begin)
+        ]
+        self._put("message (key, host, line, peer, encoding, began, state)", rows)
+        rows = [(one.key, one.place, one.at, one.body) for one in changes if isinstance(one, Add)]
+        self._put("text (message, place, at, body)", rows)
+        ends = [one for one in changes if isinstance(one, End)]
+        self._end([(one, None, None) for one in ends if one.state != WHOLE])
+        whole = [one for one in ends if one.state == WHOLE]
+        if whole:
+            self._number(whole)
+
+    def _put(self, table: str, rows: Sequence[Tuple[Any, ...]]) -> None:
+        """Puts rows into a table: those that aren't there."""
+        for some in _lots(rows):
+            self.run(f"INSERT INTO {table} VALUES {_marks(some)} ON CONFLICT DO NOTHING", _flat(some))
+
+    def _end(self, ends: Sequence[Tuple[End, Optional[str], Optional[int]]]) -> None:
+        """Ends messages that are open: each with the first one of its bytes and its number."""
+        rows = [
+            (one.key, one.state, one.reason, one.digest, one.size, one.at, first, number) for one, first, number in ends
+        ]
+        for some in _lots(rows):
+            self.run(
+                "UPDATE message SET state = v.column2, reason = v.column3, digest = v.column4,"
+                " size = CAST(v.column5 AS BIGINT), ended = CAST(v.column6 AS DOUBLE PRECISION),"
+                " again_of = CAST(v.column7 AS TEXT), number = CAST(v.column8 AS BIGINT)"
+                f" FROM (VALUES {_marks(some)}) AS v WHERE key = v.column1 AND state = '{OPEN}'",
+                _flat(some),
+            )
 
     def _number(self, ends: Sequence[End]) -> None:
         self.lock_numbers()
         number = int(self.run("SELECT coalesce(max(number), 0) FROM message").fetchone()[0])
-        for number, end in enumerate(ends, number + 1):
-            first = self.run(
-                "SELECT key FROM message WHERE line = ? AND digest = ? AND again_of IS NULL AND state = ?",
-                (end.line, end.digest, WHOLE),
-            ).fetchone()
-            done = self.run(
-                "UPDATE message SET state = ?, reason = ?, digest = ?, size = ?, ended = ?, again_of = ?, number = ?"
-                " WHERE key = ? AND state = ?",
-                (WHOLE, end.reason, end.digest, end.size, end.at, first and first[0], number, end.key, OPEN),
-            )
-            if done.rowcount != 1:
+        states: Dict[str, str] = {}
+        first: Dict[Tuple[str, str], str] = {}
+        for some in _lots(ends):
+            words = f"SELECT key, state FROM message WHERE key IN ({','.join('?' * len(some))})"
+            states.update(self.run(words, [one.key for one in some]).fetchall())
+            words = f"SELECT line, digest, key FROM (VALUES {_marks(some, 2)}) AS v CROSS JOIN message"
+            words += f" WHERE line = v.column1 AND digest = v.column2 AND again_of IS NULL AND state = '{WHOLE}'"
+            found = self.run(words, _flat([(one.line, one.digest) for one in some])).fetchall()
+            first.update({(line, digest): key for line, digest, key in found})
+        rows = []
+        for end in ends:
+            if states.get(end.key) == WHOLE:  # its commit was kept, and the answer lost
+                continue
+            if states.get(end.key) != OPEN:
                 raise StoreError(f"message {end.key} isn't open")
+            number += 1
+            rows.append((end, first.get((end.line, end.digest)), number))
+            first.setdefault((end.line, end.digest), end.key)
+        self._end(rows)
 
     def read(self, statement: str, values: Sequence[Any] = ()) -> List[Tuple[Any, ...]]:
         """The rows of a statement that changes nothing."""
@@ -180,8 +218,7 @@ class SqlStore(Store):
             yield one._replace(state=UNFINISHED, reason=LEFT) if one.state == OPEN else one
 
     def _stored(self, row: Tuple[Any, ...]) -> Stored:
-        bodies = self.read("SELECT body FROM text WHERE message = ? ORDER BY place", (row[1],))
-        return Stored._make([*row, b"".join(bytes(one[0]) for one in bodies)])
+        return Stored._make([*row, self.body_of(row[1])])
 
     def counts(self) -> List[LineCount]:
         left, gone = self._left()

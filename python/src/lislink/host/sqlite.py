@@ -6,7 +6,7 @@ from typing import Any, Iterator, List, Optional, Sequence, Tuple
 
 from .files import is_locked, take_lock
 from .sql import SqlStore
-from .store import StoreError
+from .store import Stored, StoreError
 
 #: How long another program's short transaction is waited for, in seconds.
 PATIENCE = 5.0
@@ -23,13 +23,13 @@ class SqliteStore(SqlStore):
         self._lock: Optional[int] = None
         self._db: Optional[sqlite3.Connection] = None
 
-    def start(self, host: str) -> int:
+    def start(self, host: str) -> List[Stored]:
         self.host = host
         self._take()
         self._open()
         with self.changing():
             self.make_tables()
-            return self.end_open()
+            return self.take_left()
 
     def join(self) -> None:
         self._open()

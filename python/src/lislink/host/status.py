@@ -7,6 +7,7 @@ from ..delivery.aside import held_of
 from ..orders.book import Failed, reading_book
 from .deliver import read_cursor
 from .export import time_text
+from .said import shown
 from .store import Store
 
 #: A state that was written longer ago than this, in seconds, is old; so many failed orders of a line are named.
@@ -176,7 +177,7 @@ def text_of(data: Dict[str, Any]) -> str:
     for name, kinds in sorted(data["not_said"].items()):
         counts = ", ".join(f"{count} of kind {kind}" for kind, count in sorted(kinds.items()))
         rows.append(f"{name}: notices that were not said: {counts}")
-    return "\n".join([head, *rows, *_order_rows(data)]) + "\n"
+    return "".join(shown(row) + "\n" for row in [head, *rows, *_order_rows(data)])
 
 
 def _order_rows(data: Dict[str, Any]) -> Iterator[str]:

@@ -94,9 +94,13 @@ class Store(abc.ABC):
     held_to_the_end = True
 
     @abc.abstractmethod
-    def start(self, host: str) -> int:
-        """Takes the store for this host, and makes what an earlier run left open unfinished: how many messages.
-        StoreError if another host has it."""
+    def start(self, host: str) -> List[Stored]:
+        """Takes the store for this host: the messages that an earlier run left open, in the order in which they began
+        and without their bytes. They are this host's now, which is to end them. StoreError if another host has it."""
+
+    @abc.abstractmethod
+    def body_of(self, key: str) -> bytes:
+        """The bytes of a message that is open. None may be asked for while changes are committed."""
 
     @abc.abstractmethod
     def commit(self, units: Sequence[Unit]) -> None:

@@ -22,11 +22,6 @@ class Tasks:
         if self._say is not None and not done.cancelled() and done.exception() is not None:
             self._say(f"given up: {type(done.exception()).__name__}: {done.exception()}")
 
-    async def finish(self) -> None:
-        """Done when all that was begun is done."""
-        while self.all:
-            await asyncio.wait(list(self.all))
-
     async def cancel(self) -> None:
         """Ends all that goes on."""
         for task in self.all:

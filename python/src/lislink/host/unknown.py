@@ -3,7 +3,7 @@ import contextlib
 from collections import Counter
 from typing import Dict, Optional, Tuple
 
-from ..delivery.codes import Codes, code_and_unit
+from ..delivery.codes import Codes, field_and_unit
 from ..message import Entry
 from ..records import MessageError, Reader
 from ..rows import Row
@@ -11,7 +11,7 @@ from ..rows import Row
 #: So many codes are counted one by one, of a line and of a message; so many of a message are named; a code is shown up
 #: to so many characters.
 MOST, NAMED, SHOWN = 50, 5, 20
-#: A code and a unit as they came. Codes over the most are one.
+#: The field of a test and a unit as they came. Codes over the most are one.
 Pair = Tuple[str, str]
 _OTHERS: Pair = ("other codes", "")
 
@@ -29,7 +29,7 @@ class Unknown:
 
     def take(self, table: Optional[Codes]) -> bool:
         """Takes another table: what it has isn't lacking any more. Whether it isn't as the one before."""
-        is_other = (table and table.rows) != (self.table and self.table.rows)
+        is_other = (table and (table.rows, table.reading)) != (self.table and (self.table.rows, self.table.reading))
         self.table = table
         if is_other:
             self._counts = Counter({one: count for one, count in self._counts.items() if self._lacked(one)})
@@ -44,7 +44,7 @@ class Unknown:
         if row.letter != "R":
             return
         try:
-            pair = code_and_unit(Entry(row, 0, encoding))
+            pair = field_and_unit(Entry(row, 0, encoding))
             if self._lacked(pair):
                 _add(self._ending.setdefault(key, Counter()), pair, 1)
         except Exception:  # it is no reason to lose what came: a delivery says what is wrong with it

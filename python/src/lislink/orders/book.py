@@ -1,17 +1,18 @@
 """The orders of a store, and what became of each. An order that waits is taken by one host, sent, and then marked: if
 the host dies before it can mark it, the order is sent again."""
 import contextlib
+import itertools
 import json
 import time
-from typing import Any, Callable, Dict, Iterable, Iterator, List, NamedTuple, Optional, Sequence, Tuple
+from typing import Any, Callable, Collection, Dict, Iterable, Iterator, List, NamedTuple, Optional, Sequence, Tuple
 
 from ..host.spool import SpoolStore
 from ..host.sql import SqlStore
 from ..host.store import Store, StoreError, open_store
-from .order import Order
+from .order import Order, OrderError, order_of
 
-#: The states of an order.
-WAITING, SENT, FAILED, CANCELLED = STATES = ("waiting", "sent", "failed", "cancelled")
+#: The states of an order. One that is done is kept as sent, with the time when its last result came.
+WAITING, SENT, DONE, FAILED, CANCELLED = STATES = ("waiting", "sent", "done", "failed", "cancelled")
 #: A host that is gone has its orders for so many seconds more: it may only have lost its connection.
 LEFT_AFTER = 30.0
 _TABLES = (
@@ -26,8 +27,22 @@ _TABLES = (
     "CREATE INDEX IF NOT EXISTS orders_waiting ON orders (sample) WHERE state = 'waiting'",
     "CREATE INDEX IF NOT EXISTS orders_failed ON orders (changed) WHERE state = 'failed'",
 )
+#: Columns that stores of earlier versions lack: what else an order says, the tests whose results came, when the last one
+#: did, and the line on which the order was sent last.
+_LATER = {
+    "more": "TEXT NOT NULL DEFAULT '{}'",
+    "came": "TEXT NOT NULL DEFAULT '[]'",
+    "done": "DOUBLE PRECISION NOT NULL DEFAULT 0",
+    "sent_on": "TEXT NOT NULL DEFAULT ''",
+}
 _ORDER = "sample, tests, line, priority, patient, name, birth, sex, collected"
-_COLUMNS = f"number, state, reason, tries, added, changed, {_ORDER}, asked"
+_SHOWN = f"CASE WHEN state = '{SENT}' AND done > 0 THEN '{DONE}' ELSE state END"
+#: Orders that are urgent come first.
+_IN_TURN = "CASE priority WHEN 'S' THEN 0 WHEN 'A' THEN 1 ELSE 2 END, number"
+#: So many orders are added, or looked at, in one transaction.
+LOT = 1000
+#: The state of an order that no analyzer asks for any more: one that was sent on a line stays sent.
+_BEFORE = f"CASE WHEN sent_on <> '' THEN '{SENT}' ELSE '{WAITING}' END"
 #: The line on which an order has failed: it may be one for any line.
 _FAILED_ON = "CASE WHEN line = '' THEN asked ELSE line END"
 
@@ -44,6 +59,15 @@ class Placed(NamedTuple):
     order: Order
     #: Where an analyzer asked for it, if one did; of one that has failed, on which line it did.
     asked: str = ""
+    #: The tests whose results have come.
+    came: Tuple[str, ...] = ()
+
+
+class Asked(NamedTuple):
+    """How many orders a query has marked, and how many are being sent already over the connection that asks."""
+
+    found: int
+    mine: int
 
 
 class Failed(NamedTuple):
@@ -55,28 +79,42 @@ class Failed(NamedTuple):
 
 
 class Wanted(NamedTuple):
-    """Which samples a query asks for: these, those in a range, or all if there are none; and from when to when, as
-    YYYYMMDD, maybe with HHMM or HHMMSS after it."""
+    """Which samples a query asks for: these, those in a range, or each one; and, of a range or of each one, when they
+    were collected, as YYYYMMDD, maybe with HHMM or HHMMSS after it."""
 
     samples: Sequence[str] = ()
     first: str = ""
     last: str = ""
     since: str = ""
     until: str = ""
+    everything: bool = False
 
     def condition(self) -> Tuple[str, List[str]]:
-        """The same in SQL, with its values."""
+        """The orders among which they are, in SQL, with its values."""
         if self.samples:
             return f"sample IN ({', '.join('?' * len(self.samples))})", list(self.samples)
-        if self.first or self.last:
-            words = [f"sample {sign} ?" for sign, one in ((">=", self.first), ("<=", self.last)) if one]
-            return " AND ".join(words), [one for one in (self.first, self.last) if one]
-        return "1 = 1", []
+        return ("1 = 1" if self.everything or self.first else "1 = 0"), []
+
+    def holds(self, sample: str, collected: str) -> bool:
+        """Whether it asks for an order of a sample that was collected then."""
+        if self.samples:
+            return sample in self.samples
+        return self._is_within(sample) and self.is_then(collected)
+
+    def _is_within(self, sample: str) -> bool:
+        """Whether a sample is in the range. If both ends are numbers, it is a number with as many digits as one of them,
+        or with a count in between; else texts are compared."""
+        if self.everything:
+            return True
+        if not (self.first.isdecimal() and self.last.isdecimal()):
+            return self.first <= sample <= self.last
+        is_like = sample.isdecimal() and len(self.first) <= len(sample) <= len(self.last)
+        return is_like and int(self.first) <= int(sample) <= int(self.last)
 
     def is_then(self, date: str) -> bool:
-        """Whether a date is in its time; compared as far as both are written."""
+        """Whether a date is in its time; compared as far as both are written. A sample without a date always is."""
         begun, over = date[: len(self.since)], date[: len(self.until)]
-        return begun >= self.since[: len(begun)] and over <= self.until
+        return not date or (begun >= self.since[: len(begun)] and over <= self.until)
 
 
 class OrderBook:
@@ -92,6 +130,10 @@ class OrderBook:
             self._store.lock_numbers()
             for statement in _TABLES:
                 self._store.run(statement)
+            known = self._known()
+            for name, kind in _LATER.items():
+                if name not in known:
+                    self._store.run(f"ALTER TABLE orders ADD COLUMN {name} {kind}")
             if self._host:
                 self._store.run("UPDATE orders SET holder = '' WHERE holder = ?", (self._host,))
                 self._store.run(f"UPDATE orders SET seat = '' WHERE substr(seat, 1, {len(self._host) + 1}) = ?",
@@ -101,20 +143,44 @@ class OrderBook:
         """Whether there is a table of orders."""
         return self._store.has("orders")
 
+    def _known(self) -> List[str]:
+        """The columns of the table."""
+        return [str(one[0]) for one in self._store.run("SELECT * FROM orders LIMIT 0").description]
+
+    def _shown(self) -> str:
+        """The state that is shown, in SQL. A store that an earlier version made may be read before it is changed."""
+        return _SHOWN if "done" in self._known() else "state"
+
+    def _columns(self) -> str:
+        """The columns of an order that is listed."""
+        known = self._known()
+        later = (name if name in known else _LATER[name].rsplit(" ", 1)[1] for name in ("more", "came"))
+        return f"number, {self._shown()}, reason, tries, added, changed, {_ORDER}, asked, {', '.join(later)}"
+
     def add(self, orders: Iterable[Order]) -> List[Placed]:
-        """Keeps orders: all of them, or none on a StoreError."""
-        with self._store.changing():
-            return self._add(orders)
+        """Stores orders in lots, so that no host waits long for the store: each lot as a whole. A StoreError says how
+        many were stored before."""
+        left, placed = iter(orders), []  # type: Iterator[Order], List[Placed]
+        while True:
+            lot = list(itertools.islice(left, LOT))
+            if not lot:
+                return placed
+            try:
+                with self._store.changing():
+                    more = self._add(lot)
+            except StoreError as error:
+                raise StoreError(f"{error}: {len(placed)} orders are stored, the others aren't") from None
+            placed += more
 
     def _add(self, orders: Iterable[Order]) -> List[Placed]:
-        """The same within a transaction."""
+        """Stores orders within a transaction."""
         placed, at = [], self._clock()
         self._store.lock_numbers()
         number = int(self._store.run("SELECT coalesce(max(number), 0) FROM orders").fetchone()[0])
         for number, order in enumerate(orders, number + 1):
-            row = (number, order.sample, json.dumps(order.tests), *order[2:], at, at)
+            row = (number, order.sample, json.dumps(order.tests), *order[2:9], at, at, json.dumps(dict(order.more)))
             self._store.run(
-                f"INSERT INTO orders (number, {_ORDER}, added, changed) VALUES ({', '.join('?' * len(row))})", row
+                f"INSERT INTO orders (number, {_ORDER}, added, changed, more) VALUES ({', '.join('?' * len(row))})", row
             )
             placed.append(Placed(number, WAITING, "", 0, at, at, order))
         return placed
@@ -124,22 +190,29 @@ class OrderBook:
         has such files. StoreError."""
         return []
 
-    def listed(self, sample: Optional[str] = None, state: Optional[str] = None) -> List[Placed]:
-        """The orders, of a sample or in a state, in the order of their numbers."""
+    def listed(self, sample: Optional[str] = None, state: Optional[str] = None) -> Iterator[Placed]:
+        """The orders, of a sample or in a state, in the order of their numbers. A row of another program that can't be
+        an order is listed as one that has failed."""
         if not self.is_there():
-            return []
-        asked = [(f"{name} = ?", one) for name, one in (("sample", sample), ("state", state)) if one is not None]
-        where = " AND ".join(["1 = 1", *(words for words, _ in asked)])
-        rows = self._store.read(
-            f"SELECT {_COLUMNS} FROM orders WHERE {where} ORDER BY number", [one for _, one in asked]
-        )
-        return [_placed(row) for row in rows]
+            return
+        last, columns = 0, self._columns()
+        asked = [(f"{name} = ?", one) for name, one in (("sample", sample), (self._shown(), state)) if one is not None]
+        where = " AND ".join(["number > ?", *(words for words, _ in asked)])
+        while True:
+            rows = self._store.read(
+                f"SELECT {columns} FROM orders WHERE {where} ORDER BY number LIMIT ?",
+                [last, *(one for _, one in asked), LOT],
+            )
+            if not rows:
+                return
+            last = int(rows[-1][0])
+            yield from (_placed(row) for row in rows)
 
     def counts(self) -> Dict[str, int]:
         """How many orders are in each state; none if there are no orders."""
         if not self.is_there():
             return {}
-        rows = self._store.read("SELECT state, count(*) FROM orders GROUP BY state")
+        rows = self._store.read(f"SELECT {self._shown()} AS shown, count(*) FROM orders GROUP BY 1")
         found = {str(state): int(count) for state, count in rows}
         return {state: found[state] for state in STATES if state in found}
 
@@ -157,7 +230,7 @@ class OrderBook:
         part = f"OVER (PARTITION BY {_FAILED_ON}"
         rows = self._store.read(
             f"SELECT * FROM (SELECT {_FAILED_ON} AS failed_on, count(*) {part}) AS many, min(changed) {part}) AS since,"
-            f" row_number() {part} ORDER BY changed DESC, number DESC) AS place, {_COLUMNS}"
+            f" row_number() {part} ORDER BY changed DESC, number DESC) AS place, {self._columns()}"
             f" FROM orders WHERE state = '{FAILED}') AS found WHERE place <= ? ORDER BY failed_on, place",
             (most,),
         )
@@ -178,7 +251,7 @@ class OrderBook:
         with self._store.changing():
             done = self._store.run(
                 "UPDATE orders SET state = ?, reason = '', tries = 0, next_try = 0, asked = '', seat = '', holder = '',"
-                " changed = ?"
+                " came = '[]', done = 0, sent_on = '', changed = ?"
                 f" WHERE number = ? AND {where}",
                 (state, self._clock(), number),
             )
@@ -186,21 +259,32 @@ class OrderBook:
 
     # ---- what a host does
 
-    def ask(self, place: str, seat: str, line: str, wanted: Wanted, most: int) -> int:
-        """Marks waiting orders as asked for at a place, over the connection that has this seat, at most so many: how
-        many. They are to be sent there now."""
-        where, values = wanted.condition()
+    def ask(self, place: str, seat: str, line: str, wanted: Sequence[Wanted], again: float = 0.0) -> Asked:
+        """Marks orders as asked for at a place, over the connection that has this seat. They are to be sent there now.
+        They are those that wait, and those that were sent on the line not longer ago than so many seconds and lack a
+        result; none that is being sent."""
+        found, now, mine = 0, self._clock(), 0
         with self._store.changing():
-            rows = self._store.run(
-                f"SELECT number, collected, added FROM orders WHERE state = '{WAITING}' AND line IN ('', ?) AND {where}"
-                " ORDER BY number",
-                (line, *values),
-            ).fetchall()
-            found = [number for number, date, added in rows if wanted.is_then(date or _local(added))][:most]
-            for number in found:
-                marks = (place, self._seat(seat), number)
-                self._store.run("UPDATE orders SET asked = ?, seat = ?, next_try = 0 WHERE number = ?", marks)
-        return len(found)
+            for one in wanted:
+                where, values = one.condition()
+                rows = self._store.run(
+                    f"SELECT number, sample, collected, holder, seat FROM orders WHERE (state = '{WAITING}' OR"
+                    f" (state = '{SENT}' AND done = 0 AND sent_on = ? AND changed >= ?)) AND line IN ('', ?)"
+                    f" AND {where}",
+                    (line, now - again, line, *values),
+                ).fetchall()
+                for number, sample, collected, holder, at in rows:
+                    if not one.holds(sample, collected):
+                        continue
+                    if holder:
+                        mine += at == self._seat(seat)
+                    else:
+                        self._store.run(
+                            f"UPDATE orders SET state = '{WAITING}', asked = ?, seat = ?, next_try = 0 WHERE number = ?",
+                            (place, self._seat(seat), number),
+                        )
+                        found += 1
+        return Asked(found, mine)
 
     def _seat(self, seat: str) -> str:
         return f"{self._host}/{seat}"
@@ -211,7 +295,7 @@ class OrderBook:
         ours = f" OR number IN ({', '.join('?' * len(numbers))})" if numbers else ""
         with self._store.changing():
             self._store.run(
-                "UPDATE orders SET asked = '', seat = '', holder = ''"
+                f"UPDATE orders SET asked = '', seat = '', holder = '', state = {_BEFORE}"
                 f" WHERE state = '{WAITING}' AND asked = ? AND (holder = ''{ours})",
                 (place, *numbers),
             )
@@ -223,22 +307,38 @@ class OrderBook:
 
     def take(self, place: str, seat: str, line: str, most: int, without: Iterable[int]) -> List[Placed]:
         """Takes orders that are to be sent now: those that were asked for at a place, over this connection or one that
-        is over, or, if the place is empty, those of a line that nobody asked for. Nobody else has them until `sent` or
-        `tried` is said of them."""
+        is over, or, if the place is empty, those of a line that nobody asked for; urgent ones first. Nobody else has
+        them until `sent`, `tried` or `give_back` is said of them. A row of another program that can't be an order is among
+        them as one that has failed, with the reason; it isn't taken."""
         out = sorted(set(without))
         skip = f" AND number NOT IN ({', '.join('?' * len(out))})" if out else ""
         now = self._clock()
         with self._store.changing():
             free, gone = self._free(now)
             rows = self._store.run(
-                f"SELECT {_COLUMNS} FROM orders WHERE state = '{WAITING}' AND next_try <= ? AND {free}{skip}"
-                " AND asked = ? AND seat IN ('', ?) AND line IN ('', ?) ORDER BY number LIMIT ?"
+                f"SELECT {self._columns()} FROM orders WHERE state = '{WAITING}' AND next_try <= ? AND {free}{skip}"
+                f" AND asked = ? AND seat IN ('', ?) AND line IN ('', ?) ORDER BY {_IN_TURN} LIMIT ?"
                 f"{self._store.skip_locked}",
                 (now, *gone, *out, place, self._seat(seat), line, most),
             ).fetchall()
-            for row in rows:
-                self._store.run("UPDATE orders SET holder = ?, changed = ? WHERE number = ?", (self._host, now, row[0]))
-        return [_placed(row) for row in rows]
+            placed = [_placed(row) for row in rows]
+            for one in placed:
+                if one.state == FAILED:
+                    self._store.run(
+                        "UPDATE orders SET state = ?, reason = ?, asked = ?, changed = ? WHERE number = ?",
+                        (FAILED, one.reason, line, now, one.number),
+                    )
+                else:
+                    self._store.run(
+                        "UPDATE orders SET holder = ?, changed = ? WHERE number = ?", (self._host, now, one.number)
+                    )
+        return placed
+
+    def give_back(self, numbers: Sequence[int]) -> None:
+        """Orders that were taken wait again, as if they hadn't been."""
+        with self._store.changing():
+            for number in numbers:
+                self._store.run(f"UPDATE orders SET holder = '' WHERE number = ? AND state = '{WAITING}'", (number,))
 
     def _free(self, now: float) -> Tuple[str, List[Any]]:
         """The condition of orders that no host has, or one that is gone for a while."""
@@ -257,15 +357,35 @@ class OrderBook:
         )
         return [(asked, line) for asked, line in rows]
 
-    def sent(self, numbers: Sequence[int]) -> None:
-        """Orders are sent: each frame of theirs was acknowledged, in a session that is done."""
+    def sent(self, line: str, numbers: Sequence[int]) -> None:
+        """Orders are sent on a line: each frame of theirs was acknowledged, in a session that is done."""
         with self._store.changing():
             for number in numbers:
                 self._store.run(
-                    "UPDATE orders SET state = ?, reason = '', holder = '', asked = '', seat = '', changed = ?"
-                    f" WHERE number = ? AND state = '{WAITING}'",
-                    (SENT, self._clock(), number),
+                    "UPDATE orders SET state = ?, reason = '', holder = '', asked = '', seat = '', sent_on = ?,"
+                    f" changed = ? WHERE number = ? AND state = '{WAITING}'",
+                    (SENT, line, self._clock(), number),
                 )
+
+    def results(self, line: str, sample: str, tests: Collection[str]) -> None:
+        """Results of these tests of a sample came on a line: an order that was sent is done once each of its tests has
+        one."""
+        with self._store.changing():
+            rows = self._store.run(
+                f"SELECT number, tests, came FROM orders WHERE sample = ? AND done = 0 AND line IN ('', ?)"
+                f" AND (state = '{SENT}' OR sent_on <> '')",
+                (sample, line),
+            ).fetchall()
+            for number, text, before in rows:
+                wanted, came = _texts_in(text), set(_texts_in(before))
+                now = came | (set(wanted) & set(tests))
+                if now != came:
+                    done = self._clock() if now >= set(wanted) else 0.0
+                    state = SENT if done else None
+                    self._store.run(
+                        "UPDATE orders SET came = ?, done = ?, state = coalesce(?, state) WHERE number = ?",
+                        (json.dumps(sorted(now)), done, state, number),
+                    )
 
     def tried(self, line: str, numbers: Sequence[int], why: str, most: int, wait: float) -> List[int]:
         """Orders were tried on a line in vain: they wait for so many seconds, or have failed if it was the last try.
@@ -291,15 +411,28 @@ class OrderBook:
         self._store.close()
 
 
-def _local(at: float) -> str:
-    """A time of the clock on the wall as a date of the records."""
-    return time.strftime("%Y%m%d%H%M%S", time.localtime(at))
+def _texts_in(text: str) -> List[str]:
+    """The texts of a JSON list; none if it is something else."""
+    try:
+        found = json.loads(text)
+    except ValueError:
+        return []
+    return [one for one in found if isinstance(one, str)] if isinstance(found, list) else []
 
 
 def _placed(row: Sequence[Any]) -> Placed:
+    """An order of the store. Other programs add rows: one that can't be an order is one that has failed."""
     number, state, reason, tries, added, changed, sample, tests, *others = row
-    order = Order(sample, tuple(json.loads(tests)), *others[:7])
-    return Placed(int(number), state, reason, int(tries), added, changed, order, others[7])
+    asked, more, came = others[7:]
+    order = Order(sample, tuple(_texts_in(tests)), *others[:7])
+    try:
+        order = order_of({**order.row(), **json.loads(more), "tests": json.loads(tests)})
+        if not tests.lstrip().startswith("["):
+            raise OrderError("its tests are no JSON list of texts")
+    except (OrderError, ValueError, TypeError) as error:
+        if state == WAITING:
+            state, reason = FAILED, f"the row can't be an order: {error}"
+    return Placed(int(number), state, reason, int(tries), added, changed, order, asked, tuple(_texts_in(came)))
 
 
 def open_book(where: str, host: str = "", reading: bool = False) -> OrderBook:

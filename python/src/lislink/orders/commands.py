@@ -5,17 +5,17 @@ import time
 from typing import Any, List
 
 from ..host.options import OptionError
-from ..host.said import say
-from .book import FAILED, STATES, OrderBook, Placed, open_book
+from ..host.said import say, shown
+from .book import FAILED, SENT, STATES, OrderBook, Placed, open_book
 from .order import Order, orders_of
 
 #: Exit statuses, as those of the other commands.
 GOOD, WRONG = 0, 1
 _STATES = (
     "An order is waiting until it is sent, also after a try that failed; sent when the analyzer has acknowledged each "
-    "frame of it; failed, with the reason, after the last try of `serve --tries`, or if it can't be written in the "
-    "line's encoding: `lislab order again NUMBER` sends it anew, `lislab order cancel NUMBER` gives it up; cancelled, "
-    "and not sent."
+    "frame of it; done when a result of each of its tests has come; failed, with the reason, after the last try of "
+    "`serve --tries`, or if it can't be written in the line's encoding: `lislab order again NUMBER` sends it anew, "
+    "`lislab order cancel NUMBER` gives it up; cancelled, and not sent."
 )
 
 
@@ -46,6 +46,7 @@ def _add_list(one: argparse.ArgumentParser) -> None:
     _store(one)
     one.add_argument("--sample", metavar="SAMPLE", help="of this sample")
     one.add_argument("--state", choices=STATES, help="in this state")
+    one.add_argument("--owed", action="store_true", help="those that are sent and lack a result, with the tests that do")
     one.set_defaults(run=run_list)
 
 
@@ -62,7 +63,7 @@ def told(placed: Placed) -> str:
     if placed.state == "waiting" and not placed.tries:
         return words
     at = time.strftime("%Y-%m-%d %H:%M:%S", time.localtime(placed.changed))
-    where = f" on {placed.asked}:" if placed.state == FAILED and placed.asked != order.line else ""
+    where = f" on {placed.asked}:" if placed.state == FAILED and placed.asked not in ("", order.line) else ""
     why = f"{where} {placed.reason}" if placed.reason else ""
     return f"{words} {placed.state} {at}{why}" + (f", tried {placed.tries}" if placed.tries else "")
 
@@ -91,7 +92,7 @@ def run_add(ask: argparse.Namespace) -> int:
         book = open_book(ask.store)
         try:
             for placed in book.add(good):
-                print(told(placed))
+                print(shown(told(placed)))
         finally:
             book.close()
     else:
@@ -104,8 +105,9 @@ def run_list(ask: argparse.Namespace) -> int:
     """Lists orders."""
     book = open_book(ask.store, reading=True)
     try:
-        for placed in book.listed(ask.sample, ask.state):
-            print(told(placed))
+        for placed in book.listed(ask.sample, SENT if ask.owed else ask.state):
+            lacks = [test for test in placed.order.tests if test not in placed.came]
+            print(shown(told(placed) + (f", no result of {','.join(lacks)}" if ask.owed else "")))
     finally:
         book.close()
     return GOOD

@@ -37,19 +37,25 @@ class FolderBook(OrderBook):
     def take_in(self) -> List[str]:
         try:
             names = sorted(name for name in os.listdir(self._files) if name.endswith(_END) and name[0] != ".")
-            return [self._take_file(name) for name in names]
         except OSError as error:
             raise StoreError(f"{self._files}: {error}") from None
+        said = []
+        for name in names:  # a file that can't be taken in, nor set aside, stops no other
+            try:
+                said.append(self._take_file(name))
+            except OSError as error:
+                said.append(f"orders of {shown(name)}: {error.strerror}")
+        return said
 
     def _take_file(self, name: str) -> str:
         path = os.path.join(self._files, name)
         file, orders, faults = _read(path)
         if faults:
             start = path[: -len(_END)]
-            write_synced(start + ".why", "".join(f"{fault}\n" for fault in faults).encode())
+            write_synced(start + ".why", "".join(f"{fault}\n" for fault in faults).encode("utf-8", "backslashreplace"))
             os.rename(path, start + ".rejected")
             sync_folder(self._files)
-            return f"orders of {name}: none is taken, {faults[0]}"
+            return f"orders of {shown(name)}: none is taken, {faults[0]}"
         # A host that dies before the file is gone finds it again: the store knows then that it has its orders.
         with self._store.changing():
             if not self._store.run("SELECT file FROM order_files WHERE file = ?", (file,)).fetchone():
@@ -59,7 +65,12 @@ class FolderBook(OrderBook):
         sync_folder(self._files)
         with self._store.changing():
             self._store.run("DELETE FROM order_files WHERE file = ?", (file,))
-        return f"orders of {name}: {len(orders)}"
+        return f"orders of {shown(name)}: {len(orders)}"
+
+
+def shown(name: str) -> str:
+    """A file's name as text: bytes that aren't UTF-8 are shown as they are written in Python."""
+    return name.encode("utf-8", "backslashreplace").decode()
 
 
 def _read(path: str) -> Tuple[str, List[Order], List[str]]:
@@ -69,10 +80,13 @@ def _read(path: str) -> Tuple[str, List[Order], List[str]]:
             about, data = os.fstat(file.fileno()), file.read(MOST + 1)
     except OSError as error:
         return "", [], [f"it can't be read: {error.strerror}"]
-    mark = f"{os.path.basename(path)} {about.st_ino} {about.st_mtime_ns} {about.st_size}"
+    mark = f"{shown(os.path.basename(path))} {about.st_ino} {about.st_mtime_ns} {about.st_size}"
     if len(data) > MOST:
         return mark, [], [f"it has over {MOST} bytes"]
-    rows = list(orders_of(data))
+    try:
+        rows = list(orders_of(data))
+    except Exception as error:  # whatever a file holds, it stops no other
+        return mark, [], [f"it can't be read: {type(error).__name__}: {error}"]
     faults = [f"line {line}: {found}" for line, found in rows if isinstance(found, str)]
     if not rows:
         faults = ["it has no order"]

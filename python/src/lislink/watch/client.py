@@ -1,9 +1,11 @@
 """What `lislab watch` sees: of a host that runs, by its socket; else of the store."""
+import contextlib
 import time
-from typing import Any, Dict, List, Optional, Tuple
+from typing import Any, Dict, List, Optional, Sequence, Tuple
 
-from ..host.store import LineCount, open_store
+from ..host.store import LineCount, StoreError, open_store
 from ..orders.book import reading_book
+from .deliveries import FAILS, deliveries_of
 from .pulse import clock, many, says, says_failed
 from .ring import Piece, pieces_of
 from .unix import WatchError, ask, shown
@@ -11,13 +13,25 @@ from .verdicts import Verdict
 
 
 class Host:
-    """A host that is looked at: its store, and its socket, if it can have one."""
+    """A host that is looked at: its store, and its socket, if it can have one; the cursors of its deliveries."""
 
-    def __init__(self, store: str, socket: Optional[str]) -> None:
-        self.store, self.socket = store, socket
+    def __init__(self, store: str, socket: Optional[str], cursors: Sequence[str] = ()) -> None:
+        self.store, self.socket, self._cursors = store, socket, cursors
 
     def look(self) -> Dict[str, Any]:
-        """How the lines do: as the host says, or as its store has it if no host answers."""
+        """How the lines do: as the host says, or as its store has it if no host answers; and how deliveries do."""
+        return {**self._look(), "deliveries": self._deliveries()}
+
+    def _deliveries(self) -> Dict[str, Dict[str, Any]]:
+        if not self._cursors:
+            return {}
+        try:
+            with contextlib.closing(open_store(self.store)) as store:
+                return deliveries_of(store, self._cursors)
+        except StoreError as error:
+            return {"deliveries": {"state": "bad", "verdict": FAILS, "since": time.time(), "says": str(error)}}
+
+    def _look(self) -> Dict[str, Any]:
         why = "it has no socket: name a file by --status"
         if self.socket is not None:
             try:
@@ -66,15 +80,16 @@ class Host:
 
 
 def is_bad(data: Dict[str, Any]) -> bool:
-    """Whether a line is bad, or the host doesn't run."""
-    return not data["running"] or any(one["state"] == "bad" for one in data["lines"].values())
+    """Whether a line or a delivery is bad, or the host doesn't run."""
+    found = [*data["lines"].values(), *data["deliveries"].values()]
+    return not data["running"] or any(one["state"] == "bad" for one in found)
 
 
 def rows_of(data: Dict[str, Any]) -> List[str]:
-    """A row for each line: its name, its state, and why."""
-    names = {name: shown(name) for name in data["lines"]}
-    width = max(map(len, names.values()), default=0)
-    rows = [f"{names[name]:{width}}  {one['state']:5}  {shown(one['says'])}" for name, one in data["lines"].items()]
+    """A row for each line and each delivery: its name, its state, and why."""
+    found = [*data["lines"].items(), *data["deliveries"].items()]
+    width = max((len(shown(name)) for name, _ in found), default=0)
+    rows = [f"{shown(name):{width}}  {one['state']:5}  {shown(one['says'])}" for name, one in found]
     if data["running"]:
         return rows or ["no line is known"]
     head = "the host runs, and doesn't answer" if data["held"] else Verdict.HOST_DOWN.live

@@ -5,7 +5,7 @@ import shlex
 import sys
 import threading
 import time
-from typing import Any, Iterator, List, Optional
+from typing import Any, Iterator, List, Optional, Tuple
 
 from ..capture import Capture, write_lines
 from ..field.log import time_text
@@ -43,7 +43,7 @@ def add_command(commands: Any) -> None:
         "--allow", action="append", default=[], metavar="NETWORK", help="with --http: who may look besides this machine"
     )
     one.add_argument("--token", metavar="FILE", help="with --http: what a browser must give as its password")
-    one.add_argument("--cursor", action="append", default=[], metavar="FILE", help="with --http: of a delivery")
+    one.add_argument("--cursor", action="append", default=[], metavar="FILE", help="of a delivery: a row of its own")
     one.set_defaults(run=run_watch)
 
 
@@ -51,7 +51,7 @@ def run_watch(ask: argparse.Namespace) -> int:
     """Shows the lines, or one of them."""
     if ask.save and not ask.line:
         raise OptionError("--save writes the last bytes of a line: name it by --line")
-    host = Host(ask.store, socket_of(state_file(ask.store, ask.status)))
+    host = Host(ask.store, socket_of(state_file(ask.store, ask.status)), ask.cursor)
     every = max(0.1, ask.every)
     if ask.notify and (ask.once or ask.line):
         raise OptionError("--notify watches all lines, and goes on")
@@ -82,16 +82,28 @@ def _notifier(ask: argparse.Namespace) -> Optional[Notifier]:
     return one
 
 
+def _rows(host: Host, notifier: Optional[Notifier]) -> Tuple[List[str], List[str]]:
+    """The rows of the lines and the deliveries, and the state of each."""
+    try:
+        data = host.look()
+    except StoreError as error:
+        if notifier is not None:
+            notifier.see_nothing(str(error))
+        return [f"the host doesn't answer, nor its store: {shown(str(error))}"], ["bad"]
+    if notifier is not None:
+        notifier.see(data)
+    rows = client.rows_of(data)
+    states = [one["state"] for one in [*data["lines"].values(), *data["deliveries"].values()]]
+    return rows, [""] * (len(rows) - len(states)) + states
+
+
 def _stay(host: Host, every: float, notifier: Optional[Notifier]) -> int:
     """Paints the rows anew as long as it runs. What is no terminal gets a row when its line changes."""
     before: List[str] = []
+    host.look()  # a store that isn't there is said at once
     while True:
-        data = host.look()
-        if notifier is not None:
-            notifier.see(data)
-        rows = client.rows_of(data)
+        rows, states = _rows(host, notifier)
         if sys.stdout.isatty():
-            states = [""] * (len(rows) - len(data["lines"])) + [one["state"] for one in data["lines"].values()]
             painted = [f"{COLOURS.get(state, '')}{row}{PLAIN}" for state, row in zip(states, rows)]
             sys.stdout.write(CLEAR)
             _print([time.strftime("%Y-%m-%d %H:%M:%S"), *painted])
@@ -135,6 +147,8 @@ def _serve(host: Host, ask: argparse.Namespace, every: float) -> int:
                 notifier.see(pages.data())
             said = ""
         except StoreError as error:
+            if notifier is not None:
+                notifier.see_nothing(str(error))
             if said != str(error):
                 said = str(error)
                 say(said)

@@ -30,6 +30,14 @@ class Notifier:
         lines[""] = {"state": "good" if data["running"] else "bad", "verdict": "host-down", "says": "the host runs"}
         if not data["running"]:
             lines[""]["says"] = "the host doesn't answer" if data["held"] else "the host isn't running"
+        lines.update(data.get("deliveries", {}))
+        self._see(lines)
+
+    def see_nothing(self, why: str) -> None:
+        """Neither the host answers, nor its store."""
+        self._see({"": {"state": "bad", "verdict": "host-down", "says": f"the host doesn't answer, nor its store: {why}"}})
+
+    def _see(self, lines: Mapping[str, Any]) -> None:
         for name, one in lines.items():
             is_bad, before = one["state"] == "bad", self._bad.get(name)
             if is_bad:

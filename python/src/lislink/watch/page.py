@@ -125,11 +125,22 @@ def lines_page(data: Mapping[str, Any], tally: Tally, delivered: Mapping[str, Se
         '<table class="lines"><thead><tr><th>line</th><th>state</th><th>why</th><th>connected</th><th>last message</th>'
         f"</tr></thead><tbody>{rows}</tbody></table>"
     )
+    table += _deliveries(data.get("deliveries", {}))
     why = f'<p class="alarm">The store can\'t be read: {safe(tally.why)}</p>' if tally.why else ""
     past = [(name, *each) for name, one in data["lines"].items() for each in one.get("past", [])]
     live = f'<section data-live="lines">{head}<p>{total}</p><div class="wide">{table}</div>{past_table(past)}</section>'
     took = [f"<h2>From kept to delivered, {safe(name)}</h2>{_took(found)}" for name, found in delivered.items()]
     return page("Lines", live + why + _plots(tally, None) + "".join(took), True)
+
+
+def _deliveries(found: Mapping[str, Any]) -> str:
+    """A row for each delivery, and for what it has set aside."""
+    rows = "".join(
+        f"<tr><td>{safe(name)}</td><td>{state(one)}</td><td>{safe(one['says'])}</td></tr>"
+        for name, one in found.items()
+    )
+    head = "<tr><th>delivery</th><th>state</th><th>why</th></tr>"
+    return f'<table class="lines"><thead>{head}</thead><tbody>{rows}</tbody></table>' if rows else ""
 
 
 def no_line_page(names: Iterable[str]) -> str:

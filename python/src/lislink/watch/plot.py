@@ -40,7 +40,7 @@ def svg(label: str, shown: Sequence[Bar], form: str) -> str:
     every = max(1, len(shown) // 6)
     for place in range(0, len(shown), every):
         when = time.strftime(form, time.localtime(shown[place].at))
-        is_last = place + every >= len(shown)
+        is_last = place + 1 == len(shown)
         x, side = (WIDTH, ' text-anchor="end"') if is_last else (LEFT + place * wide, "")
         parts.append(f'<text x="{x:.1f}" y="{HEIGHT - 6}"{side}>{when}</text>')
     total = sum(one.many for one in shown)

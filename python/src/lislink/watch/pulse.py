@@ -33,6 +33,7 @@ BUCKETS = (0.005, 0.01, 0.025, 0.05, 0.1, 0.25, 0.5, 1.0, 2.5, 5.0, 10.0)
 #: How a disk is full, in the words of SQLite, PostgreSQL and the system.
 _FULL = re.compile("disk is full|no space left|file too large|quota exceeded", re.I)
 _SIGNALS = bytes([4, 5, 6, 0x15])
+_ALONE = (Note.OPENED, Note.ENDED)
 _FRAMES = {
     Note.OUT_OF_TURN: Verdict.OUT_OF_TURN,
     Note.NO_ROOM: Verdict.NO_ROOM,
@@ -311,8 +312,9 @@ class Probe:
     def step(self, place: int, step: Step) -> None:
         """What a byte meant, at this place of the bytes that are heard."""
         self._notices.step(place, step)
-        raw = bytes(self._carry + self._now[self._start : place + 1])
+        raw = b""
         if step.note is not Note.TIMED_OUT:
+            raw = bytes(self._carry + self._now[self._start : place + 1]) if step.note not in _ALONE else raw
             self._carry.clear()
             self._start = place + 1
         if step.note in (Note.OPENED, Note.ENDED, Note.TIMED_OUT):

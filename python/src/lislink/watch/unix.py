@@ -7,6 +7,8 @@ import os
 import socket
 from typing import Any, Callable, Dict, Optional, Tuple
 
+from ..host.said import shown as shown
+
 #: How long a question may take to come, and its answer to be taken, in seconds; how many look at once; the longest
 #: question, and the longest answer.
 SECONDS, AT_ONCE, QUESTION, ANSWER = 5.0, 16, 4096, 64 << 20
@@ -16,11 +18,6 @@ LONGEST = 107
 
 class WatchError(Exception):
     """A host that runs can't be looked at."""
-
-
-def shown(text: str) -> str:
-    """Text for a terminal: what isn't printed there is shown by its number."""
-    return "".join(one if one.isprintable() else f"\\x{ord(one):02x}" for one in text)
 
 
 def socket_of(status: Optional[str]) -> Optional[str]:

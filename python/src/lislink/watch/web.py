@@ -5,6 +5,7 @@ import contextlib
 import hmac
 import ipaddress
 import os
+import secrets
 import socket
 import threading
 import time
@@ -14,7 +15,9 @@ from urllib.parse import parse_qs, urlsplit
 
 from ..field.ladder import Ladder
 from ..host.deliver import read_took
+from ..host.files import write_synced
 from ..host.options import Network, is_allowed, is_loopback
+from ..host.said import say
 from ..host.store import StoreError
 from ..orders.book import STATES, reading_book
 from . import metrics, page, tally
@@ -22,9 +25,11 @@ from .client import Host
 from .ring import capture_of
 from .unix import WatchError
 
-#: How long a request may take to come, in seconds; how many are served at once; how old what is shown may be; how many
-#: bytes of a line are drawn, and how many of its messages and orders are listed.
-SECONDS, AT_ONCE, FRESH, DRAWN, LISTED = 10.0, 16, 1.0, 16 << 10, 20
+#: How long a request may take to come, in seconds; how many are served at once, and how many of one address; how old
+#: what is shown may be; how many bytes of a line are drawn, and how many of its messages and orders are listed.
+SECONDS, AT_ONCE, OF_ONE, FRESH, DRAWN, LISTED = 10.0, 64, 16, 1.0, 16 << 10, 20
+#: What has nothing of what a record says, and is shown on this machine without a token.
+OPEN = ("/", "/metrics", "/style.css", "/live.js")
 HEADS = (
     ("Content-Security-Policy", "default-src 'none'; style-src 'self'; script-src 'self'; connect-src 'self'; "
      "img-src data:; base-uri 'none'; form-action 'none'; frame-ancestors 'none'"),
@@ -33,6 +38,7 @@ HEADS = (
     ("Cross-Origin-Resource-Policy", "same-origin"),
     ("Cache-Control", "no-store"),
 )
+NO_TOKEN = "Start <code>lislab watch</code> with <code>--token FILE</code>: it makes the file if it isn't there."
 HTML, CSS, JS = "text/html; charset=utf-8", "text/css; charset=utf-8", "text/javascript; charset=utf-8"
 
 
@@ -161,35 +167,67 @@ class Pages:
 
 
 class Server(ThreadingHTTPServer):
-    """The server: so many requests at once, and no more."""
+    """The server: so many requests at once, and no more, of all and of an address. For one more the oldest connection is
+    cut whose request hasn't come: a request takes moments, and who sends slowly keeps nobody away."""
 
     daemon_threads = True
 
     def __init__(self, asked: Asked, pages: Pages) -> None:
         self.asked, self.pages = asked, pages
-        self._room = threading.BoundedSemaphore(AT_ONCE)
+        #: The connections, the oldest first: by whom, and whether the request has come.
+        self._looking: Dict[Any, Tuple[str, bool]] = {}
+        self._lock = threading.Lock()
         self.address_family = socket.AF_INET6 if ":" in asked.host else socket.AF_INET
         super().__init__((asked.host, asked.port), Handler)
 
     def verify_request(self, request: Any, client_address: Any) -> bool:
         """Whether an address may look, and there is room."""
-        return is_allowed(str(client_address[0]), self.asked.networks) and self._room.acquire(blocking=False)
+        peer = str(client_address[0])
+        if not is_allowed(peer, self.asked.networks):
+            return False
+        with self._lock:
+            same = [one for one, (by, _) in self._looking.items() if by == peer]
+            among = same if len(same) >= OF_ONE else list(self._looking) if len(self._looking) >= AT_ONCE else []
+            slow = next((one for one in among if not self._looking[one][1]), None)
+            if among and slow is None:
+                return False
+            if slow is not None:
+                del self._looking[slow]
+                _cut(slow)
+            self._looking[request] = peer, False
+        return True
+
+    def has_come(self, request: Any) -> None:
+        """The request of a connection has come: what follows is this server's own time."""
+        with self._lock:
+            if request in self._looking:
+                self._looking[request] = self._looking[request][0], True
 
     def process_request_thread(self, request: Any, client_address: Any) -> None:
+        over = threading.Timer(SECONDS, _cut, [request])
+        over.daemon = True
+        over.start()
         try:
             super().process_request_thread(request, client_address)
         finally:
-            self._room.release()
+            over.cancel()
+            with self._lock:
+                self._looking.pop(request, None)
 
     def handle_error(self, request: Any, client_address: Any) -> None:
         """A reader who goes away before the answer is no error to speak of."""
+
+
+def _cut(request: socket.socket) -> None:
+    """Ends a connection whose time is over, however slowly its bytes come or are taken."""
+    with contextlib.suppress(OSError):
+        request.shutdown(socket.SHUT_RDWR)
 
 
 class Handler(BaseHTTPRequestHandler):
     """A request."""
 
     server: Server
-    timeout = SECONDS
     server_version, sys_version = "lislab", ""
 
     def do_GET(self) -> None:
@@ -201,43 +239,50 @@ class Handler(BaseHTTPRequestHandler):
         self._reply(self._answer())
 
     def _answer(self) -> Answer:
-        if not self._is_named():
-            return Answer(421, HTML, page.page("This server has another name", ""))
-        if not self._has_token():
-            return Answer(401, HTML, page.page("A token is wanted", "<p>Any name, and the token as its password.</p>"))
+        self.server.has_come(self.connection)
         try:
             address = urlsplit(self.path)
             given = {key: values[-1] for key, values in parse_qs(address.query, max_num_fields=8).items()}
         except ValueError:
             return Answer(400, HTML, page.page("This is no address", ""))
-        return self.server.pages.answer(address.path, given)
+        return self._refused(address.path) or self.server.pages.answer(address.path, given)
+
+    def _refused(self, path: str) -> Optional[Answer]:
+        """Why somebody may not look at a path, if so. A token, which a browser gives to the name that it was typed for,
+        makes each name of the server good."""
+        asked = self.server.asked
+        if self._has_token(asked.token):
+            return None
+        is_wanted = asked.token and (not is_loopback(asked.host) or "Authorization" in self.headers)
+        if not is_wanted and not self._is_named():
+            return Answer(421, HTML, page.page("This server has another name", ""))
+        if not is_wanted and path in OPEN:
+            return None
+        if asked.token:
+            return Answer(401, HTML, page.page("A token is wanted", "<p>Any name, and the token as its password.</p>"))
+        return Answer(403, HTML, page.page("What records say is shown by a token alone", f"<p>{NO_TOKEN}</p>"))
 
     def _is_named(self) -> bool:
-        """Whether the request is for an address of this server, and not for a name that somebody else has given it. A
-        token, which a browser gives to the name that it was typed for, makes each name good."""
-        if self.server.asked.token:
-            return True
-        name = self.headers.get("Host", "").rpartition(":")[0] or self.headers.get("Host", "")
-        name = name.strip("[]")
+        """Whether the request is for an address of this server, and not for a name that somebody else has given it."""
+        host = self.headers.get("Host", "")
+        name = (host if host.endswith("]") else host.rpartition(":")[0] or host).strip("[]")
         if name == "localhost" or name == self.server.asked.host:
             return True
         try:
-            one = ipaddress.ip_address(name)
+            return ipaddress.ip_address(name).is_loopback
         except ValueError:
             return False
-        return one.is_loopback or not is_loopback(self.server.asked.host)
 
-    def _has_token(self) -> bool:
-        """Whether the token is there that is wanted, if one is: as a bearer's, or as the password of any user."""
-        token = self.server.asked.token.encode()
+    def _has_token(self, token: str) -> bool:
+        """Whether the token is there: as a bearer's, or as the password of any user."""
         kind, _, word = self.headers.get("Authorization", "").partition(" ")
         found = word.strip().encode()
         if kind.lower() == "basic":
             try:
                 found = base64.b64decode(found, validate=True).partition(b":")[2]
             except ValueError:
-                return not token
-        return not token or hmac.compare_digest(found, token)
+                return False
+        return bool(token) and hmac.compare_digest(found, token.encode())
 
     def _reply(self, answer: Answer) -> None:
         data = answer.text.encode("utf-8", "replace")
@@ -255,8 +300,11 @@ class Handler(BaseHTTPRequestHandler):
 
 
 def token_of(path: Optional[str]) -> str:
-    """The token in a file; none without one."""
+    """The token in a file; none without one. If the file isn't there it is made, its owner's alone, with a new one."""
     if path is None:
         return ""
+    if not os.path.exists(path):
+        write_synced(path, secrets.token_urlsafe(24).encode() + b"\n")
+        say(f"{path}: a token is made")
     with open(path, encoding="utf-8") as file:
         return file.read().strip()

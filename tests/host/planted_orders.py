@@ -1,0 +1,153 @@
+"""Faults in what sends orders (`planted.py`): in this file of lislink, this text becomes that."""
+
+FAULTS = {
+    "test_order_files.Files.test_files": ("orders/order.py", "elif len(row) > len(names):", "elif len(row) > len(names) + 9:"),
+    "test_order_files.Files.test_records": (
+        "orders/order.py", "*after] for test in order.tests],", "*after] for test in order.tests[:1]],"
+    ),
+    "test_order_files.Files.test_nothing": ("orders/order.py", 'fields[11] = b"X"', 'fields[10] = b"X"'),
+    "test_order_files.Files.test_queries": ("orders/query.py", '_CANCELS = "AX"', '_CANCELS = "A"'),
+    "test_orders.SqliteBooks.test_states": (
+        "orders/book.py", "state = FAILED if 0 < most <= tries", "state = FAILED if 0 < most < tries"
+    ),
+    "test_orders.SqliteBooks.test_two_hosts": (
+        "orders/book.py", "return f\"(holder = ''{left})\"", "return f\"(1 = 1{left})\""
+    ),
+    "test_orders.SqliteBooks.test_given_back": (
+        "orders/book.py", "SET holder = '' WHERE holder = ?\"", "SET holder = '' WHERE holder <> ?\""
+    ),
+    "test_order_files.Files.test_dates": ("orders/book.py", "over <= self.until", "over < self.until"),
+    "test_orders.SpoolBooks.test_states": ("orders/book.py", "mine += at == self._seat(seat)", "mine += 1"),
+    "test_order_files.Files.test_more": ("orders/order.py", "[rack, position] if position else rack", "[position, rack]"),
+    "test_order_files.Files.test_ranges": ("orders/book.py", "int(self.first) <= int(sample)", "self.first <= sample"),
+    "test_orders.SpoolBooks.test_two_hosts": (
+        "orders/book.py", "return f\"(holder = ''{left})\"", "return f\"(1 = 1{left})\""
+    ),
+    "test_orders.SpoolBooks.test_given_back": (
+        "orders/book.py", "SET holder = '' WHERE holder = ?\"", "SET holder = '' WHERE holder <> ?\""
+    ),
+    "test_orders.SpoolBooks.test_files": (
+        "orders/folder.py", "WHERE file = ?\", (file,)).fetchone():", "WHERE file = ?\", (path,)).fetchone():"
+    ),
+    "test_orders.Answers.test_spool": (
+        "orders/folder.py", "said.append(self._take_file(name))", "said.append(name)"
+    ),
+    "test_orders.SqliteBooks.test_two_connections_of_one_process": (
+        "host/sqlite.py",
+        "with contextlib.suppress(FileExistsError):\n        os.close(os.open(path, os.O_RDWR | os.O_CREAT | os.O_EXCL",
+        "if path:\n        os.close(os.open(path, os.O_RDWR | os.O_CREAT",
+    ),
+    "test_orders.Commands.test_commands": (
+        "orders/commands.py", "if good and (ask.some or not rejected):", "if good:"
+    ),
+    "test_orders.Answers.test_query": ("host/duplex.py", "self._outbox.sent(self._site, batch)", "self._outbox.stop"),
+    "test_orders.Answers.test_ways_to_say_nothing": (
+        "orders/order.py", 'if way == "Q-X":', 'if way == "Q":'
+    ),
+    "test_orders.Answers.test_an_order_that_cannot_be_written": (
+        "host/outbox.py", "if not good and queries is not None", "if good and queries is not None"
+    ),
+    "test_orders.Answers.test_worklists": (
+        "host/duplex.py", "if asked == self._site.place or (self._site.unasked and", "if asked == self._site.place or (not"
+    ),
+    "test_orders.Answers.test_command": (
+        "host/program.py", "if transport.get_returncode():", "if transport.get_returncode() == 9:"
+    ),
+    "test_orders.Answers.test_a_command_whose_child_hangs": (
+        "host/program.py", "os.killpg(transport.get_pid(), signal.SIGKILL)", "transport.kill()"
+    ),
+    "test_orders.Answers.test_commands_at_once": (
+        "host/outbox.py", "asyncio.Semaphore(AT_ONCE)", "asyncio.Semaphore(99)"
+    ),
+    "test_orders.Answers.test_contention": (
+        "host/duplex.py",
+        "elif self._station.phase is Phase.BUSY:\n            self._asked_in_vain()",
+        "elif self._station.phase in (Phase.BUSY, Phase.CONTENTION):\n            self._station.give_up()",
+    ),
+    "test_orders.Answers.test_a_busy_analyzer": (
+        "host/duplex.py", "return self._station.seconds", "return self._station.seconds and 1"
+    ),
+    "test_orders.Answers.test_a_line_that_is_pulled": (
+        "host/duplex.py",
+        '            self._over_in_vain("the line was closed")\n',
+        "            self._outbox.sent(self._site, self._sending)\n",
+    ),
+    "test_orders.Answers.test_asked_before_the_line_went": (
+        "host/outbox.py", "self._work.begin(self._until_kept(self._book.leave, site.seat))", "pass"
+    ),
+    "test_orders.Answers.test_a_query_that_is_taken_back": (
+        "host/duplex.py", "            back.append(self._sending)\n            self._sending = None", "            pass"
+    ),
+    "test_queries.Queries.test_makers": ("orders/query.py", "if component:", "if not component:"),
+    "test_queries.Queries.test_plays": (
+        "host/serve.py", 'int(place.test.split("^")[0] or 4)', "4"
+    ),
+    "test_queries.Queries.test_an_unread_barcode": (
+        "orders/query.py", 'return Query(row, Wanted(tuple(named)), cancels)',
+        'return Query(row, Wanted(tuple(named), everything=not named), cancels)',
+    ),
+    "test_queries.Queries.test_an_answer_is_whole": ("host/outbox.py", "ASKED if place else MOST", "MOST"),
+    "test_queries.Queries.test_done": ("host/duplex.py", "self._outbox.came(self._site, sample, tests)", "pass"),
+    "test_queries.Queries.test_codes": ("host/outbox.py", "codes.get(test, test) for test", "test for test"),
+    "test_queries.Queries.test_a_store_that_gives_no_answer": (
+        "host/outbox.py", "return Batch(failure())", "return Batch(self._nothing(site, queries))"
+    ),
+    "test_queries.Queries.test_two_analyzers": ("host/outbox.py", "if any(found) or site.none", "if any(wanted) or site.none"),
+    "test_queries.Queries.test_an_answer_waits": (
+        "host/outbox.py", "self._kept[site.place] = batch, time.monotonic()", "self._lots.clear()"
+    ),
+    "test_queries.Queries.test_a_monitor": (
+        "host/duplex.py", "self._sending is not None and self._has_heard and", "self._sending is not None and"
+    ),
+    "test_queries.Queries.test_a_rejected_order": ("host/outbox.py", "if is_rejected and len(", "if not is_rejected and len("),
+    "test_queries.Queries.test_a_command_of_a_line": (
+        "host/outbox.py", "command = site.asks.command or self._command", "command = self._command"
+    ),
+    "test_queries.Queries.test_hl7": ("orders/order.py", 're.match(rb"MSH.", text)', 're.match(rb"FHS.", text)'),
+    "test_queries.Queries.test_settings": ("orders/asks.py", "O\\.([34])", "O\\.([345])"),
+    "test_orders.OnSerial.test_a_new_host": ("host/duplex.py", "if not self.is_tcp:", "if self.is_tcp:"),
+    "test_orders.Unheard.test_long_text": ("host/duplex.py", "MOST_SAMPLES = 1024, 1000", "MOST_SAMPLES = 1 << 20, 1000"),
+    "test_orders.Unheard.test_heard_first": ("host/duplex.py", "if self._pieces:", "if self._pieces is None:"),
+    "test_orders.Answers.test_last_try": (
+        "host/outbox.py", "self._in_vain(site, batch.placed, why, self._tries)", "self._in_vain(site, batch.placed, why, 0)"
+    ),
+    "test_orders.Answers.test_a_whole_round": (
+        "host/asker.py", "(one for one in tests if one in known)", "(one for one in tests if one not in known)"
+    ),
+    "test_orders.Fire.test_kills": (
+        "host/duplex.py", "        self._sending, self._busy = batch, 0\n",
+        "        self._sending, self._busy = batch, 0\n        self._outbox.sent(self._site, batch)\n",
+    ),
+    "test_orders.Fire.test_late_and_noisy": (
+        "host/duplex.py", "if outcome is Outcome.DONE:", "if outcome is not Outcome.NONE:"
+    ),
+    "test_orders.Fire.test_fifty_lines": (
+        "orders/book.py", "AND seat IN ('', ?) AND", "AND (seat IN ('', ?) OR 1 = 1) AND"
+    ),
+    **{
+        f"{books}.{test}": fault
+        for books in ("test_orders.SqliteBooks", "test_orders.SpoolBooks", "test_orders_postgres.PostgresBooks")
+        for test, fault in {
+            "test_asked_again": ("orders/book.py", "if now >= set(wanted) else 0.0", "if now else 0.0"),
+            "test_rows_of_other_programs": (
+                "orders/book.py",
+                "        if state == WAITING:\n            state, reason = FAILED",
+                "        if state == SENT:\n            state, reason = FAILED",
+            ),
+            "test_an_earlier_store": ("orders/book.py", "if name not in known:", "if name in ():"),
+        }.items()
+    },
+    "test_orders_postgres.PostgresBooks.test_states": (
+        "orders/book.py", "state = FAILED if 0 < most <= tries", "state = FAILED if 0 < most < tries"
+    ),
+    "test_orders_postgres.PostgresBooks.test_two_hosts": (
+        "orders/book.py", "return f\"(holder = ''{left})\"", "return f\"(1 = 1{left})\""
+    ),
+    "test_orders_postgres.PostgresBooks.test_given_back": (
+        "orders/book.py", "SET holder = '' WHERE holder = ?\"", "SET holder = '' WHERE holder <> ?\""
+    ),
+    "test_orders_postgres.PostgresBooks.test_two_hosts_are_killed": (
+        "host/duplex.py", "        self._sending, self._busy = batch, 0\n",
+        "        self._sending, self._busy = batch, 0\n        self._outbox.sent(self._site, batch)\n",
+    ),
+}

@@ -1,0 +1,73 @@
+"""What is owed: units that no reply waits for, and that could not be kept at once."""
+import asyncio
+import unittest.mock
+from collections import Counter
+
+from lislink.host import line
+from lislink.host.commits import Committer
+from lislink.host.options import Limits
+from lislink.host.store import StoreError
+from tests.host.hosts import HostTest
+from tests.host.test_repeats import begun, ended
+
+
+class FailingStore:
+    """A store that is away for its first commits, and that never keeps a message `bad`."""
+
+    part = 60
+
+    def __init__(self, away):
+        self.away, self.kept, self.tries = away, [], 0
+
+    def commit(self, units):
+        """Keeps units, or not."""
+        self.tries += any(unit[0].key == "bad" for unit in units)
+        self.away -= 1
+        if self.away >= 0 or any(unit[0].key == "bad" for unit in units):
+            raise StoreError("as the test has it")
+        self.kept += [unit[0].key for unit in units]
+
+
+class Owed(HostTest):
+    """Units that are owed."""
+
+    def test_one_that_fails(self):
+        """One unit that can't be kept holds up no other; the others are kept without anything else that is put, and their
+        futures are done then and not before."""
+        store, keys = FailingStore(2), ["bad", *map(str, range(20))]
+
+        async def runs():
+            committer = Committer(store, print)
+            done = {key: committer.put_later([*begun(key), *ended(key)]) for key in keys}
+            others = [done[key] for key in keys[1:]]
+            await asyncio.wait_for(asyncio.wait(others), 60)
+            early = [key for key in keys if done[key].done() and key not in store.kept]
+            await asyncio.wait_for(asyncio.wait([committer.put([*begun("more"), *ended("more")])]), 60)
+            self.true("the one that fails isn't done", not done["bad"].done())
+            await committer.stop()
+            return early
+
+        self.same("done and not kept", asyncio.run(runs()), [])
+        self.same("each is kept once", sorted(store.kept), sorted([*keys[1:], "more"]))
+
+    def test_said_once_kept(self):
+        """That a message is delivered is said and counted once it is kept."""
+        said, kept = [], []
+
+        async def runs():
+            given = [unittest.mock.Mock(names=frozenset(), bodies={}) for _ in range(5)]
+            wire, intake, committer, probe, mender = given
+            intake.unknown.ended.return_value = 0, ""
+            kept.append(asyncio.get_running_loop().create_future())
+            committer.put_later.return_value = kept[0]
+            turns, counts = line.Turns(), Counter()
+            words = (wire, intake, committer, Limits(), counts, probe, 240, lambda *row: said.append(row), turns, mender)
+            one = line.Line(*words)
+            one._put_later(ended("1"))
+            await asyncio.sleep(0)
+            before = counts["messages"], one.last
+            kept[0].set_result(None)
+            await asyncio.sleep(0.01)
+            return before, (counts["messages"], one.last)
+
+        self.same("before and after", asyncio.run(runs()), ((0, None), (1, 2.0)))

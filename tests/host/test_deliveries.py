@@ -1,0 +1,87 @@
+"""How deliveries do, as `lislab watch`, the pages, the metrics and `--notify` say it."""
+import os
+import re
+import signal
+import sys
+
+from lislink.host.store import open_store
+from lislink.watch import client, metrics, notify, page, plot
+from lislink.watch.deliveries import deliveries_of
+from lislink.watch.tally import Tally
+from tests.host.hosts import HostTest, lislab, process, wait_for
+from tests.host.test_aside import TAKER, keep, records
+from tests.host.test_deliver import RACK
+from tests.host.test_told import message
+
+
+class Deliveries(HostTest):
+    """Rows of deliveries."""
+
+    def rows(self, store, cursor):
+        """The rows of a delivery now."""
+        one = open_store(store)
+        try:
+            return {name: (row["state"], row["verdict"], row["says"]) for name, row in
+                    deliveries_of(one, [cursor]).items()}
+        finally:
+            one.close()
+
+    def test_rows(self):
+        """A delivery that isn't there, fails, goes on again, is stopped, has set a message aside."""
+        store, cursor, bad = self.path("rows.db"), self.path("rows.cursor"), self.path("rows.bad")
+        twice = message("P|1", "O|1|S", "R|1|^^^A|1", "R|2|^^^A|2")
+        keys = keep(store, [records(["A"]), RACK, twice])
+        name = "delivery rows.cursor"
+        state, verdict, says = self.rows(store, cursor)[name]
+        self.same("it isn't there", (state, verdict, says),
+                  ("bad", "delivery-down", "the delivery isn't running; 3 messages not delivered"))
+        with open(bad, "w", encoding="ascii") as file:
+            file.write(keys[0])
+        words = ["deliver", "--store", store, "--cursor", cursor, "--format", "oru", "--", sys.executable, "-c", TAKER,
+                 self.path("rows.taken"), bad]
+        one = process(["-m", "lislink", *words])
+        self.true("it fails", wait_for(lambda: os.path.exists(cursor + ".state"), 30))
+        state, verdict, says = self.rows(store, cursor)[name]
+        self.same("so it is bad", (state, verdict), ("bad", "delivery-fails"))
+        self.has("since when, why, how many", re.sub(r"\d\d:\d\d(:\d\d)?", "TIME", says),
+                 "nothing goes since TIME: nothing is delivered as long as this holds: ")
+        self.has("how many", says, "; 3 messages not delivered")
+        os.unlink(bad)
+        self.true("it goes on", wait_for(lambda: self.rows(store, cursor)[name][0] == "good", 60))
+        self.true("what is to be looked at is counted", wait_for(
+            lambda: "1 tests twice in an order, with different values" in self.rows(store, cursor)[name][2], 60))
+        rows = self.rows(store, cursor)
+        self.same("what is set aside is a row", rows[f"{name}: aside"][:2], ("bad", "set-aside"))
+        self.has("why", rows[f"{name}: aside"][2], "1 message set aside; message 2: order, record 3 of the message")
+        one.send_signal(signal.SIGTERM)
+        one.wait(30)
+        self.same("stopped with nothing left to do", self.rows(store, cursor)[name][0], "quiet")
+        done = lislab("watch", "--store", store, "--once", "--cursor", cursor)
+        self.has("watch", done.stdout, f"{name}: aside  bad    1 message set aside")
+
+    def test_shown(self):
+        """Pages, metrics and notices have them."""
+        bad = {"state": "bad", "verdict": "delivery-fails", "since": 1.0, "says": "<b> nothing goes", "advice": ""}
+        data = {"running": True, "held": True, "why": "", "lines": {}, "deliveries": {"delivery lis": bad}, "begun": 1,
+                "commits": 0, "failed_commits": 0, "refused_connections": 0}
+        self.true("it is bad", client.is_bad(data))
+        self.same("a row", client.rows_of(data), ["delivery lis  bad    <b> nothing goes"])
+        self.has("a page", page.lines_page(data, Tally(""), {}), "<td><bdi>delivery lis</bdi></td>")
+        self.has("its text is text", page.lines_page(data, Tally(""), {}), "&lt;b&gt; nothing goes")
+        self.has("metrics", metrics.metrics_of(data, {}, {}), 'lislab_delivery_bad{delivery="delivery lis"} 1')
+        said, path = [], self.path("notified")
+        code = "import os, sys; open(sys.argv[1], 'a').write(os.environ['LISLAB_LINE'] + os.environ['LISLAB_STATE'])"
+        one = notify.Notifier([sys.executable, "-c", code, path], said.append)
+        for state in ("bad", "bad", "good"):
+            one.see({**data, "deliveries": {"delivery lis": {**bad, "state": state}}})
+            one.run_due()
+        with open(path, encoding="ascii") as file:
+            self.same("once bad, once good", (file.read(), said), ("delivery lisbaddelivery lisgood", []))
+
+    def test_plot(self):
+        """The hour under a bar of the page's plot is that bar's."""
+        drawn = plot.svg("messages", [plot.Bar(3600.0 * at, at) for at in range(24)], "%H:%M")
+        slots = re.findall(r'<title>(\d\d:\d\d): \d+</title><rect class="slot" x="([\d.]+)"', drawn)
+        labels = re.findall(r'<text x="([\d.]+)" y="\d+">(\d\d:\d\d)<', drawn)
+        self.same("bars", len(slots), 24)
+        self.same("hours", [(when, x) for x, when in labels], slots[::4])

@@ -1,0 +1,267 @@
+"""Queries as analyzers ask them: whose sample, answers as a whole and again, and what goes wrong on the way."""
+import os
+import re
+import socket
+import sqlite3
+import time
+
+from lislink.orders.book import open_book
+from lislink.orders.order import Order
+from tests.host import hosts
+from tests.host.hosts import Host, HostTest, lislab, wait_for
+from tests.host.plain import ACK, ENQ, EOT, NAK, Gone, Plain, is_good, samples_of
+from tests.host.test_orders import SLOW, states
+
+#: Makers' queries as their published interface manuals describe them, from memory and not compared with the manuals:
+#: the settings of the line, Q-3, and what the answer's order has in O-3 and O-4.
+MAKERS = {
+    "Sysmex": ("query-sample = 3\necho = O.3\n", b"2001^05^           S123^B", b"2001^05^           S123^B", b""),
+    "Roche": ("query-sample = 3\necho = O.4:4\n", b"^^                  S123^12^50001^1^^S1^SC", b"S123",
+              b"12^50001^1^^S1^SC"),
+    "Abbott": ("", b"^S123", b"S123", b""),
+    "Beckman": ("query-sample = 2\n", b"^S123^1^2", b"S123", b""),
+}
+
+
+def asked(sample, more=b""):
+    """The records of a query with this as its Q-3."""
+    return [b"H|\\^&|||plain\r", b"Q|1|" + sample + b"||ALL||||||||" + more + b"\r", b"L|1|N\r"]
+
+
+def results(*rows):
+    """The records of results: of a sample, tests."""
+    found = [b"H|\\^&\r", b"P|1\r"]
+    for sample, *tests in rows:
+        found.append(b"O|1|%s\r" % sample.encode())
+        found += [b"R|1|^^^%s|5\r" % test.encode() for test in tests]
+    return [*found, b"L|1|N\r"]
+
+
+class Rejects(Plain):
+    """An analyzer that rejects each frame that holds some bytes."""
+
+    def takes_but(self, bad):
+        """Takes sessions for as long as some come: the samples of those that ended well."""
+        good, rows, number, data = [], [], 1, b""
+        while True:
+            try:
+                data += self.byte(120)
+            except Gone:
+                return good
+            if data == ENQ:
+                rows, number, data = [], 1, b""
+                self.put(ACK)
+            elif data == EOT:
+                good += samples_of(rows) if rows and rows[-1][:1] == b"L" else []
+                rows, data = [], b""
+            elif data.endswith(b"\n"):
+                taken = is_good(data, number) and bad not in data
+                rows, number = ([*rows, data[2:-5]], number + 1) if taken else (rows, number)
+                self.put(ACK if taken else NAK)
+                data = b""
+
+
+class Queries(HostTest):
+    """Queries over a real line."""
+
+    def started(self, settings="", orders=("S123", "S7"), way="ask", tests=("GLU", "K"), words=()):
+        """A host with a line of these settings and with orders, and its port."""
+        name = str(time.monotonic_ns())
+        store, lines = self.path(f"{name}.db"), self.path(f"{name}.lines")
+        book = open_book(store)
+        book.add([one if isinstance(one, Order) else Order(one, tests) for one in orders])
+        book.close()
+        with open(lines, "w", encoding="utf-8") as out:
+            out.write(f"[asks]\nlisten = 127.0.0.1:0\norders = {way}\n{settings}")
+        host = Host(store, "--lines", lines, *words, listen=False, scale=SLOW)
+        self.addCleanup(host.kill)
+        return host, next(int(row.split()[1].rsplit(":", 1)[1]) for row in host.rows if row.endswith(" asks\n"))
+
+    def test_makers(self):
+        """The sample of a query is where its line's setting says, and what is next to it comes back where another one
+        says; the order for the tube with the rack's position stays."""
+        for name, (settings, sample, wanted, beside) in MAKERS.items():
+            host, port = self.started(settings, ("05", "12", "S123"))
+            one = Plain(port, SLOW)
+            one.send(asked(sample))
+            rows = [row.split(b"|") for row in one.take() if row.startswith(b"O|")]
+            self.same(name, [row[2:4] for row in rows], [[wanted, beside]])
+            self.true(f"{name}: no other", wait_for(lambda: states(host.store) == {
+                "05": "waiting", "12": "waiting", "S123": "sent"}), str(states(host.store)))
+            one.send(asked(sample))
+            self.same(f"{name}: again", len(samples_of(one.take())), 1)
+            one.send(asked(b"ALL"))
+            self.same(f"{name}: ALL isn't allowed", [row[:5] for row in one.take()], [b"H|\\^&", b"L|1|I"])
+            one.send(asked(b"^^NONE" if "3" in settings else b"^NONE"))
+            self.same(f"{name}: none", one.take()[-1], b"L|1|I\r")
+            one.send([b"H|\\^&\r", b"Q|1|" + sample + b"||||||||||A\r", b"L|1|N\r"])
+            with self.assertRaises(Gone):
+                one.take(15)
+            self.same(f"{name}: taken back", states(host.store)["S123"], "sent")
+            one.close()
+
+    def test_plays(self):
+        """The plays of `samples/makers/queries`, each against a host with its section of the file of lines."""
+        folder = "samples/makers"
+        with open(f"{folder}/makers.lines", encoding="ascii") as file:
+            sections = re.split(r"(?m)^(?=\[)", file.read())[1:]
+        names = sorted(name[:-5] for name in os.listdir(f"{folder}/queries"))
+        self.same("plays", names, ["architect", "cobas", "dxi", "xn"])
+        for name in names:
+            section = next(one for one in sections if one.startswith(f"[{name}]"))
+            keys = [row for row in section.splitlines() if re.match("query-|echo|test", row)]
+            _, port = self.started("".join(f"{row}\n" for row in keys), ("05", "12", "S123"), tests=("WBC", "RBC"))
+            words = ["--to", f"127.0.0.1:{port}", "--scale", str(SLOW), "--within", "120"]
+            done = lislab("play", f"{folder}/queries/{name}.play", *words)
+            self.true(name, done.returncode == 0 and "differences 0" in done.stdout, done.stdout + done.stderr)
+
+    def test_an_unread_barcode(self):
+        """A query without a sample gets none, also where ALL is allowed."""
+        _, port = self.started("query-all = yes\n")
+        one = Plain(port, SLOW)
+        for text in (b"^", b"", b"^^"):
+            one.send(asked(text))
+            self.same(f"Q-3 {text.decode()}", [row[:5] for row in one.take()], [b"H|\\^&", b"L|1|I"])
+        one.send(asked(b"ALL"))
+        self.same("ALL", samples_of(one.take()), ["S123", "S7"])
+
+    def test_an_answer_is_whole(self):
+        """What one message asks for is one session, also of many orders: urgent ones first, and F at its end."""
+        names = [f"S{at:03}" for at in range(120)]
+        host, port = self.started("", [*names, Order("URGENT", ("K",), priority="S")])
+        one = Plain(port, SLOW)
+        queries = [b"Q|%d|^%s\r" % (at, name.encode()) for at, name in enumerate([*names, "URGENT", "S999"], 1)]
+        one.send([b"H|\\^&\r", *queries, b"L|1|N\r"])
+        rows = one.take()
+        self.same("samples", samples_of(rows), ["URGENT", *names])
+        self.same("its end", rows[-1], b"L|1|F\r")
+        self.true("sent", wait_for(lambda: set(states(host.store).values()) == {"sent"}), host.says())
+
+    def test_done(self):
+        """An order answers again until a result of each of its tests has come; `order list` shows what is owed."""
+        host, port = self.started()
+        one = Plain(port, SLOW)
+        one.send(asked(b"^S123"))
+        self.same("first", samples_of(one.take()), ["S123"])
+        one.send(results(("S123", "GLU"), ("S7", "K")))
+
+        def owed():
+            rows = lislab("order", "list", "--store", host.store, "--owed").stdout.splitlines()
+            return [(row.split()[2], row.rpartition("no result of ")[2]) for row in rows]
+
+        self.true("owed", wait_for(lambda: owed() == [("S123", "K")]), str(owed()))
+        one.send(asked(b"^S123"))
+        self.same("again", samples_of(one.take()), ["S123"])
+        self.true("marked", wait_for(lambda: owed() == [("S123", "K")]), str(owed()))
+        one.send(results(("S123", "K")))
+        self.true("done", wait_for(lambda: states(host.store) == {"S123": "done", "S7": "waiting"}), host.says())
+        one.send(asked(b"^S123"))
+        self.same("no more", one.take()[-1], b"L|1|I\r")
+
+    def test_codes(self):
+        """An order has the laboratory's codes; the analyzer gets its own, by the line's table, and gives them back."""
+        table = self.path("orders.codes")
+        with open(table, "w", encoding="utf-8") as out:
+            out.write("analyzer,laboratory,line\nGLU,2345-7,asks\n^^^K^*,2823-3,\nNA,leave out,\nGLU2,2345-7,other\n")
+        host, port = self.started(f"codes = {table}\n", ("S123",), tests=("2345-7", "2823-3", "CL"))
+        one = Plain(port, SLOW)
+        one.send(asked(b"^S123"))
+        rows = [row.split(b"|") for row in one.take() if row.startswith(b"O|")]
+        self.same("its codes", [row[4] for row in rows], [b"^^^GLU\\^^^K\\^^^CL"])
+        self.true("sent", wait_for(lambda: states(host.store) == {"S123": "sent"}), host.says())
+        one.send(results(("S123", "GLU", "K", "CL")))
+        self.true("done", wait_for(lambda: states(host.store) == {"S123": "done"}), host.says())
+
+    def test_a_store_that_gives_no_answer(self):
+        """A query that can't be looked up isn't answered that there is no order; asked again, it is."""
+        host, port = self.started()
+        one = Plain(port, SLOW)
+        db = sqlite3.connect(host.store, timeout=60)
+        db.execute("ALTER TABLE orders RENAME TO away")
+        one.send(asked(b"^S123"))
+        self.same("an error", [row[:5] for row in one.take(600)], [b"H|\\^&", b"L|1|Q"])
+        db.execute("ALTER TABLE away RENAME TO orders")
+        db.close()
+        one.send(asked(b"^S123"))
+        self.same("its order", samples_of(one.take()), ["S123"])
+
+    def test_two_analyzers(self):
+        """Two analyzers ask for one sample: each gets an answer."""
+        _, port = self.started()
+        one, two = Plain(port, SLOW), Plain(port, SLOW)
+        one.send(asked(b"^S123"))
+        self.same("the first one's answer begins", one.byte(30), ENQ)
+        two.send(asked(b"^S123"))
+        self.same("the second one's", [row[:5] for row in two.take()], [b"H|\\^&", b"L|1|I"])
+
+    def test_an_answer_waits(self):
+        """The line goes before the answer: it comes over the next one, also that there is no order."""
+        for sample in ("S123", "S9"):
+            _, port = self.started()
+            one = Plain(port, SLOW)
+            one.send(asked(b"^" + sample.encode()))
+            self.same(f"{sample}: asks", one.byte(30), ENQ)
+            one.close()
+            one = Plain(port, SLOW)
+            rows = one.take(400)
+            wanted = (["S123"], b"L|1|F") if sample == "S123" else ([], b"L|1|I")
+            self.same(sample, (samples_of(rows), rows[-1][:5]), wanted)
+
+    def test_a_monitor(self):
+        """Somebody who connects and goes without a byte is no try of an order."""
+        host, port = self.started("", ("S7",), "send", words=("--tries", "2"))
+        for _ in range(5):
+            with socket.create_connection(("127.0.0.1", port), 10) as line:
+                line.settimeout(60)
+                self.same("asks", line.recv(1), ENQ)
+        one = Plain(port, SLOW)
+        self.same("sent", samples_of(one.take(400)), ["S7"])
+
+    def test_a_rejected_order(self):
+        """An order that the analyzer rejects takes no other along."""
+        host, port = self.started("", ("BAD", "S1", "S2", "S3", "S4"), "send", words=("--tries", "1"))
+        one = Rejects(port, SLOW)
+        wanted = {"BAD": "failed", **{f"S{at}": "sent" for at in range(1, 5)}}
+        self.same("taken", sorted(one.takes_but(b"|BAD|")), ["S1", "S2", "S3", "S4"])
+        self.true("states", wait_for(lambda: states(host.store) == wanted), str(states(host.store)))
+
+    def test_a_command_of_a_line(self):
+        """`ask = COMMAND` answers on its line, and knows which it is; other lines use the store."""
+        file, store, lines = self.path("asked.py"), self.path("command.db"), self.path("command.lines")
+        with open(file, "w", encoding="utf-8") as out:
+            out.write("import os\nprint('H|\\\\^&\\nP|1\\nO|1|' + os.environ['LISLAB_LINE'] + '||^^^K\\nL|1|F')\n")
+        with open(lines, "w", encoding="utf-8") as out:
+            out.write(f"[roche]\nlisten = 127.0.0.1:0\norders = ask\nask = {hosts.sys.executable} {file}\n"
+                      "[other]\nlisten = 127.0.0.1:0\norders = send\n")
+        book = open_book(store)
+        book.add([Order("S1", ("K",))])
+        book.close()
+        host = Host(store, "--lines", lines, listen=False, scale=SLOW)
+        self.addCleanup(host.kill)
+        rows = [row.split() for row in host.rows if row.startswith("listening")]
+        ports = {name: int(where.rsplit(":", 1)[1]) for _, where, name in rows}
+        one = Plain(ports["roche"], SLOW)
+        one.send(asked(b"^S1"))
+        self.same("the command's", samples_of(one.take(400)), ["roche"])
+        self.same("the store's", samples_of(Plain(ports["other"], SLOW).take(400)), ["S1"])
+
+    def test_hl7(self):
+        """`order add` names HL7 when it is given some, and what takes orders."""
+        done = lislab("order", "add", "--store", self.path("hl7.db"), input="MSH|^~\\&|LIS|||\rPID|1\r")
+        self.true("named", "this is HL7" in done.stderr and "CSV" in done.stderr, done.stderr)
+        self.same("status", (done.returncode, os.path.exists(self.path("hl7.db"))), (1, False))
+
+    def test_settings(self):
+        """Settings of queries that can't be."""
+        rows = {"query-sample = 0": "component of Q-3", "echo = O.5": "O.3 or O.4", "again = soon": "a time is wanted",
+                "query-all = maybe": "yes or no", "ask =": "a command is wanted"}
+        for row, wanted in rows.items():
+            lines = self.path("wrong.lines")
+            with open(lines, "w", encoding="utf-8") as out:
+                out.write(f"[x]\nlisten = 127.0.0.1:0\norders = ask\n{row}\n")
+            done = lislab("serve", "--store", self.path("wrong.db"), "--lines", lines)
+            self.true(row, wanted in done.stderr and f"{lines}:4:" in done.stderr, done.stderr)
+        with open(lines, "w", encoding="utf-8") as out:
+            out.write("[x]\nlisten = 127.0.0.1:0\nagain = 2h\n")
+        done = lislab("serve", "--store", self.path("wrong.db"), "--lines", lines)
+        self.true("no orders", "has orders = ask or send" in done.stderr, done.stderr)

@@ -1,0 +1,143 @@
+"""What is handed on, as a receiver reads it: each result under its patient, its sample and its test, or not at all."""
+import random
+
+from lislink.delivery import fhir, oru
+from lislink.delivery.failures import Quarantined
+from lislink.delivery.results import Coded, Reading, Told
+from lislink.host import export
+from lislink.host.store import WHOLE, Stored
+from tests.host import told
+from tests.host.hosts import HostTest
+
+#: Random messages of each test; of all three over 10,000.
+MANY = 3400
+
+
+def stored(body, key="18b0a0c0d0e0f00011223344", encoding="utf-8", **more):
+    """A whole message that is kept."""
+    one = Stored(1, key, "chemistry", "10.0.5.7", encoding, 1767225600.0, 1767225600.0, WHOLE, "", None, body)
+    return one._replace(**more)
+
+
+def message(*rows, header="H|\\^&|||Analyzer 7"):
+    """A message of these records."""
+    return "".join(f"{row}\r" for row in [header, *rows, "L|1|N"]).encode()
+
+
+class Plan:
+    """A random message, and what a person would say of it: its results by patient and sample, or why nothing may go
+    out."""
+
+    def __init__(self, rng, reading):
+        self.rng, self.reading, self.rows, self.results, self.unsure = rng, reading, [], [], False
+        self.is_control = rng.random() < 0.05
+        for number in range(1, rng.choice((1, 1, 2, 3)) + 1):
+            self.add_patient(number)
+        mode = "Q" if self.is_control else rng.choice(("P", ""))
+        self.body = message(*self.rows, header=f"H|\\^&|||A^1|||||||{mode}")
+
+    def add_patient(self, number):
+        """A patient with or without an identity and a name."""
+        rng = self.rng
+        identity = rng.choice(("", "", f"P{rng.randrange(1000)}"))
+        field = rng.choice((3, 4, 5))
+        cells = ["P", str(number), "", "", "", rng.choice(("", "Doe^Jane"))]
+        cells[field - 1] = identity
+        self.rows.append("|".join(cells))
+        for at in range(1, rng.choice((1, 1, 2)) + 1):
+            self.add_order(at, identity)
+
+    def add_order(self, at, identity):
+        """An order, with the sample where the line's setting has it, or missing, or somewhere else."""
+        rng = self.rng
+        sample = rng.choice(("", *[f"S{rng.randrange(10**6)}"] * 11))
+        control = self.is_control or rng.random() < 0.15
+        fields = {"": f"{sample}|", "O.4.3": f"|2001^05^   {sample}^B"}[self.reading.sample]
+        if self.reading.sample == "" and rng.random() < 0.2:
+            fields = f"|{sample}"
+        if self.reading.sample == "" and rng.random() < 0.03:
+            fields, sample = f"2001^05^{sample}|", ""
+        action = "Q" if control and not self.is_control else rng.choice(("", "N"))
+        self.rows.append(f"O|{at}|{fields}|{rng.choice(('', '^^^GLU'))}|R||||||{action}")
+        count = rng.choice((0, 1, 1, 2, 4))
+        self.unsure |= count > 0 and not sample
+        codes = rng.sample("ABCDEFGH", count)
+        for place, letter in enumerate(codes, 1):
+            self.add_result(place, letter, None if control else identity or None, sample, control)
+
+    def add_result(self, place, letter, identity, sample, control):
+        """A result with a value that no other one has."""
+        rng = self.rng
+        if self.reading.test:
+            field, code = f"^^^^{letter}^1", letter
+        else:
+            field, code = rng.choice((
+                (f"^^^{letter}", letter), (letter, letter), (f"^^^{letter}^^^F", f"^^^{letter}^^^F"),
+                (f"^^^^{letter}", f"^^^^{letter}"), (f"^^^  {letter} ", letter),
+            ))
+        if rng.random() < 0.02:
+            field, code = rng.choice(("", "^^^")), ""
+            self.unsure = True
+        value = str(rng.randrange(10**12)) + rng.choice(("", ".5", " "))
+        unit = rng.choice(("", "mmol/L", "10&S&9/L"))
+        self.rows.append(f"R|{place}|{field}|{rng.choice(('', '  '))}{value}|{unit}|||||F")
+        self.results.append((identity, control, sample, code, value.strip(), unit.replace("&S&", "^")))
+        if rng.random() < 0.2:
+            self.rows.append("C|1|I|a comment")
+
+
+class AsTold(HostTest):
+    """Random messages in each form."""
+
+    def wrong(self, seed, write, read):
+        """Which of many random messages aren't handed on as they should be: the first one, or nothing."""
+        rng, count, kept_back = random.Random(seed), 0, 0
+        for at in range(MANY):
+            reading = rng.choice((Reading(), Reading(), Reading(sample="O.4.3", test="5")))
+            plan = Plan(rng, reading)
+            try:
+                rows = read(write(stored(plan.body), reading))
+            except Quarantined:
+                kept_back += 1
+                if not plan.unsure:
+                    return f"{at}: kept back: {plan.body}"
+                continue
+            found = sorted((row[:1] + row[2:7] for row in rows), key=lambda one: one[4])
+            wanted = sorted(plan.results, key=lambda one: one[4])
+            if plan.unsure or found != wanted:
+                return f"{at}: {found}, wanted {wanted}, of {plan.body}"
+            count += len(rows)
+        self.true("most are told, some are kept back", count > MANY and MANY // 20 < kept_back < MANY // 2,
+                  f"{count} results, {kept_back} of {MANY} kept back")
+        return ""
+
+    def test_oru(self):
+        """As ORU."""
+        found = self.wrong(1, lambda one, reading: oru.oru_of(Told(Coded(one, reading))), told.of_oru)
+        self.same("as it should be", found, "")
+
+    def test_fhir(self):
+        """As FHIR."""
+        found = self.wrong(2, lambda one, reading: fhir.bundle_of(Told(Coded(one, reading))), told.of_fhir)
+        self.same("as it should be", found, "")
+
+    def test_csv(self):
+        """As a table."""
+        read = self.reading
+        found = self.wrong(3, lambda one, reading: read(one, reading), lambda data: told.of_csv(data.decode()))
+        self.same("as it should be", found, "")
+
+    @staticmethod
+    def reading(one, reading):
+        """A table by the settings of a line."""
+
+        class Tables:
+            """Those of this line."""
+
+            @staticmethod
+            def applied(one):
+                """The message by the line's settings."""
+                return Coded(one, reading)
+
+        write = export.writer_of(export.Form("csv", Tables()))
+        return write(None) + write(one)
