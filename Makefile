@@ -101,8 +101,8 @@ linked:
 	for name in $(PLAIN); do $(CC) $(CPPFLAGS) $(CFLAGS) -fPIC -Iinclude -c src/c/$$name.c -o $(BUILD)/$$name.o || exit 1; done
 	cp $(ARCHIVE) $(BUILD)/liblislink.a
 	ar r $(BUILD)/liblislink.a $(PLAIN:%=$(BUILD)/%.o)
-	$(CC) $(LDFLAGS) -shared -o $(BUILD)/liblislink.so.1 -Wl,-soname,liblislink.so.1 \
-	  -Wl,--whole-archive $(ARCHIVE) -Wl,--no-whole-archive $(PLAIN:%=$(BUILD)/%.o)
+	$(CC) $(LDFLAGS) -shared -o $(BUILD)/liblislink.so.1 -Wl,-soname,liblislink.so.1 -Wl,-z,now \
+	  -Wl,--version-script=src/c/lislink.map -Wl,--whole-archive $(ARCHIVE) -Wl,--no-whole-archive $(PLAIN:%=$(BUILD)/%.o)
 	ln -sf liblislink.so.1 $(BUILD)/liblislink.so
 
 # What was built is installed as it is: rt is needed only for what is missing.

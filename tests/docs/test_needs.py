@@ -9,7 +9,8 @@ from tests import ROOT, kit
 
 #: What README asks for, what belongs to Python or to any Debian, another name of what is installed; and cargo and
 #: rustc, since those of Debian 12 are too old for Cargo.lock and for the programs of the benchmark.
-ASKED = {"gcc", "g++", "pip", "rt", "dpkg-deb", "chromium-browser", "cargo", "rustc"}
+ASKED = {"gcc", "g++", "pip", "rt", "dpkg-deb", "chromium-browser", "cargo", "rustc",
+         "cargo-clippy", "mount"}
 #: Tests that need a tool: in a call of `needs`, of install's `has`, or of `which`.
 USES = re.compile(r'(?:self\.needs\(|\bif (?:not )?has\(|shutil\.which\()"([\w+-]+)"')
 

@@ -34,7 +34,7 @@ def run(folder, words, **how):
 
 class Rattle(kit.Test):
     def test_page(self):
-        self.needs("rt", shutil.which("rt"), 3, "the steps of docs/RATTLE.md")
+        self.needs("rt", shutil.which("rt"), 4, "the steps of docs/RATTLE.md")
         folder = kit.folder_of(self)
         copy(folder)
         steps = re.search(r"```sh\n(.*?)```", kit.read("docs/RATTLE.md"), re.S)[1]
@@ -50,3 +50,10 @@ class Rattle(kit.Test):
         wanted = ACK + NAK + ACK
         self.check(status == 0 and printed.startswith(wanted + b"\n"), "a text that can't be kept gets no reply",
                    f"{printed[-1000:]!r}, wanted {wanted!r}: ENQ, a damaged frame, none for the text, ENQ")
+        half = os.path.join(folder, "half")
+        with open(half, "wb") as file:
+            file.write(b"H|\\^&\rR|1|^^^GLU|1")
+        with open(os.path.join(folder, "session"), "rb") as file:
+            run(crate, ["rt", "try", "--", half], stdin=file)
+        with open(half, "rb") as file:
+            self.same("half a text at its start", file.read(), b"H|\\^&\rH|\\^&\r")

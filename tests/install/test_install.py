@@ -156,6 +156,9 @@ class Install(kit.Test):
         with open(os.path.join(ROOT, "samples/session.link"), "rb") as link:
             self.runs([f"{prefix}/bin/lislink", "show"], stdin=link)
         self.runs([f"{prefix}/bin/lislab", "--help"], **how)
+        calls = set(re.findall(r"^(?:const char \*|\w+ )(lis_\w+)\(", kit.read("include/lislink.h"), re.M))
+        pages = {name[:-2] for name in os.listdir(f"{prefix}/share/man/man3")}
+        self.same("calls with a manual page", pages, calls | {"lislink"})
         with open(f"{prefix}/lib/another", "w"):
             pass
         self.runs([*words, "uninstall"], env=env)
