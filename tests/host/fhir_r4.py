@@ -1,9 +1,12 @@
-"""The published structure of FHIR R4 (4.0.1), as far as a Bundle of Observations, Patients and DiagnosticReports uses it:
-the elements of each type, how often each may be, their types, the required codes, and the invariants. It was written
-from memory, since the definitions could not be had on the machine, and over no code of this repository; nobody has
-compared it with them. What it doesn't check: terminology (whether a code is in its system), profiles, searches (what
-`ifNoneExist` finds), extensions, contained resources, types of resources and elements that aren't used here, and the
-invariants of texts (dom-2 to dom-6, ele-1 of primitive types)."""
+"""The published structure of FHIR R4 (4.0.1), as far as a Bundle of Patients, Specimens, ServiceRequests, Observations and
+DiagnosticReports uses it: the elements of each type, how often each may be, their types, to which resources a reference
+may lead, the required codes, the codes of small systems, and the invariants. It was written from memory, since the
+definitions could not be had on the machine, and over no code of this repository; nobody has compared it with them.
+
+What it doesn't check: the codes of LOINC, SNOMED CT and UCUM; profiles; searches (what `ifNoneExist` and a conditional
+update find, and whether a server takes them); extensions and contained resources; types of resources and elements that
+aren't used here (a reference to a resource that isn't in the Bundle is a fault); a reference by an identifier or a
+display, whose target nobody knows; the invariants of texts (dom-2 to dom-6, ele-1 of primitive types)."""
 import decimal
 import json
 import re
@@ -33,6 +36,50 @@ CODES = {
         entered-in-error unknown""",
     "Patient.gender": "male female other unknown",
     "HumanName.use": "usual official temp nickname anonymous old maiden",
+    "Specimen.status": "available unavailable unsatisfactory entered-in-error",
+    "ServiceRequest.status": "draft active on-hold revoked completed entered-in-error unknown",
+    "ServiceRequest.intent": """proposal plan directive order original-order reflex-order filler-order instance-order
+        option""",
+    "ServiceRequest.priority": "routine urgent asap stat",
+}
+#: The codes of systems that are small: those of HL7's terminology, by the ends of their addresses.
+SYSTEMS = {
+    "observation-category": "social-history vital-signs imaging laboratory procedure survey exam therapy activity",
+    "data-absent-reason": """unknown asked-unknown temp-unknown not-asked asked-declined masked not-applicable unsupported
+        as-text error not-a-number negative-infinity positive-infinity not-performed not-permitted""",
+    "v3-ObservationInterpretation": """CAR B D U W < > AC IE QCF TOX A AA HH LL H H> HU L L< LU HX LX I MS NCL NS R SYN-R S
+        SDD SYN-S VS EX E IND N NEG ND POS DET EXP UNE NR RR WR""",
+    "v2-0074": """AU BG BLB CG CH CP CT CTH CUS EC EN GE HM ICU IMG IMM LAB MB MCB MYC NMR NMS NRS OSL OT OTH OUS PAR PAT PF
+        PHR PHY PT RAD RC RT RUS RX SP SR TX URN VR VUS XRC""",
+    "v2-0487": "SER PLAS UR BLD CSF BLDA BLDV BLDC",
+}
+#: To which resources the references of an element may lead.
+TARGETS = {
+    "Observation.basedOn": """CarePlan DeviceRequest ImmunizationRecommendation MedicationRequest NutritionOrder
+        ServiceRequest""",
+    "Observation.subject": "Patient Group Device Location",
+    "Observation.performer": "Practitioner PractitionerRole Organization CareTeam Patient RelatedPerson",
+    "Observation.specimen": "Specimen",
+    "Observation.device": "Device DeviceMetric",
+    "Observation.hasMember": "Observation QuestionnaireResponse MolecularSequence",
+    "DiagnosticReport.basedOn": """CarePlan ImmunizationRecommendation MedicationRequest NutritionOrder
+        ServiceRequest""",
+    "DiagnosticReport.subject": "Patient Group Device Location",
+    "DiagnosticReport.performer": "Practitioner PractitionerRole Organization CareTeam",
+    "DiagnosticReport.specimen": "Specimen",
+    "DiagnosticReport.result": "Observation",
+    "Specimen.subject": "Patient Group Device Substance Location",
+    "Specimen.parent": "Specimen",
+    "Specimen.request": "ServiceRequest",
+    "Collection.collector": "Practitioner PractitionerRole",
+    "ServiceRequest.basedOn": "CarePlan ServiceRequest MedicationRequest",
+    "ServiceRequest.replaces": "ServiceRequest",
+    "ServiceRequest.subject": "Patient Group Location Device",
+    "ServiceRequest.requester": "Practitioner PractitionerRole Organization Patient RelatedPerson Device",
+    "ServiceRequest.performer": """Practitioner PractitionerRole Organization CareTeam HealthcareService Patient Device
+        RelatedPerson""",
+    "ServiceRequest.specimen": "Specimen",
+    "Identifier.assigner": "Organization",
 }
 #: The elements of each type: name, type, least, and whether it may be there more than once.
 TYPES = {
@@ -55,6 +102,20 @@ TYPES = {
         conclusionCode:CodeableConcept:0*""",
     "Patient": """id:code:0 identifier:Identifier:0* active:boolean:0 name:HumanName:0* telecom:ContactPoint:0*
         gender:code:0 birthDate:date:0 address:Address:0*""",
+    "Specimen": """id:code:0 identifier:Identifier:0* accessionIdentifier:Identifier:0 status:code:0
+        type:CodeableConcept:0 subject:Reference:0 receivedTime:dateTime:0 parent:Reference:0* request:Reference:0*
+        collection:Collection:0 condition:CodeableConcept:0* note:Annotation:0*""",
+    "Collection": """collector:Reference:0 collectedDateTime:dateTime:0 quantity:Quantity:0 method:CodeableConcept:0
+        bodySite:CodeableConcept:0 fastingStatusCodeableConcept:CodeableConcept:0""",
+    "ServiceRequest": """id:code:0 identifier:Identifier:0* instantiatesCanonical:uri:0* instantiatesUri:uri:0*
+        basedOn:Reference:0* replaces:Reference:0* requisition:Identifier:0 status:code:1 intent:code:1
+        category:CodeableConcept:0* priority:code:0 doNotPerform:boolean:0 code:CodeableConcept:0
+        orderDetail:CodeableConcept:0* quantityQuantity:Quantity:0 subject:Reference:1 encounter:Reference:0
+        occurrenceDateTime:dateTime:0 authoredOn:dateTime:0 requester:Reference:0 performerType:CodeableConcept:0
+        performer:Reference:0* locationCode:CodeableConcept:0* locationReference:Reference:0*
+        reasonCode:CodeableConcept:0* reasonReference:Reference:0* insurance:Reference:0* supportingInfo:Reference:0*
+        specimen:Reference:0* bodySite:CodeableConcept:0* note:Annotation:0* patientInstruction:string:0
+        relevantHistory:Reference:0*""",
     "HumanName": "use:code:0 text:string:0 family:string:0 given:string:0* prefix:string:0* suffix:string:0*",
     "ReferenceRange": """low:Quantity:0 high:Quantity:0 type:CodeableConcept:0 appliesTo:CodeableConcept:0*
         text:string:0""",
@@ -69,7 +130,7 @@ _ELEMENTS = {
     kind: {name: (of, least, most) for name, of, least, most in re.findall(r"(\w+):(\w+):(\d)(\*?)", text)}
     for kind, text in TYPES.items()
 }
-_RESOURCES = ("Bundle", "Observation", "DiagnosticReport", "Patient")
+_RESOURCES = ("Bundle", "Observation", "DiagnosticReport", "Patient", "Specimen", "ServiceRequest")
 
 
 def faults(text):
@@ -131,6 +192,11 @@ def _invariants(kind, data, where):
         told.append(f"{where}: obs-3: neither low, high nor text")
     if kind == "ReferenceRange" and any("comparator" in data.get(name, {}) for name in ("low", "high")):
         told.append(f"{where}: sqty-1: a simple quantity has no comparator")
+    if kind == "ServiceRequest" and "orderDetail" in data and "code" not in data:
+        told.append(f"{where}: prr-1: details of no code")
+    codes = SYSTEMS.get(str(data.get("system", "")).rpartition("/")[2]) if kind == "Coding" else None
+    if codes is not None and data.get("code") not in codes.split():
+        told.append(f"{where}: {data.get('code')!r} is no code of {data['system']}")
     if kind == "Quantity" and "code" in data and "system" not in data:
         told.append(f"{where}: qty-3: a code of a unit needs its system")
     return told
@@ -146,12 +212,27 @@ def _of_bundle(data):
     urls = [one.get("fullUrl") for one in entries]
     if len(set(urls)) != len(urls):
         told.append("bdl-7: a fullUrl is there twice")
+    kinds = {one.get("fullUrl"): one.get("resource", {}).get("resourceType") for one in entries}
     for one in entries:
-        for found in _references(one.get("resource", {})):
-            if found not in urls:
-                told.append(f"a reference to {found}, which isn't in the Bundle")
+        resource = one.get("resource", {})
+        told += [f"a reference to {it}, which isn't in the Bundle" for it in _references(resource) if it not in urls]
+        if resource.get("resourceType") in _RESOURCES:
+            told += _wrong_targets(resource["resourceType"], resource, kinds)
     if any("/_history/" in str(one) for one in urls):
         told.append("bdl-8: a fullUrl with a version")
+    return told
+
+
+def _wrong_targets(kind, data, kinds):
+    """The references below an element that lead to another kind of resource than they may."""
+    told = []
+    for name, value in data.items():
+        of = _ELEMENTS[kind].get(name, ("",))[0]
+        for one in (value if isinstance(value, list) else [value]) if of in TYPES else ():
+            found = kinds.get(one.get("reference")) or one.get("type") if of == "Reference" else None
+            if found and found not in TARGETS[f"{kind}.{name}"].split():
+                told.append(f"{kind}.{name} leads to a {found}")
+            told += _wrong_targets(of, one, kinds) if isinstance(one, dict) else []
     return told
 
 

@@ -155,9 +155,23 @@ FAULTS = {
         "_EXACT.quantize(one.value, decimal.Decimal(1).scaleb(-digits))",
         "one.value.quantize(decimal.Decimal(1).scaleb(-digits), decimal.ROUND_HALF_UP)",
     ),
-    "test_fhir.Fhir.test_names": ("delivery/fhir.py", "updates=True)", "updates=False)"),
+    "test_fhir.Fhir.test_names": (
+        "delivery/fhir.py", "{by_test['value']}\", updates=True)", "{by_test['value']}\", updates=False)"
+    ),
     "test_fhir.Fhir.test_resources": ("delivery/fhir.py", '_REPORT = {"X": "cancelled"', '_REPORT = {"X": "final"'),
-    "test_mllp.Oru.test_wishes": ("delivery/oru.py", 'return [text, "", "", authority, kind]', "return [text]"),
+    "test_fhir.Fhir.test_samples": (
+        "delivery/fhir.py", '"Q" if order.control else "", record.text(8)', "record.text(8)"
+    ),
+    "test_fhir.Fhir.test_identities": (
+        "delivery/fhir.py", "authority = one.authority or authority", "authority = authority or one.authority"
+    ),
+    "test_mllp.Oru.test_identities": (
+        "delivery/results.py", " and not (check or scheme or any(others))", ""
+    ),
+    "test_mllp.Oru.test_times": ("delivery/oru.py", "7: taken or told.at(first),", "7: taken,"),
+    "test_mllp.Oru.test_wishes": (
+        "delivery/oru.py", "one.authority or authority, one.kind or kind]", "one.authority, one.kind]"
+    ),
     "test_mllp.Receivers.test_died_silently": (
         "delivery/mllp.py", 'raise _Closed(f"no answer', 'raise Refused(f"no answer'
     ),

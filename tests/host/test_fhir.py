@@ -5,6 +5,7 @@ import http.server
 import json
 import os
 import random
+import re
 import shutil
 import socketserver
 import ssl
@@ -26,6 +27,12 @@ def observations(data, kind="Observation"):
     """The Observations of a Bundle, or other resources."""
     found = [one["resource"] for one in json.loads(data, parse_float=decimal.Decimal)["entry"]]
     return [one for one in found if one["resourceType"] == kind]
+
+
+def tube_of(data, one):
+    """The Specimen of an Observation."""
+    urls = {it["fullUrl"]: it["resource"] for it in json.loads(data)["entry"]}
+    return urls[one["specimen"]["reference"]]
 
 
 def bundle_of(one, wishes=oru.Wishes(), **reading):
@@ -51,7 +58,7 @@ class Fhir(HostTest):
         self.has("its digits stay", out, '"valueQuantity":{"value":5.40,')
         self.same("status", [it["status"] for it in (one, two, three)], ["final", "unknown", "final"])
         self.same("the patient", one["subject"], {"type": "Patient", "identifier": {"value": "4711"}})
-        self.same("the sample", one["specimen"]["identifier"]["value"], "S7")
+        self.same("the sample", tube_of(out, one)["identifier"][0], {"value": "S7"})
         self.same("the range", one["referenceRange"], [{"low": {"value": decimal.Decimal("3.9"), "unit": "mmol/L"},
                                                         "high": {"value": decimal.Decimal("6.10"), "unit": "mmol/L"}}])
         self.same("flags", [it["coding"][0]["code"] for it in one["interpretation"]], ["H", "A"])
@@ -72,7 +79,9 @@ class Fhir(HostTest):
         self.true("without a value", "dataAbsentReason" in three and "valueString" not in three)
         self.same("a comparator", four["valueQuantity"]["comparator"], ">")
         self.true("a control, without a patient", "subject" not in four and "a control" in str(four["note"]))
-        self.true("each is of its own", len({entry["fullUrl"] for entry in bundle["entry"]}) == 6)
+        self.same("a control's sample is of no patient", [name in tube_of(out, four) for name in ("subject", "note")],
+                  [False, True])
+        self.same("each is of its own", len({entry["fullUrl"] for entry in bundle["entry"]}), 9)
         again = bundle_of(stored(message(*rows), again_of="00ff"), zone="Europe/Berlin").decode()
         self.same("the same bytes again", again, out)
         self.same("a query has none", bundle_of(stored(message("Q|1|^S7||ALL"))), b"")
@@ -90,8 +99,10 @@ class Fhir(HostTest):
         first, again = named(*timed), named(*timed, key="k2")
         self.same("sent again with another header", again, first)
         bodies = [message("P|1|4711", "O|1|S7", "|".join(timed), header=f"H|\\^&|||A||||||||{at}") for at in "ab"]
-        found = [json.loads(bundle_of(stored(body, key)))["entry"][1]["request"] for key, body in zip("ab", bodies)]
-        self.same("so is its report", found[0], found[1])
+        found = [[one["request"] for one in json.loads(bundle_of(stored(body, key)))["entry"]]
+                 for key, body in zip("ab", bodies)]
+        self.same("so are its report, its order and its sample", found[0], found[1])
+        self.same("all of them are there", len(found[0]), 4)
         self.same("it is created, or the same", first[0]["method"], "PUT")
         self.same("a repeat changes nothing", named(*timed, key="k2", again_of="k1")[0]["ifNoneExist"],
                   first[0]["url"].partition("?")[2])
@@ -109,9 +120,10 @@ class Fhir(HostTest):
     def test_resources(self):
         """Codes and units by their systems, the patient, reports, orders that were cancelled."""
         wishes = oru.wishes_of(["practice=urn:oid:1.2.3 PI", "sample=urn:samples"])
-        rows = ["P|1|4711|||Doe^Jane||19800131|F", "O|1|S7||^^^GLU||||||||||||serum", "R|1|^^^GLU|5.4|mmol/L",
-                "O|2|S7||^^^FT4" + "|" * 21 + "X", "C|1|I|clot detected", "O|3|S8||^^^TSH"]
-        out = bundle_of(stored(message(*rows)), wishes)
+        rows = ["P|1|4711|||Doe^Jane||19800131|F",
+                "O|1|S7||^^^GLU|S|20261127080000|20261127093000||||||fasting|20261127095000|serum|17^Meyer",
+                "R|1|^^^GLU|5.4|mmol/L", "O|2|S7||^^^FT4" + "|" * 21 + "X", "C|1|I|clot detected", "O|3|S8||^^^TSH"]
+        out = bundle_of(stored(message(*rows)), wishes, zone="Asia/Tokyo")
         self.same("no fault", fhir_r4.faults(out), [])
         (who,), (one, gone) = observations(out, "Patient"), observations(out)
         self.same("the patient", (who["identifier"], who["name"], who["gender"], who["birthDate"]),
@@ -119,13 +131,67 @@ class Fhir(HostTest):
                    "1980-01-31"))
         url = json.loads(out)["entry"][0]["fullUrl"]
         self.same("its results", [it["subject"] for it in (one, gone)], [{"reference": url}] * 2)
-        self.same("the sample", one["specimen"]["identifier"], {"system": "urn:samples", "value": "S7"})
+        (tube,), (order, other) = observations(out, "Specimen"), observations(out, "ServiceRequest")
+        self.same("the sample is there once, and it is the patient's", tube, {
+            "resourceType": "Specimen", "identifier": [{"system": "urn:samples", "value": "S7"}],
+            "type": {"coding": [{"system": "http://terminology.hl7.org/CodeSystem/v2-0487", "code": "SER"}],
+                     "text": "serum"},
+            "subject": {"reference": url}, "receivedTime": "2026-11-27T09:50:00+09:00",
+            "collection": {"collectedDateTime": "2026-11-27T09:30:00+09:00"}})
+        wanted = {"resourceType": "ServiceRequest", "status": "completed", "intent": "order", "priority": "stat",
+                  "category": [{"coding": [{"system": "http://snomed.info/sct", "code": "108252007",
+                                            "display": "Laboratory procedure"}]}],
+                  "code": {"coding": [{"code": "GLU"}], "text": "GLU"}, "subject": {"reference": url},
+                  "authoredOn": "2026-11-27T08:00:00+09:00", "requester": {"display": "17 Meyer"},
+                  "specimen": [one["specimen"]], "note": [{"text": "fasting"}]}
+        self.same("the order", {name: it for name, it in order.items() if name != "identifier"}, wanted)
+        self.same("its identifier", order["identifier"][0]["system"], "urn:lislab:order")
+        self.same("one that was cancelled", (other["status"], other["code"]["text"]), ("revoked", "FT4"))
+        urls = {it["resource"]["identifier"][0]["value"]: it["fullUrl"] for it in json.loads(out)["entry"]}
+        asked = [[{"reference": urls[it["identifier"][0]["value"]]}] for it in (order, other)]
+        self.same("what each is based on", [it["basedOn"] for it in (one, gone)], asked)
         self.same("what was cancelled", (gone["status"], gone["code"]["text"], gone["note"]),
                   ("cancelled", "FT4", [{"text": "clot detected"}]))
         reports = observations(out, "DiagnosticReport")
-        self.same("reports", [it["status"] for it in reports], ["final", "cancelled"])
+        self.same("reports", [(it["status"], it["basedOn"]) for it in reports],
+                  [("final", asked[0]), ("cancelled", asked[1])])
         bare = observations(bundle_of(stored(message(*rows))), "Patient")
         self.same("without the system of an identity it is no Patient", bare, [])
+        walk_in = bundle_of(stored(message("P|1", *rows[1:])))
+        self.same("an order of nobody isn't there", observations(walk_in, "ServiceRequest"), [])
+
+    def test_samples(self):
+        """A sample whose number has no system is that of its line, its patient and its time; an order whose tests
+        haven't all come is active."""
+        def named(who="4711", sample="S7", more="", **how):
+            rows = message(f"P|1|{who}", f"O|1|{sample}||^^^A\\^^^B|||{more}", "R|1|^^^A|1")
+            found = bundle_of(stored(rows, **how))
+            return [observations(found, kind) for kind in ("Specimen", "ServiceRequest")]
+
+        (tube,), (order,) = named()
+        self.same("two identifiers", [it.get("system", it["value"]) for it in tube["identifier"]],
+                  ["S7", "urn:lislab:specimen"])
+        self.same("in another message it is the same one", named(key="18b0a0c0d0e0f00011223399")[0], [tube])
+        for name, how in (("another patient's", {"who": "4712"}), ("another line's", {"line": "other"}),
+                          ("another time", {"more": "20261127"}), ("another number", {"sample": "S8"})):
+            self.true(name, named(**how)[0][0]["identifier"][1] != tube["identifier"][1])
+        self.same("a test is missing", (order["status"], order["code"]), ("active", {"text": "A B"}))
+        control = observations(bundle_of(stored(message("P|1", "O|1|S7|||||||||Q", "R|1|^^^A|1"))), "Specimen")[0]
+        walk_in = observations(bundle_of(stored(message("P|1", "O|1|S7", "R|1|^^^A|1"))), "Specimen")[0]
+        self.true("a control's", control["identifier"][1] != walk_in["identifier"][1])
+
+    def test_identities(self):
+        """An identity with components: its authority is the system if it is an address, else a name; it goes before
+        the one that is set."""
+        wishes = oru.wishes_of(["practice=urn:oid:1.2.3 PI", "laboratory=HOSP"])
+        for field, wanted in (("4711", {"system": "urn:oid:1.2.3", "value": "4711"}),
+                              ("4711^^^OTHER^MR", {"value": "4711", "assigner": {"display": "OTHER"}}),
+                              ("4711^^^urn:x", {"system": "urn:x", "value": "4711"}),
+                              ("|4711", {"value": "4711", "assigner": {"display": "HOSP"}})):
+            out = bundle_of(stored(message(f"P|1|{field}", "O|1|S7", "R|1|^^^A|1")), wishes)
+            (one,), who = observations(out), observations(out, "Patient")
+            self.same(f"no fault: {field}", fhir_r4.faults(out), [])
+            self.same(field, who[0]["identifier"][0] if who else one["subject"]["identifier"], wanted)
 
     def test_structure(self):
         """Random messages are as published; and what isn't, is noticed."""
@@ -138,12 +204,20 @@ class Fhir(HostTest):
             for letter, count in (("P", 11), ("O", 26), ("R", 14), ("C", 5)):
                 cells = [rng.choice(words) + rng.choice(("", "", "^x", "\\y")) for _ in range(count)]
                 cells[0] = {"O": "S1", "R": rng.choice(("^^^A", "^A^B", "B"))}.get(letter, cells[0])
+                if letter == "P":
+                    cells[:3] = [rng.choice(("", "4711", " 4711 ^^^HOSP", "a b^^^urn:x^MR", "^^^")) for _ in range(3)]
                 rows.append("|".join([letter, "1", *cells]))
             out = bundle_of(stored(message(*rows)), rng.choice((oru.Wishes(), systems)),
                             zone=rng.choice(("", "Europe/Berlin"))).decode()
             self.need(fhir_r4.faults(out) == [], lambda: f"{at}: {fhir_r4.faults(out)}: {rows}")
-        good = bundle_of(stored(message("P|1|4711", "O|1|S7", "R|1|^^^A|<5.4|U/L|1-2|H", "C|1|I|x"))).decode()
+        good = bundle_of(stored(message("P|1|4711", "O|1|S7|||R||20261127||||||||serum", "R|1|^^^A|<5.4|U/L|1-2|H",
+                                        "C|1|I|x"))).decode()
         self.same("a good one", fhir_r4.faults(good), [])
+        urls = {it["resource"]["resourceType"]: it["fullUrl"] for it in json.loads(good)["entry"]}
+        for name, kind, other in (("basedOn", "ServiceRequest", "Specimen"), ("result", "Observation", "Specimen"),
+                                  ("specimen", "Specimen", "Observation")):
+            old, new = (re.compile(rf'("{name}":\[?.{{13}}"){urls[kind]}"'), rf'\1{urls[other]}"')
+            self.true(f"{name} leads to a {other}", fhir_r4.faults(old.sub(new, good)), good)
         for old, new in (
             ('"status":"final"', '"status":"done"'), ('"status":"final",', ""),
             ('"code":{"coding":[{"code":"A"}],"text":"A"},', ""),
@@ -156,6 +230,12 @@ class Fhir(HostTest):
             ('"resourceType":"Observation"', '"resourceType":"Result"'),
             ('"note":[{"text":"x"}]', '"note":{"text":"x"}'), ('"note":[{"text":"x"}]', '"note":[]'),
             ('"low":{"value":1', '"low":{"comparator":"<","value":1'), ('"method":"POST",', ""),
+            ('"status":"completed"', '"status":"done"'), ('"intent":"order"', '"intent":"ordered"'),
+            ('"intent":"order",', ""), ('"priority":"routine"', '"priority":"R"'),
+            ('"code":"SER"', '"code":"SERUM"'), ('"collectedDateTime":"2026-11-27"', '"collectedDateTime":"20261127"'),
+            ('"collection":{', '"collected":{'), ('"type":"Patient"', '"type":"Practitioner"'),
+            ('"code":"H"', '"code":"HIGH"'),
+            ('"subject":{"type":"Patient","identifier":{"value":"4711"}},"specimen":[', '"specimen":['),
             ('"unit":"U/L"', '"units":"U/L"'), ('"text":"x"', '"text":""'), ('"issued":"20', '"issued":"'),
         ):
             self.true(f"{old} as {new}", old in good and fhir_r4.faults(good.replace(old, new)), good)

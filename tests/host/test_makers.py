@@ -6,6 +6,7 @@ import os
 import re
 
 from lislink.host import export, lines, options
+from lislink.delivery import oru
 from lislink.delivery.tables import Tables
 from tests import kit
 from tests.host import fhir_r4, told
@@ -13,7 +14,28 @@ from tests.host.hosts import Host, HostTest, lislab
 from tests.host.test_out import messages_of
 
 FOLDER = "samples/makers"
+#: The systems of identities and samples of the files of FHIR.
+SYSTEMS = oru.wishes_of([f"{name}=urn:oid:1.2.{at}" for at, name in enumerate(("practice", "laboratory", "third"), 3)]
+                        + ["sample=urn:oid:1.2.6"])
 NAMES = sorted(os.path.basename(path)[: -len(".play")] for path in glob.glob(f"{FOLDER}/*.play"))
+
+
+def read(text):
+    """JSON with each number as it is written."""
+    return json.loads(text, parse_float=lambda digits: ("number", digits), parse_int=lambda digits: ("number", digits))
+
+
+def resources_of(bundle):
+    """The resources of a Bundle, as the files have them: addresses by the kind and its number in the Bundle, TIME for
+    when the message came, ID for what is made of keys."""
+    entries, counts = read(bundle)["entry"], {}
+    for one in entries:
+        kind = one["resource"]["resourceType"]
+        counts[kind] = counts.get(kind, 0) + 1
+        bundle = bundle.replace(one["fullUrl"], f"{kind}-{counts[kind]}")
+    bundle = re.sub(r'"issued":"[^"]*"', '"issued":"TIME"', bundle)
+    bundle = re.sub(r'("system":"urn:lislab:\w+","value":)"[^"]*"', r'\1"ID"', bundle)
+    return [one["resource"] for one in read(bundle)["entry"]]
 
 
 class Makers(HostTest):
@@ -70,13 +92,13 @@ class Makers(HostTest):
             self.same(name, found, kit.read(f"{FOLDER}/{name}.csv").splitlines())
 
     def test_fhir(self):
-        """As FHIR: the same results, with the line's zone."""
+        """As FHIR, each element but what is made of the message's time and keys; and the same results as in the table,
+        if no system is set too."""
+        names = {"F": "final", "X": "cancelled"}
         for name in NAMES:
-            bundle = self.written(name, "fhir")
-            self.same(f"{name}: no fault", fhir_r4.faults(bundle), [])
-            names = {"F": "final", "X": "cancelled"}
             wanted = [one._replace(status=names[one.status]) for one in told.of_csv(kit.read(f"{FOLDER}/{name}.csv"))]
-            self.same(name, told.of_fhir(bundle), wanted)
-            zones = {one["resource"]["effectiveDateTime"][-6:] for one in json.loads(bundle)["entry"]
-                     if "effectiveDateTime" in one["resource"]}
-            self.same(f"{name}: the zone", zones, {"+01:00"})
+            for wishes in (oru.Wishes(), SYSTEMS):
+                bundle = self.written(name, "fhir", wishes=wishes)
+                self.same(f"{name}: no fault", fhir_r4.faults(bundle), [])
+                self.same(name, told.of_fhir(bundle), wanted)
+            self.same(f"{name}: field by field", resources_of(bundle), read(kit.read(f"{FOLDER}/{name}.fhir")))

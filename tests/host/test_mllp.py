@@ -108,6 +108,37 @@ class Oru(WithLibrary):
         for word in ("MSH-5", "MSH-7=x", "MSH-12=2.7", "obr=sample", "sample="):
             self.raises(word, OptionError, lambda word=word: oru.wishes_of([word]))
 
+    def test_identities(self):
+        """Of an identity with components the first is the id, the fourth its authority, the fifth its type; one of which
+        this isn't sure is quarantined."""
+        wishes = oru.wishes_of(["practice=HOSP PI"])
+        for field, wanted in (("4711^^^OTHER^MR", "4711^^^OTHER^MR"), (" 4711 ^^^^MR", "4711^^^HOSP^MR"),
+                              ("4711^^^", "4711^^^HOSP^PI"), ("4711&S&7", "4711\\S\\7^^^HOSP^PI"), ("^^^", "")):
+            body = stored(message(f"P|1|{field}|||Doe", "O|1|S7", "R|1|^^^A|1"))
+            self.same(f"PID-3 of {field}", told.segments_of(oru_of(body, wishes))[0][1][3], wanted)
+        for at, field in enumerate(("4711^7", "^^^4711", "4711^^^H^MR^x", "4711\\4712", "|^4711", "||4711^^M10"), 3):
+            body = stored(message(f"P|1|{field}", "O|1|S7", "R|1|^^^A|1"))
+            self.raises(f"which part of {field} is it?", Quarantined, lambda body=body: oru_of(body))
+        body = stored(message("P|1|4711^S7", "O|1|", "R|1|^^^A|1"))
+        self.true("it has the sample too", b"|S7|" in oru_of(body, sample="P.3.2"))
+        control = stored(message("P|1|QC^7", "O|1|S7|||||||||Q", "R|1|^^^A|1"))
+        self.true("that of a control isn't looked at", b"OBR|1|S7|" in oru_of(control))
+
+    def test_times(self):
+        """OBR-7 is when the specimen was taken, else when the first result was completed, with a note; OBX-14 and
+        SPM-17 are the first alone."""
+        rows = ["R|1|^^^A|1|||||||||20261127103500", "R|2|^^^B|1||||||||20261127103100"]
+        for taken, times, wanted in (("20261127093000", rows, "20261127093000"), ("", rows, "20261127103100"),
+                                     ("", ["R|1|^^^A|1"], ""), ("soon", rows[:1], "20261127103500")):
+            body = message("P|1", f"O|1|S7|||||{taken}||||||||serum", *times)
+            found = told.segments_of(oru_of(stored(body)))[0]
+            first = {one[0]: one for one in reversed(found)}
+            self.same(f"of {taken or 'none'}", told.cell(first["OBR"], 7), wanted)
+            own = taken if taken.isdigit() else ""
+            self.same("OBX-14 and SPM-17", [told.cell(first["OBX"], 14), told.cell(first["SPM"], 17)], [own, own])
+            notes = [one[3][:5] for one in found if one[0] == "NTE"]
+            self.same("a note says so", notes, ["OBR-7"] if wanted and not own else [])
+
     def test_page(self):
         """The sample of HOST.md is what is written of the sample that it names."""
         page = kit.read("docs/HOST.md")

@@ -85,7 +85,8 @@ def of_fhir(data):
         quantity = one.get("valueQuantity", {})
         value = one.get("valueString") or quantity.get("comparator", "") + quantity.get("value", "")
         control = any("a control" in note["text"] for note in one.get("note", []))
-        sample = one.get("specimen", {}).get("identifier", {}).get("value", "")
+        tube = known.get(one.get("specimen", {}).get("reference"), {"identifier": [{}]})
+        sample = tube["identifier"][0].get("value", "")
         code = one["code"]["coding"][0]["code"]
         units = [note["text"][5:] for note in one.get("note", []) if note["text"].startswith("unit ")]
         unit = quantity.get("unit") or "".join(units)

@@ -101,6 +101,16 @@ class Row:
         found = self._split or self._cut()
         return found[number - 1] if self.first <= number <= len(found) else b""
 
+    def plain(self, number: int) -> Optional[bytes]:
+        """A field as it came, if it is one text without an escape, and empty if there is no such field; None if it has
+        repeats, components or escapes."""
+        found = self._split or self._cut()
+        if not 1 < number <= len(found):
+            return b""
+        one = found[number - 1]
+        _, _, _, between, inside, escape, _ = self._marks
+        return None if inside in one or between in one or escape in one else one
+
     def meaning(self, data: bytes) -> bytes:
         """What the bytes of a component mean: its escapes are decoded."""
         return self._meant(data) if self._marks[5] in data else data

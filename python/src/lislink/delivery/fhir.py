@@ -1,20 +1,23 @@
-"""A message as a Bundle of FHIR R4: a transaction with an Observation for each result and a DiagnosticReport for each
-order. A result that comes again is the same Observation, and a correction updates it."""
+"""A message as a Bundle of FHIR R4: a transaction with an Observation for each result, and a Specimen, a ServiceRequest
+and a DiagnosticReport for each order. A result that comes again is the same Observation, and a correction updates it."""
 import datetime
 import decimal
 import hashlib
 import json
+import re
 import uuid
 from collections import Counter
 from typing import Any, Dict, List, NamedTuple, Optional, Tuple, Union
 from urllib.parse import quote
 
 from .numbers import Number, number_of, range_of
-from .oru import Wishes
-from .results import Case, Coding, Ordered, Result, Told, field_text, identities_of, parts_of, report_of
+from .oru import Wishes, specimen_of
+from .results import Case, Coding, Identity, Ordered, Result, Told, field_text, identities_of, parts_of, report_of
 
-#: The systems of identifiers: of a message and what is made of it, of a result that has its time, of a sample's test.
+#: The systems of identifiers: of a message and what is made of it, of a result that has its time, of a sample's test,
+#: of a sample and of an order.
 SYSTEM, _OF_RESULT, _OF_TEST = "urn:lislab:message", "urn:lislab:result", "urn:lislab:test"
+_OF_SAMPLE, _OF_ORDER = "urn:lislab:specimen", "urn:lislab:order"
 #: Status of a result (LIS02-A2, 9.5.9) as that of an Observation, and of an order's report (9.4.26) as that of one
 #: without a result and of a DiagnosticReport. A letter that isn't here is `unknown`, with a note.
 _STATUS = {
@@ -22,8 +25,15 @@ _STATUS = {
     **{"C": "corrected", "P": "preliminary", "S": "preliminary", "I": "registered", "X": "cancelled"},
 }
 _REPORT = {"X": "cancelled", "I": "registered", "P": "preliminary", "C": "corrected", "F": "final"}
+#: The same as that of a ServiceRequest, and an order's priority (9.4.6).
+_REQUEST = {"X": "revoked", "I": "active", "P": "active", "C": "completed", "F": "completed"}
+_PRIORITY = {"S": "stat", "A": "asap", "R": "routine"}
 _TERMS = "http://terminology.hl7.org/CodeSystem/"
 _UCUM, _SYSTEMS = "http://unitsofmeasure.org", {"LN": "http://loinc.org", "SCT": "http://snomed.info/sct"}
+_LABORATORY = {"system": _SYSTEMS["SCT"], "code": "108252007", "display": "Laboratory procedure"}
+_CONTROL = "a control, and no sample of a patient"
+#: An address, which can be the system of identifiers.
+_ADDRESS = re.compile(r"[A-Za-z][A-Za-z0-9+.-]*:\S+$")
 #: The flags that have the same meaning as codes of v3-ObservationInterpretation.
 _FLAGS = ("L", "H", "LL", "HH", "<", ">", "N", "A", "AA", "U", "D", "B", "W")
 #: An element that is plain data.
@@ -47,6 +57,16 @@ class _Name(NamedTuple):
     identifiers: List[Data]
     search: str
     updates: bool = False
+
+
+class _About(NamedTuple):
+    """An order, whose it is, and the references to what is made of it: its patient, its sample, itself."""
+
+    case: Case
+    order: Ordered
+    subject: Optional[Data]
+    specimen: Optional[Data]
+    request: List[Data]
 
 
 def bundle_of(told: Told, wishes: Wishes = Wishes()) -> bytes:
@@ -81,21 +101,25 @@ class _Made:
         #: The addresses of resources by how they are found, and the other way.
         self._urls: Dict[str, str] = {}
         self._searches: Dict[str, str] = {}
+        self._resources: Dict[str, Data] = {}
         self._turns: "Counter[Tuple[str, ...]]" = Counter()
 
     def _add(self, name: _Name, resource: Data) -> str:
-        """Adds a resource; a patient, unless it is there: its address in the Bundle."""
+        """Adds a resource: its address in the Bundle. A patient, a sample or an order that is there gets what it
+        lacks."""
         kind = resource["resourceType"]
         known = f"{kind}?{name.search}"
-        if known in self._urls and kind == "Patient":
+        data = {key: each for key, each in resource.items() if each}
+        if known in self._urls and kind in ("Patient", "Specimen", "ServiceRequest"):
+            for key, each in data.items():
+                self._resources[self._urls[known]].setdefault(key, each)
             return self._urls[known]
         assert known not in self._urls, f"{known} is there twice"
         url = self._urls[known] = f"urn:uuid:{uuid.uuid5(uuid.NAMESPACE_URL, known)}"
         request = {"method": "POST", "url": kind, "ifNoneExist": name.search}
         if name.updates:
             request = {"method": "PUT", "url": f"{kind}?{name.search}"}
-        data = {key: each for key, each in resource.items() if each}
-        self._searches[url] = name.search
+        self._searches[url], self._resources[url] = name.search, data
         self.entries.append({"fullUrl": url, "resource": data, "request": request})
         return url
 
@@ -104,27 +128,32 @@ class _Made:
         subject = self._subject(case)
         for order in case.orders:
             results = list(self._told.results(order))
-            urls = [self._observation(case, order, one, subject) for one in results]
+            specimen = self._specimen(case, order, subject)
+            one = _About(case, order, subject, specimen, self._request(case, order, results, subject, specimen))
+            urls = [self._observation(one, each) for each in results]
             if not results and report_of(order.record):
-                urls = [self._missing(case, order, at, subject) for at in range(len(order.tests))]
-            self._report(case, order, results, subject, urls)
+                urls = [self._missing(one, at) for at in range(len(order.tests))]
+            self._report(one, results, urls)
+
+    def _own(self, system: str, value: str, *more: Data, updates: bool = False) -> _Name:
+        """The name of what is known by an identifier of this host's; it is updated unless the message is a repeat."""
+        identifiers = [*more, {"system": system, "value": value}]
+        return _Name(identifiers, f"identifier={system}|{value}", updates and self._told.one.again_of is None)
 
     def _key_name(self, place: str) -> _Name:
         """The name of what has no other than the message's: that of the first one, if it is a repeat."""
-        value = f"{self._told.one.again_of or self._told.one.key}-{place}"
-        return _Name([{"system": SYSTEM, "value": value}], f"identifier={SYSTEM}|{value}")
+        return self._own(SYSTEM, f"{self._told.one.again_of or self._told.one.key}-{place}")
 
     def _result_name(self, case: Case, order: Ordered, result: Result) -> _Name:
         """The name of a result. If it has its time, this doesn't depend on the message in which it came."""
-        who = [] if case.patient is None else [*identities_of(case.patient).values(), *parts_of(case.patient, 6)]
+        who = _who(case)
         what = [result.field, result.code, result.unit]
         test = [self._told.one.line, order.sample, *who, "", *what]
         names = self._key_name(_digest(str(order.record.number), *what, str(result.turn)))
         by_test = {"system": _OF_TEST, "value": _digest(*test)}
         if len(result.at) >= 12:
             value = _digest(*test, str(result.turn), result.at, str(self._turn(*test, str(result.turn), result.at)))
-            is_first = self._told.one.again_of is None
-            names = _Name([{"system": _OF_RESULT, "value": value}], f"identifier={_OF_RESULT}|{value}", is_first)
+            names = self._own(_OF_RESULT, value, updates=True)
         if not (who and order.sample and result.turn == 0):
             return names
         if result.status == "C" and not self._turn(by_test["value"]):  # a server that has two rejects this
@@ -141,10 +170,8 @@ class _Made:
         identities = {} if case.patient is None else identities_of(case.patient)
         if case.patient is None or not identities:
             return None
-        systems = {field: self._wishes.authorities.get(field, ("", ""))[0] for field in identities}
         named = [
-            {"system": systems[field], "value": text} if ":" in systems[field] else {"value": text}
-            for field, text in identities.items()
+            _identifier(one, self._wishes.authorities.get(field, ("", ""))[0]) for field, one in identities.items()
         ]
         known = next((one for one in named if "system" in one), None)
         if known is None:
@@ -152,8 +179,59 @@ class _Made:
         name = _Name(named, f"identifier={known['system']}|{quote(known['value'], safe='')}")
         return {"reference": self._add(name, _patient(case, named))}
 
-    def _observation(self, case: Case, order: Ordered, result: Result, subject: Optional[Data]) -> str:
-        told = self._told
+    def _specimen(self, case: Case, order: Ordered, subject: Optional[Data]) -> Optional[Data]:
+        """The sample. If its numbers have no system, it is that of the line, the patient and the time at which it was
+        taken: another one can have its number."""
+        if not order.sample:
+            return None
+        told, record, system = self._told, order.record, self._wishes.samples
+        number = {"system": system, "value": order.sample} if _ADDRESS.match(system) else {"value": order.sample}
+        name = _Name([number], f"identifier={system}|{quote(order.sample, safe='')}")
+        if "system" not in number:
+            what = [told.one.line, order.sample, *_who(case), "Q" if order.control else "", record.text(8).strip()]
+            name = self._own(_OF_SAMPLE, _digest(*what), number)
+        taken, (code, text) = told.iso(record.text(8)), specimen_of(record)
+        coding: Data = {"coding": [{"system": f"{_TERMS}v2-0487", "code": code}]} if code else {}
+        made = {
+            "resourceType": "Specimen",
+            "identifier": name.identifiers,
+            "type": {**coding, "text": text} if text else None,
+            "subject": subject,
+            "receivedTime": told.iso(record.text(15)),
+            "collection": {"collectedDateTime": taken} if taken else None,
+            "note": [{"text": _CONTROL}] if order.control else None,
+        }
+        return {"reference": self._add(name, made)}
+
+    def _request(
+        self, case: Case, order: Ordered, results: List[Result], subject: Optional[Data], specimen: Optional[Data]
+    ) -> List[Data]:
+        """The order, which is somebody's: there is none without a patient who has an identity."""
+        if subject is None:
+            return []
+        told, record = self._told, order.record
+        tests = order.tests or [Coding(one.code, one.system) for one in results]
+        codes = list(dict.fromkeys(one.code for one in tests))
+        ordered = [told.one.line, order.sample, *_who(case), "", *codes, record.text(7).strip()]
+        name = self._own(_OF_ORDER, _digest(*ordered), updates=True)
+        made = {
+            "resourceType": "ServiceRequest",
+            "identifier": name.identifiers,
+            "status": _request_status(order, codes, results),
+            "intent": "order",
+            "category": [{"coding": [_LABORATORY]}],
+            "priority": _PRIORITY.get(field_text(record, 6).upper()),
+            "code": _code(codes[0], tests[0].system, "") if len(codes) == 1 else {"text": " ".join(codes)},
+            "subject": subject,
+            "authoredOn": told.iso(record.text(7)),
+            "requester": {"display": " ".join(filter(None, parts_of(record, 17)))} if parts_of(record, 17) else None,
+            "specimen": [specimen] if specimen else None,
+            "note": [{"text": field_text(record, 14)}] if field_text(record, 14) else None,
+        }
+        return [{"reference": self._add(name, made)}]
+
+    def _observation(self, about: _About, result: Result) -> str:
+        told, (case, order) = self._told, about[:2]
         notes = [each.text for each in [*case.comments, *order.comments, *result.comments]]
         notes += [] if result.status in _STATUS else [f"the analyzer's status is {result.status}"]
         taken, value = told.iso(order.record.text(8)), _value(result)
@@ -164,71 +242,62 @@ class _Made:
         return self._add(
             name,
             {
-                **self._head(name, _STATUS.get(result.status, "unknown"), result, subject),
+                **self._head(name, _STATUS.get(result.status, "unknown"), result, about),
                 "effectiveDateTime": taken or told.iso(result.at),
                 "issued": _instant(told),
                 "performer": [{"identifier": {"value": result.operator}}] if result.operator else None,
                 **value,
                 "interpretation": [_flag(each) for each in result.flags],
                 "note": self._notes(order, notes),
-                "specimen": self._specimen(order),
+                "specimen": about.specimen,
                 "device": {"type": "Device", "display": result.instrument} if result.instrument else None,
                 "referenceRange": _range(result),
             },
         )
 
     @staticmethod
-    def _head(name: _Name, status: str, test: Union[Result, Coding], subject: Optional[Data]) -> Data:
+    def _head(name: _Name, status: str, test: Union[Result, Coding], about: _About) -> Data:
         return {
             "resourceType": "Observation",
             "identifier": name.identifiers,
+            "basedOn": about.request,
             "status": status,
             "category": [{"coding": [{"system": f"{_TERMS}observation-category", "code": "laboratory"}]}],
             "code": _code(test.code, test.system, test.name if isinstance(test, Result) else ""),
-            "subject": subject,
+            "subject": about.subject,
         }
 
-    def _missing(self, case: Case, order: Ordered, at: int, subject: Optional[Data]) -> str:
+    def _missing(self, about: _About, at: int) -> str:
         """An ordered test of which no result came, as one that was cancelled."""
+        case, order = about[:2]
         name = self._key_name(_digest(str(order.record.number), "", str(at)))
         status = _REPORT.get(report_of(order.record), "unknown")
         reason = "not-performed" if status == "cancelled" else "temp-unknown"
         return self._add(
             name,
             {
-                **self._head(name, status, order.tests[at], subject),
+                **self._head(name, status, order.tests[at], about),
                 "issued": _instant(self._told),
                 "dataAbsentReason": {"coding": [{"system": f"{_TERMS}data-absent-reason", "code": reason}]},
                 "note": self._notes(order, [each.text for each in [*case.comments, *order.comments]]),
-                "specimen": self._specimen(order),
+                "specimen": about.specimen,
             },
         )
 
     def _notes(self, order: Ordered, texts: List[str]) -> List[Data]:
-        control = ["a control, and no sample of a patient"] if order.control else []
+        control = [_CONTROL] if order.control else []
         return [{"text": each} for each in [*texts, *self._told.marks, *control] if each.strip()]
 
-    def _specimen(self, order: Ordered) -> Optional[Data]:
-        if not order.sample:
-            return None
-        system = {"system": self._wishes.samples} if ":" in self._wishes.samples else {}
-        kind = field_text(order.record, 16)
-        named = {"type": "Specimen", "identifier": {**system, "value": order.sample}}
-        return {**named, "display": kind} if kind else named
-
-    def _report(
-        self, case: Case, order: Ordered, results: List[Result], subject: Optional[Data], urls: List[str]
-    ) -> None:
+    def _report(self, about: _About, results: List[Result], urls: List[str]) -> None:
         """A DiagnosticReport of an order."""
+        order = about.order
         named, found = report_of(order.record), {_STATUS.get(one.status, "unknown") for one in results}
         usual = next((one for one in ("unknown", "preliminary", "registered", "corrected") if one in found), "final")
         status = _REPORT.get(named, "unknown") if named else "partial" if usual == "registered" else usual
         name = self._key_name(f"report-{order.record.number}")
         searches = [self._searches[url] for url in urls]
         if searches and all(_OF_RESULT in one or _OF_TEST in one for one in searches):
-            value = _digest("report", *searches)
-            is_first = self._told.one.again_of is None
-            name = _Name([{"system": _OF_RESULT, "value": value}], f"identifier={_OF_RESULT}|{value}", is_first)
+            name = self._own(_OF_RESULT, _digest("report", *searches), updates=True)
         codes = [*(one.code for one in order.tests), *(one.code for one in results)]
         texts = " ".join(dict.fromkeys(codes)) or "laboratory report"
         self._add(
@@ -236,13 +305,14 @@ class _Made:
             {
                 "resourceType": "DiagnosticReport",
                 "identifier": name.identifiers,
+                "basedOn": about.request,
                 "status": status,
                 "category": [{"coding": [{"system": f"{_TERMS}v2-0074", "code": "LAB"}]}],
                 "code": {"text": texts},
-                "subject": subject,
+                "subject": about.subject,
                 "effectiveDateTime": self._told.iso(order.record.text(8)),
                 "issued": _instant(self._told),
-                "specimen": [one for one in [self._specimen(order)] if one],
+                "specimen": [about.specimen] if about.specimen else None,
                 "result": [{"reference": url} for url in dict.fromkeys(urls)],
                 "conclusion": "; ".join(each.text for each in order.comments) if not results else "",
             },
@@ -252,6 +322,31 @@ class _Made:
 def _digest(*texts: str) -> str:
     """One text for all of these."""
     return hashlib.sha256(json.dumps(texts).encode()).hexdigest()[:32]
+
+
+def _who(case: Case) -> List[str]:
+    """What says whose something is: the identities and the name of a patient."""
+    if case.patient is None:
+        return []
+    found = identities_of(case.patient).values()
+    return [*(one.value + (f"^{one.authority}" if one.authority else "") for one in found), *parts_of(case.patient, 6)]
+
+
+def _identifier(one: Identity, authority: str) -> Data:
+    """An identity of a patient, of the authority that the message names, else of the one that is set."""
+    authority = one.authority or authority
+    if _ADDRESS.match(authority):
+        return {"system": authority, "value": one.value}
+    return {"value": one.value, "assigner": {"display": authority}} if authority else {"value": one.value}
+
+
+def _request_status(order: Ordered, codes: List[str], results: List[Result]) -> str:
+    """Whether an order is done: as its report type says, else if each of its tests has a result that stays."""
+    named = report_of(order.record)
+    if named:
+        return _REQUEST.get(named, "unknown")
+    done = {one.code for one in results if _STATUS.get(one.status) in ("final", "corrected", "cancelled")}
+    return "completed" if done >= set(codes) else "active"
 
 
 def _patient(case: Case, named: List[Data]) -> Data:

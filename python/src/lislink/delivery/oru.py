@@ -8,7 +8,8 @@ from typing import Dict, Iterator, List, Mapping, NamedTuple, Optional, Sequence
 from ..host.options import OptionError
 from ..message import Entry
 from .numbers import number_of, range_of
-from .results import Case, Coding, Comment, Ordered, Result, Told, field_text, identities_of, parts_of, report_of
+from .results import Case, Coding, Comment, Identity, Ordered, Result, Told
+from .results import field_text, identities_of, parts_of, report_of
 
 #: Status of a result (LIS02-A2, 9.5.9) as that of HL7 table 0085. A letter that isn't here is P, with a comment: HL7
 #: has another meaning for some of them.
@@ -22,6 +23,8 @@ _SPECIMENS = {
 }
 _ESCAPES = {"|": "\\F\\", "^": "\\S\\", "~": "\\R\\", "\\": "\\E\\", "&": "\\T\\"}
 _SPECIAL = re.compile(r"[|^~\\&\x00-\x1f]")
+#: OBR-7 must be there in a report; it is when the specimen was taken.
+_NOT_TAKEN = "OBR-7 is when the first result was completed: when the specimen was taken isn't known"
 #: A value of type NM, and the most characters of one of type ST.
 _NM, _ST = re.compile(r"[+-]?\d+(?:\.\d+)?$|[+-]?\.\d+$", re.ASCII), 199
 #: A field: a text, its components, or its repeats as lists of components.
@@ -81,8 +84,8 @@ def escaped(text: str) -> str:
 
 def segment(name: str, fields: Mapping[int, Field]) -> str:
     """A segment with these fields, by their numbers, and the CR after it."""
-    cells = {number: _field(value) for number, value in fields.items()}
-    last = max((number for number, text in cells.items() if text), default=0)
+    cells = {number: text for number, value in fields.items() if value for text in [_field(value)] if text}
+    last = max(cells, default=0)
     first = 3 if name == "MSH" else 1  # MSH-1 is the delimiter itself
     head = [name, "^~\\&"] if name == "MSH" else [name]
     return "|".join(head + [cells.get(number, "") for number in range(first, last + 1)]) + "\r"
@@ -90,10 +93,10 @@ def segment(name: str, fields: Mapping[int, Field]) -> str:
 
 def _field(value: Field) -> str:
     if isinstance(value, str):
-        return escaped(value)
-    if all(isinstance(one, str) for one in value):
-        return "^".join(escaped(str(one)) for one in value).rstrip("^")
-    return "~".join(_field(one) for one in value).rstrip("~")
+        return value if value.isalnum() else escaped(value)
+    if isinstance(value[0], str):
+        return "^".join([escaped(str(one)) for one in value]).rstrip("^")
+    return "~".join([_field(one) for one in value]).rstrip("~")
 
 
 def control_id(key: str, place: int = 1) -> str:
@@ -121,7 +124,9 @@ def oru_of(told: Told, wishes: Wishes = Wishes()) -> bytes:
 
 def messages_of(data: bytes) -> List[bytes]:
     """Each of these messages by itself."""
-    return [one for one in re.split(rb"(?<=\r)(?=MSH\|)", data) if one]
+    first, *others = data.split(b"\rMSH|")
+    rows = [first, *(b"MSH|" + one for one in others)]
+    return [one + b"\r" for one in rows[:-1]] + [one for one in rows[-1:] if one]
 
 
 def _segments(told: Told, place: int, case: Case, wishes: Wishes) -> Iterator[str]:
@@ -167,7 +172,7 @@ def _patient(case: Case, wishes: Wishes) -> Iterator[str]:
         "PID",
         {
             1: "1",
-            3: [_identity(text, *wishes.authorities.get(field, ("", ""))) for field, text in identities.items()],
+            3: [_identity(one, *wishes.authorities.get(field, ("", ""))) for field, one in identities.items()],
             5: [*(name + [""] * 6)[:6], "L"] if name else ["", "", "", "", "", "", "U"],
             6: parts_of(record, 7),
             7: _day(record.text(8)),
@@ -179,10 +184,9 @@ def _patient(case: Case, wishes: Wishes) -> Iterator[str]:
     yield from _notes(case.comments)
 
 
-def _identity(text: str, authority: str, kind: str) -> List[str]:
-    """A patient's identity (CX). An authority that is an address is written as its universal id, which isn't done
-    here: it is its name."""
-    return [text, "", "", authority, kind]
+def _identity(one: Identity, authority: str, kind: str) -> List[str]:
+    """A patient's identity (CX): authority and type as the message names them, else as they are set."""
+    return [one.value, "", "", one.authority or authority, one.kind or kind]
 
 
 def _day(text: str) -> str:
@@ -212,9 +216,11 @@ def _order(
 ) -> Iterator[str]:
     """OBR, its comments, its priority, its results, and SPM."""
     record, is_old = order.record, wishes.version == VERSIONS[0]
-    taken, kind = told.at(record.text(8)), _specimen(record)
+    taken, (code, text) = told.at(record.text(8)), specimen_of(record)
+    kind = [code, text, "HL70487"] if code else ["", text] if text else []
     priority = field_text(record, 6).upper()
     priority = priority if len(priority) == 1 and priority in _PRIORITIES else ""
+    first = "" if taken else min((one.at for one in results if one.at), default="")
     physician = parts_of(record, 17)
     yield segment(
         "OBR",
@@ -225,7 +231,7 @@ def _order(
             4: _service(order, results),
             5: priority,
             6: told.at(record.text(7)),
-            7: taken,
+            7: taken or told.at(first),
             8: told.at(record.text(9)),
             13: field_text(record, 14),
             14: told.at(record.text(15)),
@@ -235,7 +241,7 @@ def _order(
             25: _report(order, results),
         },
     )
-    yield from _notes([*order.comments, *more])
+    yield from _notes([*order.comments, *([Comment("L", _NOT_TAKEN)] if first else []), *more])
     if priority and not is_old:
         yield segment("TQ1", {1: "1", 9: priority})
     for place, result in enumerate(results, 1):
@@ -261,11 +267,10 @@ def _system(system: str) -> str:
     return system if system and ":" not in system else "L"
 
 
-def _specimen(record: Entry) -> List[str]:
-    """The type of a specimen, by table 0487 if that has it."""
+def specimen_of(record: Entry) -> Tuple[str, str]:
+    """The type of an order's specimen: its code of table 0487, if that has it, and its text."""
     text = field_text(record, 16)
-    code = _SPECIMENS.get(text.upper())
-    return [code, text, "HL70487"] if code else ["", text] if text else []
+    return _SPECIMENS.get(text.upper(), ""), text
 
 
 def _report(order: Ordered, results: List[Result]) -> str:

@@ -10,7 +10,6 @@ from typing import Dict, Iterator, List, Mapping, NamedTuple, Optional, Tuple
 from ..host.options import LETTERS, TWICE
 from ..host.store import Stored
 from ..message import Entry, Fault, Message, read_all
-from ..rows import Row
 from ..watch.unix import shown
 from .failures import Quarantined, Refused
 from .numbers import number_of
@@ -19,7 +18,9 @@ from .numbers import number_of
 _TIME = re.compile(r"(\d{4})(\d\d)(\d\d)(?:(\d\d)(?:(\d\d)(\d\d)?)?)?$", re.ASCII)
 #: Report types of an order (LIS02-A2, 9.4.26) that say something of it, also without a result.
 REPORTS = "CPFXIYZ"
-#: Letters of one byte, in which UTF-8 can be read without a fault. The most records of a message.
+#: The fields of a patient's identities. Letters of one byte, in which UTF-8 can be read without a fault. The most
+#: records of a message.
+IDENTITIES = (3, 4, 5)
 _ONE_BYTE, MOST_RECORDS = ("iso8859", "cp125", "koi8", "ascii"), 250_000
 
 
@@ -84,6 +85,14 @@ class Result(NamedTuple):
     turn: int
 
 
+class Identity(NamedTuple):
+    """An identity of a patient, and its authority and type if the message names them."""
+
+    value: str
+    authority: str = ""
+    kind: str = ""
+
+
 class Ordered(NamedTuple):
     """An order: its record, the sample, the instrument's sample, its tests, and whether it is a control."""
 
@@ -126,7 +135,7 @@ class Told:
         self.one, self.reading, self._codings = coded.one, coded.reading, coded.codings
         self.marks = marks_of(self.one)
         #: The tests of results, by the records' numbers.
-        self._tests: Dict[int, Tuple[str, str, Coding]] = {}
+        self._tests: Dict[int, Tuple[str, str, Coding, str]] = {}
         self._look_at_letters()
         self.message = message_of(self.one)
         #: How many orders are left out, since nothing is said of them; how many codes are twice in an order.
@@ -146,10 +155,19 @@ class Told:
         self.orders_left_out += len(above.orders) - len(told)
         orders = [self._ordered(one, above) for one in told]
         own, controls = [[one for one in orders if one.control is of] for of in (False, True)]
+        if own and above.letter == "P":
+            self._check_patient(above)
         if own:
             yield Case(above if above.letter == "P" else None, own, comments_of(above))
         if controls:
             yield Case(None, controls, [])
+
+    def _check_patient(self, record: Entry) -> None:
+        """Whether the identities are sure; one in which the line's setting says where the sample is may have more."""
+        for field in IDENTITIES:
+            why = identity_of(record, field)[1]
+            if why and not self.reading.sample.startswith(f"P.{field}."):
+                raise Quarantined(f"patient, record {record.number} of the message: {why}")
 
     def _ordered(self, record: Entry, above: Entry) -> Ordered:
         sample, why = sample_of(record, above, self.reading)
@@ -169,28 +187,28 @@ class Told:
 
     def _check(self, order: Entry) -> None:
         """Whether each result has its test, and no test two contents."""
-        seen: Dict[str, Tuple[str, str, str]] = {}
+        seen: Dict[str, Entry] = {}
         for entry in order.results:
-            code, field, _ = self._test(entry)
-            content = (field, content_of(entry, 4), content_of(entry, 5))
+            code, field = self._test(entry)[:2]
             if not code:
                 raise Quarantined(f"result, record {entry.number} of the message: no test is named")
-            first = seen.setdefault(code, content)
-            if first[1:] == content[1:]:
+            first = seen.setdefault(code, entry)
+            if first is entry or all(content_of(first, number) == content_of(entry, number) for number in (4, 5)):
                 continue
             self.twice += 1
-            merged = first[0] != field and self.reading.twice != TWICE[1]
+            merged = self._test(first)[1] != field and self.reading.twice != TWICE[1]
             if merged or self.reading.twice == TWICE[0]:
                 why = "out of different fields R-3" if merged else "with different values"
                 raise Quarantined(f"order, record {order.number} of the message: {shown(code)} is there twice, {why}")
 
-    def _test(self, entry: Entry) -> Tuple[str, str, Coding]:
-        """The code of a result, its whole field, and what the table says of it."""
+    def _test(self, entry: Entry) -> Tuple[str, str, Coding, str]:
+        """The code of a result, its whole field, what the table says of it, and its name."""
         found = self._tests.get(entry.number)
         if found is None:
             parts = parts_of(entry, 3)
             coding = self._codings.get((entry.number, 0)) or Coding(code_among(parts, self.reading))
-            found = self._tests[entry.number] = coding.code, coding.field or "^".join(parts), coding
+            name = parts[1] if len(parts) == 4 and parts[1] != coding.code else ""
+            found = self._tests[entry.number] = coding.code, coding.field or "^".join(parts), coding, name
         return found
 
     def results(self, order: Ordered) -> Iterator[Result]:
@@ -198,13 +216,12 @@ class Told:
         total = Counter(self._test(entry)[0] for entry in order.record.results)
         turns: "Counter[str]" = Counter()
         for entry in order.record.results:
-            code, field, coding = self._test(entry)
+            code = self._test(entry)[0]
             turns[code] += 1
-            yield self._result(entry, coding, field, turns[code] if total[code] > 1 else 0)
+            yield self._result(entry, turns[code] if total[code] > 1 else 0)
 
-    def _result(self, entry: Entry, coding: Coding, field: str, turn: int) -> Result:
-        parts = parts_of(entry, 3)
-        name = parts[1] if len(parts) == 4 and parts[1] != coding.code else ""
+    def _result(self, entry: Entry, turn: int) -> Result:
+        _, field, coding, name = self._test(entry)
         flags = [entry.text(7, at).strip() for at in range(len(entry.row.field(7)))]
         return Result(
             coding.code,
@@ -227,14 +244,16 @@ class Told:
 
     def at(self, text: str) -> str:
         """A time in the form of HL7, with the line's zone if it has one; empty for anything else."""
-        text, moment = time_of(text), moment_of(text)
-        if moment is None or len(text) == 8 or not self.reading.zone:
+        moment, text = moment_of(text), text.strip()
+        if moment is None:
+            return ""
+        if len(text) == 8 or not self.reading.zone:
             return text
         return text + moment.replace(tzinfo=zoneinfo.ZoneInfo(self.reading.zone)).strftime("%z")
 
     def iso(self, text: str) -> str:
         """The same in the form of ISO 8601, which has no time of day without a zone: then it is the date."""
-        text, moment = time_of(text), moment_of(text)
+        moment, text = moment_of(text), text.strip()
         if moment is None:
             return ""
         if len(text) < 12 or not self.reading.zone:
@@ -253,16 +272,31 @@ def report_of(order: Entry) -> str:
     return word if len(word) == 1 and word in REPORTS else ""
 
 
-def identities_of(patient: Entry) -> Dict[int, str]:
+def identities_of(patient: Entry) -> Dict[int, Identity]:
     """A patient's identities by their fields: the practice's (3), the laboratory's (4), and the third (5)."""
-    found = {field: field_text(patient, field) for field in (3, 4, 5)}
-    return {field: text for field, text in found.items() if text}
+    found = {field: identity_of(patient, field)[0] for field in IDENTITIES}
+    return {field: one for field, one in found.items() if one.value}
+
+
+def identity_of(patient: Entry, field: int) -> Tuple[Identity, str]:
+    """An identity of a patient, and why it isn't sure. Of components, as those of CX in HL7, the first one is the
+    identity, the fourth its authority, the fifth its type; with any other one no one can say which it is."""
+    plain = patient.row.plain(field)
+    if plain is not None:
+        return Identity(plain.decode(patient.encoding, "replace").strip()), ""
+    parts = parts_of(patient, field)
+    value, check, scheme, authority, kind, *others = [*parts, *[""] * (5 - len(parts))]
+    is_one = len(patient.row.field(field)) == 1 and (value or not parts) and not (check or scheme or any(others))
+    if is_one:
+        return Identity(value, authority, kind), ""
+    return Identity(_whole(patient, field)), f"which part of P-{field} is the patient's identity?"
 
 
 def parts_of(entry: Entry, field: int, repeat: int = 0) -> List[str]:
     """The components of a field without blanks around them, up to the last one that isn't empty."""
-    if not repeat and _is_plain(entry.row, field):
-        text = entry.row.written(field).decode(entry.encoding, "replace").strip()
+    plain = None if repeat else entry.row.plain(field)
+    if plain is not None:
+        text = plain.decode(entry.encoding, "replace").strip()
         return [text] if text else []
     repeats = entry.row.field(field)
     parts = repeats[repeat] if repeat < len(repeats) else []
@@ -270,12 +304,6 @@ def parts_of(entry: Entry, field: int, repeat: int = 0) -> List[str]:
     while found and not found[-1]:
         found.pop()
     return found
-
-
-def _is_plain(row: Row, field: int) -> bool:
-    """Whether a field is one text as it came: without repeats, components and escapes."""
-    data = row.written(field)
-    return not any(mark in data for mark in row.delimiters[1:])
 
 
 def code_of(entry: Entry, field: int, repeat: int = 0, reading: Reading = Reading()) -> str:
@@ -335,8 +363,9 @@ def marks_of(one: Stored) -> List[str]:
 
 def text_of(entry: Entry, field: int) -> str:
     """A field as its text; with components or repeats as `whole` has it."""
-    if _is_plain(entry.row, field):
-        return entry.row.written(field).decode(entry.encoding, "replace")
+    plain = entry.row.plain(field)
+    if plain is not None:
+        return plain.decode(entry.encoding, "replace")
     parts = entry.parts(field)
     return parts if isinstance(parts, str) else entry.whole(field)
 
@@ -348,6 +377,9 @@ def field_text(entry: Entry, field: int) -> str:
 
 def content_of(entry: Entry, field: int) -> str:
     """The same of a value, a unit or a range: alone if other components are empty, and two numbers as a range."""
+    plain = entry.row.plain(field)
+    if plain is not None:
+        return plain.decode(entry.encoding, "replace").strip()
     parts = parts_of(entry, field) if len(entry.row.field(field)) == 1 else []
     filled = [part for part in parts if part]
     if len(filled) == 1:
@@ -386,8 +418,10 @@ def time_of(text: str) -> str:
 
 def moment_of(text: str) -> Optional[datetime.datetime]:
     """What a time of a record means, which has no zone; None for anything else."""
-    found = _TIME.match(text.strip())
-    year, month, day, hour, minute, second = [int(one or 0) for one in found.groups()] if found else [0] * 6
+    found = _TIME.match(text.strip()) if text else None
+    if found is None:
+        return None
+    year, month, day, hour, minute, second = [int(one or 0) for one in found.groups()]
     try:
         return datetime.datetime(year, month, day, hour, minute, second)
     except ValueError:

@@ -163,7 +163,7 @@ def _usual(coded: "Coded") -> "Dict[str, Callable[[table.Where], str]]":
     def patient(where: table.Where) -> str:
         if where[1].letter != "P" or is_control(where[0], where[2]):
             return ""
-        return next(iter(identities_of(where[1]).values()), "")
+        return next((one.value for one in identities_of(where[1]).values()), "")
 
     def test(where: table.Where) -> str:
         coding = coded.codings.get((where[3].number, 0))
