@@ -1,4 +1,5 @@
 """Queries as analyzers ask them: whose sample, answers as a whole and again, and what goes wrong on the way."""
+import json
 import os
 import re
 import socket
@@ -7,6 +8,7 @@ import time
 
 from lislink.orders.book import open_book
 from lislink.orders.order import Order
+from lislink.watch.unix import ask
 from tests.host import hosts
 from tests.host.hosts import Host, HostTest, lislab, wait_for
 from tests.host.plain import ACK, ENQ, EOT, NAK, Gone, Plain, is_good, samples_of
@@ -124,6 +126,33 @@ class Queries(HostTest):
             self.same(f"Q-3 {text.decode()}", [row[:5] for row in one.take()], [b"H|\\^&", b"L|1|I"])
         one.send(asked(b"ALL"))
         self.same("ALL", samples_of(one.take()), ["S123", "S7"])
+
+    def test_nothing_found(self):
+        """Five queries in a row without an order make a line bad; one with an order makes it good again."""
+        state = self.path("nothing.state")
+        host, port = self.started(words=("--status", state))
+
+        def seen():
+            """What is said of the line."""
+            return ask(state + ".watch", ask="lines")[0]["lines"]["asks"]
+
+        one = Plain(port, SLOW)
+        for at in range(1, 6):
+            self.same(f"before query {at}", seen()["state"], "quiet" if at == 1 else "good")
+            one.send(asked(b"^NONE"))
+            self.same(f"query {at}", one.take()[-1], b"L|1|I\r")
+        self.true("it is bad", wait_for(lambda: seen()["verdict"] == "no-orders"), str(seen()))
+        self.has("what is said", seen()["says"], "5 times in a row since ")
+
+        def counts():
+            """Queries, and those that found nothing, as `status` has them."""
+            done = lislab("status", "--store", host.store, "--status", state, "--json")
+            return [(row["queries"], row["found_nothing"]) for row in json.loads(done.stdout)["lines"]]
+
+        self.true("counted", wait_for(lambda: counts() == [(5, 5)]), str(counts()))
+        one.send(asked(b"^S7"))
+        self.same("an order", samples_of(one.take()), ["S7"])
+        self.true("it is good", wait_for(lambda: seen()["state"] == "good"), str(seen()))
 
     def test_an_answer_is_whole(self):
         """What one message asks for is one session, also of many orders: urgent ones first, and F at its end."""

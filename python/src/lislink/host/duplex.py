@@ -239,10 +239,16 @@ class TwoWayLine(Line):
             return
         async with self._look_ups:
             batch = await self._outbox.answer(self._site, queries, b"".join(row.text + b"\r" for row in rows))
+        self._found(batch is None or batch.holds_orders)
         if batch is not None:
             self._ready.append(batch)
         self._has_work = True
         self._wake()
+
+    def _found(self, is_any: bool) -> None:
+        """Whether there was an order for a query. A LIS that hands over none is known by that."""
+        self._counts["found_nothing"] += not is_any
+        self._probe.found(is_any)
 
     async def _take_back(self) -> None:
         """The analyzer takes its query back: no answer is sent that hasn't begun."""

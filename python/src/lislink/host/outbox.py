@@ -58,6 +58,11 @@ class Batch(NamedTuple):
         return not self.placed or self.placed[0].asked != ""
 
     @property
+    def holds_orders(self) -> bool:
+        """Whether it has an order, or the store doesn't say whether there is one."""
+        return bool(self.placed) or any(text[:1] in b"Oo" or text[:5] == b"L|1|Q" for text in self.texts)
+
+    @property
     def told(self) -> str:
         """It in a few words."""
         return told_of(one.order for one in self.placed) or "the answer to a query"

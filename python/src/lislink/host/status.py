@@ -83,7 +83,8 @@ def rows_of(store: Store, state: Dict[str, Any]) -> List[Dict[str, Any]]:
     rows = []
     for name in sorted({*kept, *live}):
         row: Dict[str, Any] = {
-            one: live.get(name, {}).get(one, 0) for one in ("connected", "queries", "rejected", "late", "not_kept")
+            one: live.get(name, {}).get(one, 0)
+            for one in ("connected", "queries", "found_nothing", "rejected", "late", "not_kept")
         }
         row["came"] = live.get(name, {}).get("connections", 0)
         row["late"] += live.get(name, {}).get("late_replies", 0)

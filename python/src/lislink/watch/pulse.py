@@ -21,6 +21,8 @@ from .verdicts import BAD, GOOD, Verdict, Ways, advice_on, is_way, plain_hint, w
 PATIENCE, QUIET = 10.0, 1800.0
 #: So many rejected frames in a row are bad; so many sessions in a row that end without a frame; so many echoes.
 IN_A_ROW, EMPTY, ECHOES = 3, 5, 3
+#: So many queries in a row for which there is no order.
+IN_VAIN = 5
 #: So many reasons are counted one by one.
 REASONS = 16
 #: So much is remembered of what was bad.
@@ -167,7 +169,7 @@ class Pulse:
         """What is said of a kind of trouble, if it is bad by itself."""
         if kind == "hopeless":
             return None
-        looks = {"frames": self._frames, "echo": self._echo}
+        looks = {"frames": self._frames, "echo": self._echo, "queries": self._queries}
         return looks[kind]() if kind in looks else self._of(kind)
 
     def take_failed(self, found: Optional[Failed]) -> None:
@@ -192,7 +194,7 @@ class Pulse:
             return says(verdict, self.begun, why=unusable)
         host = self._of("store") or self._of("late") or self._of("own")
         line = host or self._strange() or self._frames() or self._silent() or self._echo()
-        return line or self._of("lost") or self._of("messages") or self._well()
+        return line or self._of("lost") or self._of("messages") or self._queries() or self._well()
 
     def _of(self, kind: str) -> Optional[Says]:
         """What is said of a kind of trouble, if there is some."""
@@ -229,6 +231,10 @@ class Pulse:
     def _echo(self) -> Optional[Says]:
         one = self.troubles.get("echo")
         return says(one.verdict, one.since, one.count) if one is not None and one.count >= ECHOES else None
+
+    def _queries(self) -> Optional[Says]:
+        one = self.troubles.get("queries")
+        return says(one.verdict, one.since, one.count) if one is not None and one.count >= IN_VAIN else None
 
     def _well(self) -> Says:
         now = time.time()
@@ -482,6 +488,13 @@ class Probe:
     def in_vain(self, why: str) -> None:
         """A session of the host's own failed."""
         self._pulse.wrong("own", Verdict.NO_REPLY, why)
+
+    def found(self, is_any: bool) -> None:
+        """Whether there was an order for a query."""
+        if is_any:
+            self._pulse.right("queries")
+        else:
+            self._pulse.wrong("queries", Verdict.NO_ORDERS)
 
     # ---- the tape
 

@@ -488,6 +488,14 @@ class Verdict(enum.Enum):
         "`lislab order list --state failed` shows them: `lislab order again` sends one anew, `cancel` gives it up",
         "{orders} failed since {since}, the last one is order {why}",
     )
+    NO_ORDERS = (
+        "no-orders",
+        BAD,
+        "",
+        "does the LIS hand over orders, for these samples? `lislab order list` shows them, `query-sample` of the line says "
+        "where a query has its sample",
+        "{times} in a row since {since} there was no order for a query",
+    )
     HOST_DOWN = ("host-down", BAD, "", "start it: lislab serve", "the host isn't running")
     GOES_ON = ("goes-on", GOOD, "", "", "a session goes on, {frames} since {since}")
     WHOLE = ("whole", GOOD, "", "", "last message {ago} ago")
