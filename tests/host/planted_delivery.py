@@ -207,7 +207,7 @@ FAULTS = {
     "test_deliver.Killed.test_mllp": (
         "host/deliver.py", 'data = {"number": number,', 'data = {"number": number + 1,'
     ),
-    "test_deliver.Killed.test_http": ("delivery/https.py", '"X-Request-ID": key}', '"X-Request-ID": str(id(data))}'),
+    "test_deliver.Killed.test_https": ("delivery/https.py", '"X-Request-ID": key}', '"X-Request-ID": str(id(data))}'),
     "test_deliver.Answers.test_breaks_off": ("delivery/https.py", "self.fp = _Head(whole)", "self.fp = whole"),
     "test_deliver.Answers.test_drips": ("delivery/https.py", "        timer.start()\n", ""),
     "test_deliver.Answers.test_again": ("delivery/https.py", "min(float(wait), _LONGEST)", "0.0"),

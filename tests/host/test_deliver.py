@@ -4,6 +4,7 @@ import io
 import os
 import random
 import resource
+import shutil
 import signal
 import socket
 import subprocess
@@ -15,10 +16,11 @@ import unittest.mock
 from lislink.delivery import aside, https, oru
 from lislink.delivery.failures import Refused, Unreachable
 from lislink.host import deliver
+from lislink.host.store import WHOLE, Add, Begin, End, open_store
 from tests.host import hosts
 from tests.host.hosts import ENV, HostTest, lislab, process, wait_for
 from tests.host.test_aside import keep, records
-from tests.host.test_fhir import Server, Threads
+from tests.host.test_fhir import Certified
 from tests.host.test_mllp import Scripted, ack
 from tests.host.test_told import message
 
@@ -138,6 +140,19 @@ class Deliver(HostTest):
             done, files, _ = self.deliver(name, bodies, "--format", "csv", *words)
             rows = [row for text in files for row in csv.DictReader(io.StringIO(text))]
             self.same(name, (done.returncode, [row["control"] for row in rows]), (0, wanted))
+        store = open_store(self.path("again.db"))
+        store.start("h")
+        for key in ("00a1", "00a2"):
+            added = [Add(key, 0, 1767225600.0, GOOD), End(key, "fire", WHOLE, "", "digest", len(GOOD), 1767225601.0)]
+            store.commit([[Begin(key, "fire", "10.0.0.7", "latin-1", 1767225600.0), *added]])
+        store.close()
+        for words, wanted in (([], 2), (["--without-repeats"], 1)):
+            done, files, _ = self.deliver("again", [], "--format", "oru", *words)
+            for path in ("again.cursor", "again.cursor.ahead"):
+                if os.path.exists(self.path(path)):
+                    os.unlink(self.path(path))
+            shutil.rmtree(self.path("again.d"))
+            self.same(f"repeats {words}", (done.returncode, len(files)), (0, wanted))
         _, files, _ = self.deliver("cells", bodies, "--format", "csv", "--safe-cells", "--fields", "test,value,op=R.11")
         self.same("columns", files[1].splitlines(), ["number,line,received,again_of,test,value,op,mended,control",
                                                      files[1].splitlines()[1]])
@@ -197,7 +212,7 @@ class Deliver(HostTest):
         """What a cursor is ahead of the disk counts for this cursor alone, and not for one that somebody puts there."""
         store, path = self.path("ahead.db"), self.path("ahead.cursor")
         keys = keep(store, [records(["A"], str(at)) for at in range(5)])
-        opened, place = deliver_store(store), deliver.Cursor(path)
+        opened, place = open_store(store), deliver.Cursor(path)
         found = list(opened.messages())
         with unittest.mock.patch.object(deliver, "SYNC", 1000.0):
             for one in found[:3]:
@@ -257,15 +272,16 @@ def state_of(pid):
         return "Z"
 
 
-class Killed(HostTest):
+class Killed(Certified, HostTest):
     """A delivery that is killed at random, again and again."""
 
-    def killed(self, name, to, taken, ids_of):
-        """Delivers to a receiver that notes the ids which it took: each message at least once, in order, by one id."""
+    def killed(self, name, to, taken, bodies, ids_of):
+        """Delivers to a receiver that notes the ids which it took, and the bytes: each message at least once, in order,
+        by one id, with the same bytes each time."""
         kills, rng, each = hosts.size("deliveries"), random.Random(name), 8
         store, cursor = self.path(f"{name}.db"), self.path(f"{name}.cursor")
         keys = keep(store, [records([f"S{at % 7}"], str(at)) for at in range(kills * each)])
-        words = ["-m", "lislink", "deliver", "--store", store, "--cursor", cursor, "--to", to, "--seconds", "20"]
+        words = ["-m", "lislink", "deliver", "--store", store, "--cursor", cursor, "--seconds", "20", "--to", *to]
         for kill in range(kills):
             one = process(words)
             wanted = kill * each + rng.randint(1, each)
@@ -278,22 +294,23 @@ class Killed(HostTest):
         found, ids = taken(), [ids_of(key) for key in keys]
         hosts.say(f"{name}: {len(ids)} messages, {kills} kills of the delivery, {len(found) - len(ids)} came twice")
         self.same(f"{name}: each at least once, in order, under one id", list(dict.fromkeys(found)), ids)
+        self.same(f"{name}: the same bytes each time", len(set(bodies())), len(ids))
 
     def test_mllp(self):
         """Over MLLP."""
         receiver = Scripted(lambda at, key: time.sleep(0.004) or ack(b"AA", key))
-        self.killed("mllp", f"mllp://127.0.0.1:{receiver.port}", lambda: list(receiver.taken), oru.control_id)
+        to = [f"mllp://127.0.0.1:{receiver.port}"]
+        self.killed("mllp", to, lambda: list(receiver.taken), lambda: receiver.blocks, oru.control_id)
         receiver.close()
 
-    def test_http(self):
-        """Over HTTP, as HTTPS but for the certificate."""
-        server = Threads(("127.0.0.1", 0), Server)
-        server.taken, server.answer = [], lambda at, key: time.sleep(0.004) or 200
-        threading.Thread(target=server.serve_forever, args=(0.05,), daemon=True).start()
-        to = f"http://127.0.0.1:{server.server_address[1]}/fhir"
-        self.killed("http", to, lambda: [one[1] for one in server.taken], str)
-        server.shutdown()
-        server.server_close()
+    def test_https(self):
+        """Over HTTPS, to a server with a certificate of its own."""
+        self.checks = 3
+        files = self.certificate("killed", "DNS:localhost")
+        server = self.served(files, lambda at, key: time.sleep(0.004) or 200)
+        to = [f"https://localhost:{server.server_address[1]}/fhir", "--ca", files[0]]
+        taken = server.taken
+        self.killed("https", to, lambda: [one[1] for one in list(taken)], lambda: [one[-1] for one in taken], str)
 
 
 class Raw:
@@ -380,7 +397,7 @@ class Answers(HostTest):
 
         store, cursor = self.path("busy.db"), deliver.Cursor(self.path("busy.cursor"))
         keep(store, [records(["A"])])
-        opened = deliver_store(store)
+        opened = open_store(store)
         one = deliver.Delivery(opened, cursor, take, lambda text: None, sleep)
         self.raises("it is stopped by the test", deliver.Stopped, lambda: deliver.run(one, False))
         self.same("it waits as long", waits, [7.0])
@@ -397,10 +414,3 @@ class Answers(HostTest):
         self.raises("no file", Unreachable, lambda: post.deliver(b"{}", "k", "text/plain"))
         opened.close()
         cursor.close()
-
-
-def deliver_store(path):
-    """A store that is read."""
-    from lislink.host.store import open_store
-
-    return open_store(path)

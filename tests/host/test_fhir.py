@@ -272,14 +272,8 @@ class Threads(socketserver.ThreadingMixIn, http.server.HTTPServer):
         """Says nothing: a client that doesn't trust it goes away."""
 
 
-class Https(WithLibrary):
-    """HTTPS, and MLLP over TLS."""
-
-    @classmethod
-    def setUpClass(cls):
-        super().setUpClass()
-        cls.store = os.path.join(cls.folder.name, "https.db")
-        cls.keys = keep(cls.store, [records([one]) for one in "ABAC"])
+class Certified:
+    """Servers with a certificate of their own, for tests that count the checks which need it."""
 
     def certificate(self, name, *names):
         """The files of a certificate of its own, and of its key."""
@@ -301,6 +295,16 @@ class Https(WithLibrary):
         self.addCleanup(server.server_close)
         self.addCleanup(server.shutdown)
         return server
+
+
+class Https(Certified, WithLibrary):
+    """HTTPS, and MLLP over TLS."""
+
+    @classmethod
+    def setUpClass(cls):
+        super().setUpClass()
+        cls.store = os.path.join(cls.folder.name, "https.db")
+        cls.keys = keep(cls.store, [records([one]) for one in "ABAC"])
 
     def deliver(self, cursor, server, *words, host="localhost"):
         """Delivers what there is to a server."""

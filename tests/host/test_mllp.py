@@ -191,10 +191,11 @@ class Oru(WithLibrary):
 
 class Scripted:
     """A receiver that answers each message by a function of its number and control id: bytes, None to close the
-    connection, or nothing at all."""
+    connection, nothing at all, or a list of these, with a pause after each."""
 
-    def __init__(self, answer, context=None):
-        self.answer, self.taken, self.connections, self.context = answer, [], 0, context
+    def __init__(self, answer, context=None, pause=0.0):
+        self.answer, self.taken, self.blocks, self.connections, self.context = answer, [], [], 0, context
+        self.pause = pause
         self.socket = socket.create_server(("127.0.0.1", 0))
         self.port = self.socket.getsockname()[1]
         threading.Thread(target=self.run, daemon=True).start()
@@ -224,11 +225,14 @@ class Scripted:
             while b"\x1c\r" in left:
                 block, _, left = left.partition(b"\x1c\r")
                 key = block.split(b"|")[9]
+                self.blocks.append(block)
                 self.taken.append(key.decode())
                 answer = self.answer(len(self.taken), key)
-                if answer is None:
-                    return
-                line.sendall(answer)
+                for part in answer if isinstance(answer, list) else [answer]:
+                    if part is None:
+                        return
+                    line.sendall(part)
+                    time.sleep(self.pause)
 
     def close(self):
         """Takes no more connections."""
@@ -243,9 +247,9 @@ def ack(code, key, more=b""):
 class Receivers(WithLibrary):
     """MLLP, with its acknowledgements."""
 
-    def sent(self, answer, keys=("k1",), seconds=60.0):
+    def sent(self, answer, keys=("k1",), seconds=60.0, pause=0.0):
         """What became of messages to a receiver that answers so: for each what was wrong, empty if nothing was."""
-        told, receiver = [], Scripted(answer)
+        told, receiver = [], Scripted(answer, pause=pause)
         one = mllp.Mllp("127.0.0.1", receiver.port, seconds)
         for key in keys:
             try:
@@ -280,10 +284,14 @@ class Receivers(WithLibrary):
              "Refused: an answer without AA, AE or AR"),
             ("in two parts", lambda at, key: b"noise" + ack(b"AA", key), ""),
             ("closed", lambda at, key: None, "Refused: the connection was closed without an answer"),
+            ("one that breaks off", lambda at, key: [ack(b"AA", key)[:-2], None],
+             "Refused: the connection was closed without an answer"),
         ):
             self.same(name, self.sent(answer)[0], [wanted])
         told, _ = self.sent(lambda at, key: b"", seconds=0.3)
         self.same("silence", told, ["Refused: no answer within 0.3 seconds"])
+        told, _ = self.sent(lambda at, key: [b"\x0b", *[b"x"] * 600], seconds=1.0, pause=0.1)
+        self.same("one that drips", told, ["Refused: no answer within 1 seconds"])
         told, _ = self.sent(lambda at, key: ack(b"AA", b"another") * 5000, seconds=0.3)
         other = "Refused: no answer within 0.3 seconds: its last answer is to another message, another"
         self.same("the answer to another message", told, [other])

@@ -96,6 +96,9 @@ class Systemd(HostTest):
             self.same(f"{path}: programs that a small system may lack", others(text), [])
             for words in re.findall(r"^Exec\w+=/usr/bin/lislab (.*)$", text, re.M):
                 self.takes(words.replace("%i", "x").split())
+        cursors = {name: re.findall(r" --cursor (\S+)", kit.read(f"packaging/systemd/lislab-{name}@.service"))
+                   for name in ("watch", "deliver")}
+        self.same("that of the pages looks at the delivery", cursors["watch"], cursors["deliver"])
         wrong = "ExecReload=/bin/kill -HUP $MAINPID\nExecStart=/bin/sh -c x\n"
         self.same("one is noticed", others(wrong), ["/bin/kill"])
         if shutil.which("systemd-analyze") is None:
