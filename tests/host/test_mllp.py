@@ -1,4 +1,5 @@
 """Messages as ORU^R01, read back by the library hl7, and over MLLP to receivers that reject, are silent and die."""
+import decimal
 import importlib
 import os
 import random
@@ -15,6 +16,7 @@ from lislink.host import deliver, export
 from lislink.host.options import OptionError
 from lislink.host.store import UNFINISHED
 from lislink.delivery import mllp, oru
+from lislink.delivery.codes import Code, Codes
 from lislink.delivery.failures import Quarantined
 from lislink.delivery.results import Coded, Reading, Told
 from tests import kit
@@ -25,6 +27,24 @@ from tests.host.test_aside import keep, records
 from tests.host.test_told import message
 
 RECEIVER = os.path.join(os.path.dirname(os.path.abspath(__file__)), "receiver.py")
+
+
+#: What may be in fields that have a table of HL7: 0103, 0001, 0485, 0065, 0123, 0125, 0078, 0080, 0085, 0105, 0487, 0369.
+TABLES = {
+    ("MSH", 11): "D P T",
+    ("PID", 8): "F M O U A N",
+    ("OBR", 5): "S A R P C T",
+    ("OBR", 11): "A G L O P R S",
+    ("OBR", 25): "O I S A P C R F X Y Z",
+    ("TQ1", 9): "S A R P C T",
+    ("OBX", 2): "NM SN ST TX",
+    ("OBX", 8): "L H LL HH < > N A AA U D B W S R I MS VS",
+    ("OBX", 10): "A B N R S ST",
+    ("OBX", 11): "C D F I N O P R S U W X",
+    ("NTE", 2): "L O P",
+    ("SPM", 4): "SER PLAS UR BLD CSF BLDA BLDV BLDC",
+    ("SPM", 11): "B C E F G L O P Q R V",
+}
 
 
 def stored(body, key="0000000000000001", **more):
@@ -89,14 +109,19 @@ class Oru(WithLibrary):
 
     def test_wishes(self):
         """What a receiver wants: fields of MSH, versions, authorities, an OBR for each test."""
-        body = message("P|1|4711|L9||Doe^Jane", "O|1|S7||^^^GLU\\^^^K\\^^^NA|S|20261127090000|||||||||serum|Dr. Who",
+        body = message("P|1|4711|L9|T5|Doe^Jane",
+                       "O|1|S7||^^^GLU\\^^^K\\^^^NA|S|20261127090000||20261127093500|||||fasting|20261127095000|serum"
+                       "|Dr. Who||||||20261127110000",
                        "R|1|^^^GLU|5.4", "R|2|^^^K|4.1", "R|3|^^^GLU|5.4")
-        words = ["MSH-3=LAB^1.2^ISO", "MSH-5=LIS", "MSH-6=HOSP", "MSH-11=T", "practice=HOSP PI", "laboratory=LAB MR"]
+        words = ["MSH-3=LAB^1.2^ISO", "MSH-5=LIS", "MSH-6=HOSP", "MSH-11=T", "practice=HOSP PI", "laboratory=LAB MR",
+                 "third=NAT SS"]
         found = told.segments_of(oru_of(stored(body), oru.wishes_of(words)))[0]
         self.same("MSH", found[0][3:7] + found[0][11:13], ["LAB^1.2^ISO", "chemistry", "LIS", "HOSP", "T", "2.5.1"])
-        self.same("PID-3", found[1][3], "4711^^^HOSP^PI~L9^^^LAB^MR")
+        self.same("PID-3", found[1][3], "4711^^^HOSP^PI~L9^^^LAB^MR~T5^^^NAT^SS")
         self.same("OBR", (found[2][4], found[2][5], found[2][6], found[2][16]),
                   ("PANEL^GLU K NA^L", "S", "20261127090000", "Dr. Who"))
+        self.same("times, clinical information", (found[2][8], found[2][13], found[2][14], found[2][22]),
+                  ("20261127093500", "fasting", "20261127095000", "20261127110000"))
         old = told.segments_of(oru_of(stored(body), oru.wishes_of(["MSH-12=2.3.1"])))[0]
         self.same("v2.3.1", [one[0] for one in old], ["MSH", "PID", "OBR", "OBX", "OBX", "OBX"])
         self.same("its fields", (old[0][9], old[0][12], old[2][15]), ("ORU^R01", "2.3.1", "SER^serum^HL70487"))
@@ -138,6 +163,42 @@ class Oru(WithLibrary):
             self.same("OBX-14 and SPM-17", [told.cell(first["OBX"], 14), told.cell(first["SPM"], 17)], [own, own])
             notes = [one[3][:5] for one in found if one[0] == "NTE"]
             self.same("a note says so", notes, ["OBR-7"] if wanted and not own else [])
+
+    def test_tables(self):
+        """Whatever an analyzer writes, a field that has a table of HL7 has one of its values, or none."""
+        rng, seen = random.Random(13), set()
+        words = [*"ABCDEFGHIJKLMNOPQRSTUVWXYZ<>", "", "LL", "hh", "AA", "stat", "Serum", "PLASMA", "whole blood", "1", "f^g"]
+        for at in range(500):
+            one, two, three, four, five, six, seven, eight, nine, ten = (rng.choice(words) for _ in range(10))
+            body = message(f"P|1||||Doe|||{one}", f"C|1|{two}|x", f"O|1|S|||{three}||||||{four}||||{five}{'|' * 10}{six}",
+                           f"R|1|^^^A|1|||{seven}\\{eight}|{nine}|{ten}", header=f"H|\\^&|||A|||||||{rng.choice(words)}")
+            for segments in told.segments_of(oru_of(stored(body))):
+                for (name, field), table in TABLES.items():
+                    for each in (each for each in segments if each[0] == name and field < len(each)):
+                        values = {part.partition("^")[0] for part in each[field].split("~")} - {""}
+                        seen |= {(name, field, value) for value in values}
+                        self.need(values <= set(table.split()), lambda: f"{at}: {name}-{field}: {values}: {body}")
+        self.true("many of them are there", len(seen) > 45, str(len(seen)))
+        self.same("each field but OBR-11", sorted(set(TABLES) - {one[:2] for one in seen}), [("OBR", 11)])
+
+    def test_ids(self):
+        """MSH-10 has 20 letters and digits, of its own for each patient of each message, and the same each time."""
+        keys = [f"{random.Random(at).getrandbits(96):024x}" for at in range(200)] + ["0" * 24, "f" * 24, "k", ""]
+        found = [oru.control_id(key, place) for key in keys for place in (1, 2, 3, 128, 129)]
+        self.true("20 of them", all(re.fullmatch(r"[0-9A-Z]{20}", one) for one in found))
+        self.same("none is there twice", len(set(found)), len(found))
+        self.same("the same again", [oru.control_id(key, place) for key in keys for place in (1, 2, 3, 128, 129)], found)
+
+    def test_codes(self):
+        """OBX-3.3 is the table's system, OBX-6 its code of UCUM; without a table the code is local."""
+        rows = [Code("GLU", "2345-7", "", decimal.Decimal(1), "", "10^9/L", None, "LN", "10*9/L"),
+                Code("K", "POT", "", decimal.Decimal(1), "", "", None, "urn:oid:1.2")]
+        body = message("P|1", "O|1|S7||^^^GLU", "R|1|^^^GLU|5.4|10&S&9/L", "R|2|^^^K|4", "R|3|^^^NA|139|mmol/L")
+        found = told.segments_of(oru.oru_of(Told(Codes(rows).applied(stored(body)))))[0]
+        self.same("OBR-4", told.cell(found[1], 4) + "^" + told.cell(found[1], 4, 3), "2345-7^LN")
+        tests = [(told.cell(one, 3), told.cell(one, 3, 3), one[6]) for one in found if one[0] == "OBX"]
+        self.same("OBX-3 and OBX-6", tests,
+                  [("2345-7", "LN", "10*9/L^10\\S\\9/L^UCUM"), ("POT", "L", ""), ("NA", "L", "mmol/L")])
 
     def test_page(self):
         """The sample of HOST.md is what is written of the sample that it names."""
