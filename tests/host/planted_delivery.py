@@ -172,7 +172,9 @@ FAULTS = {
         "delivery/oru.py", '10: result.nature if result.nature in _NATURES else "",', "10: result.nature,"
     ),
     "test_mllp.Oru.test_ids": ("delivery/oru.py", "* 128 + place - 1", "* 64 + place - 1"),
-    "test_mllp.Oru.test_codes": ("delivery/oru.py", '[result.ucum, result.unit, "UCUM"] if result.ucum', "[result.unit] if result.ucum"),
+    "test_mllp.Oru.test_codes": (
+        "delivery/oru.py", '[result.ucum, result.unit, "UCUM"] if result.ucum', "[result.unit] if result.ucum"
+    ),
     "test_mllp.Oru.test_times": ("delivery/oru.py", "7: taken or told.at(first),", "7: taken,"),
     "test_mllp.Oru.test_wishes": (
         "delivery/oru.py", "one.authority or authority, one.kind or kind]", "one.authority, one.kind]"

@@ -6,7 +6,9 @@ FAULTS = {
     "test_deliveries.Deliveries.test_plot": (
         "watch/plot.py", "is_last = place + 1 == len(shown)", "is_last = place + every >= len(shown)"
     ),
-    "test_queries.Queries.test_nothing_found": ("watch/pulse.py", '            self._pulse.right("queries")\n', "            pass\n"),
+    "test_queries.Queries.test_nothing_found": (
+        "watch/pulse.py", '            self._pulse.right("queries")\n', "            pass\n"
+    ),
     "test_failed.NamedOfSqlite.test_named": ("watch/pulse.py", "return failed or found", "return found"),
     "test_failed.NamedOfSpool.test_named": ("watch/client.py", "book.failed(1)", "{}"),
     "test_failed.NamedOfPostgres.test_named": (

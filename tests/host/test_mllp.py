@@ -29,7 +29,8 @@ from tests.host.test_told import message
 RECEIVER = os.path.join(os.path.dirname(os.path.abspath(__file__)), "receiver.py")
 
 
-#: What may be in fields that have a table of HL7: 0103, 0001, 0485, 0065, 0123, 0125, 0078, 0080, 0085, 0105, 0487, 0369.
+#: What may be in fields that have a table of HL7: 0103, 0001, 0485, 0065, 0123, 0485, 0125, 0078, 0080, 0085, 0105,
+#: 0487, 0369.
 TABLES = {
     ("MSH", 11): "D P T",
     ("PID", 8): "F M O U A N",
@@ -134,8 +135,8 @@ class Oru(WithLibrary):
             self.raises(word, OptionError, lambda word=word: oru.wishes_of([word]))
 
     def test_identities(self):
-        """Of an identity with components the first is the id, the fourth its authority, the fifth its type; one of which
-        this isn't sure is quarantined."""
+        """Of an identity with components the first is the id, the fourth its authority, the fifth its type; one of
+        which this isn't sure is quarantined."""
         wishes = oru.wishes_of(["practice=HOSP PI"])
         for field, wanted in (("4711^^^OTHER^MR", "4711^^^OTHER^MR"), (" 4711 ^^^^MR", "4711^^^HOSP^MR"),
                               ("4711^^^", "4711^^^HOSP^PI"), ("4711&S&7", "4711\\S\\7^^^HOSP^PI"), ("^^^", "")):
@@ -167,11 +168,12 @@ class Oru(WithLibrary):
     def test_tables(self):
         """Whatever an analyzer writes, a field that has a table of HL7 has one of its values, or none."""
         rng, seen = random.Random(13), set()
-        words = [*"ABCDEFGHIJKLMNOPQRSTUVWXYZ<>", "", "LL", "hh", "AA", "stat", "Serum", "PLASMA", "whole blood", "1", "f^g"]
+        words = [*"ABCDEFGHIJKLMNOPQRSTUVWXYZ<>", "", "LL", "hh", "AA", "stat", "Serum", "whole blood", "1", "f^g"]
         for at in range(500):
             one, two, three, four, five, six, seven, eight, nine, ten = (rng.choice(words) for _ in range(10))
-            body = message(f"P|1||||Doe|||{one}", f"C|1|{two}|x", f"O|1|S|||{three}||||||{four}||||{five}{'|' * 10}{six}",
-                           f"R|1|^^^A|1|||{seven}\\{eight}|{nine}|{ten}", header=f"H|\\^&|||A|||||||{rng.choice(words)}")
+            order = f"O|1|S|||{three}||||||{four}||||{five}{'|' * 10}{six}"
+            rows = [f"P|1||||Doe|||{one}", f"C|1|{two}|x", order, f"R|1|^^^A|1|||{seven}\\{eight}|{nine}|{ten}"]
+            body = message(*rows, header=f"H|\\^&|||A|||||||{rng.choice(words)}")
             for segments in told.segments_of(oru_of(stored(body))):
                 for (name, field), table in TABLES.items():
                     for each in (each for each in segments if each[0] == name and field < len(each)):
@@ -184,10 +186,11 @@ class Oru(WithLibrary):
     def test_ids(self):
         """MSH-10 has 20 letters and digits, of its own for each patient of each message, and the same each time."""
         keys = [f"{random.Random(at).getrandbits(96):024x}" for at in range(200)] + ["0" * 24, "f" * 24, "k", ""]
-        found = [oru.control_id(key, place) for key in keys for place in (1, 2, 3, 128, 129)]
+        named = [(key, place) for key in keys for place in (1, 2, 3, 128, 129)]
+        found = [oru.control_id(*one) for one in named]
         self.true("20 of them", all(re.fullmatch(r"[0-9A-Z]{20}", one) for one in found))
         self.same("none is there twice", len(set(found)), len(found))
-        self.same("the same again", [oru.control_id(key, place) for key in keys for place in (1, 2, 3, 128, 129)], found)
+        self.same("the same again", [oru.control_id(*one) for one in named], found)
 
     def test_codes(self):
         """OBX-3.3 is the table's system, OBX-6 its code of UCUM; without a table the code is local."""

@@ -1,5 +1,5 @@
-"""A message as a Bundle of FHIR R4: a transaction with an Observation for each result, and a Specimen, a ServiceRequest
-and a DiagnosticReport for each order. A result that comes again is the same Observation, and a correction updates it."""
+"""A message as a Bundle of FHIR R4: a transaction with an Observation for each result, and a Specimen, ServiceRequest
+and DiagnosticReport for each order. A result that comes again is the same Observation, and a correction updates it."""
 import datetime
 import decimal
 import hashlib

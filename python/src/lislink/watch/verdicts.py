@@ -492,8 +492,8 @@ class Verdict(enum.Enum):
         "no-orders",
         BAD,
         "",
-        "does the LIS hand over orders, for these samples? `lislab order list` shows them, `query-sample` of the line says "
-        "where a query has its sample",
+        "does the LIS hand over orders, for these samples? `lislab order list` shows them, `query-sample` of the line "
+        "says where a query has its sample",
         "{times} in a row since {since} there was no order for a query",
     )
     HOST_DOWN = ("host-down", BAD, "", "start it: lislab serve", "the host isn't running")
