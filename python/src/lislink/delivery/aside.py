@@ -7,7 +7,7 @@ import json
 import os
 import re
 import time
-from typing import Any, Callable, Dict, FrozenSet, List, NamedTuple, Sequence
+from typing import Any, Callable, Dict, FrozenSet, List, NamedTuple, Sequence, Tuple
 
 from ..host.files import sync_folder, write_synced, write_unsynced
 from ..host.store import StoreError, Stored
@@ -38,7 +38,10 @@ class Aside:
         #: Set aside after so many failures; never if it is 0.
         self.most = most
         self.path = cursor + ".aside"
+        #: What is set aside, in order; the keys of these, the first one of each sample, and each as it is written.
         self.held = _held_of(self.path, _read(self.path))
+        self._keys, self._firsts = {one.key for one in self.held}, _firsts_of(self.held)
+        self._rows: Dict[str, Tuple[Held, str]] = {}
         #: Which message is tried, and for which time: a try that ends the process is counted too.
         self._trying = cursor + ".trying"
         self._key, self._tries = _trying_of(self._trying)
@@ -47,12 +50,16 @@ class Aside:
 
     def _write(self, held: Sequence[Held]) -> None:
         """On the disk first, then here; StoreError if it can't be."""
-        data = {"held": [one._asdict() for one in held]}
+        for one in held:
+            if one.key not in self._rows or self._rows[one.key][0] is not one:
+                self._rows[one.key] = one, json.dumps(one._asdict())
+        self._rows = {one.key: self._rows[one.key] for one in held}
+        rows = ", ".join(text for _, text in self._rows.values())
         try:
-            write_synced(self.path, (json.dumps(data) + "\n").encode())
+            write_synced(self.path, f'{{"held": [{rows}]}}\n'.encode())
         except OSError as error:
             raise StoreError(f"{self.path}: {error.strerror or error}") from None
-        self.held = list(held)
+        self.held, self._keys, self._firsts = list(held), {one.key for one in held}, _firsts_of(held)
 
     def _put(self, one: Stored, samples: FrozenSet[str], tries: int, why: str) -> None:
         assert one.number is not None
@@ -94,13 +101,13 @@ class Aside:
         """Whether a message waits for one of its samples that is set aside; then it is set aside too."""
         if not self.held:
             return False
-        if any(each.key == one.key for each in self.held):  # the cursor wasn't moved after it
+        if one.key in self._keys:  # the cursor wasn't moved after it
             return True
         samples = self._samples(one)
-        first = next((each for each in self.held if samples & set(each.samples)), None)
-        if first is not None:
-            self._put(one, samples, 0, f"waits for {first.key}")
-        return first is not None
+        firsts = [self._firsts[sample] for sample in samples if sample in self._firsts]
+        if firsts:
+            self._put(one, samples, 0, f"waits for {min(firsts).key}")
+        return bool(firsts)
 
     def failed(self, one: Stored, why: str) -> bool:
         """The next message failed; whether it is set aside now."""
@@ -141,6 +148,11 @@ def _read(path: str) -> Dict[str, Any]:
         return {}
     except (OSError, ValueError) as error:
         raise StoreError(f"{path}: {error}") from None
+
+
+def _firsts_of(held: Sequence[Held]) -> Dict[str, Held]:
+    """The first one of each sample."""
+    return {sample: one for one in reversed(held) for sample in one.samples}
 
 
 def _trying_of(path: str) -> "tuple[str, int]":

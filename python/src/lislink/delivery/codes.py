@@ -213,18 +213,18 @@ class Codes:
             if marks and entry.letter not in "CMS":
                 records, marks = records + marks, []
             if entry.letter == "R":
-                found = self.found(one.line, *field_and_unit(entry))
+                of = field_and_unit(entry)
+                found = self.found(one.line, *of)
                 skips = found is not None and found.laboratory == LEAVE_OUT
                 if skips:
                     left_out += 1
                     continue
-                record, why = self._result(entry, one, found)
+                record, why = self._result(entry, of, one, found)
                 numbers = [each for each in entry.notes if each.letter == "C"]
                 marks = [_comment(entry.row, len(numbers) + 1, why, one)] if why else []
                 records.append(record)
                 if found is not None:
-                    field = "^".join(parts_of(entry, 3))
-                    codings[len(records), 0] = Coding(found.laboratory, found.system, found.ucum, field)
+                    codings[len(records), 0] = Coding(found.laboratory, found.system, found.ucum, of[0])
             elif entry.letter == "O":
                 records.append(self._order(entry, one, len(records) + 1, codings))
             else:
@@ -246,9 +246,9 @@ class Codes:
             tests.append(component.join(parts))
         return _with(row, {5: repeat.join(tests)} if row.written(5) else {})
 
-    def _result(self, entry: Entry, one: Stored, found: Optional[Code]) -> Tuple[bytes, str]:
-        """A result as the laboratory has it, and what is to be said of it."""
-        row, (field, unit) = entry.row, field_and_unit(entry)
+    def _result(self, entry: Entry, of: Tuple[str, str], one: Stored, found: Optional[Code]) -> Tuple[bytes, str]:
+        """A result of this field and unit as the laboratory has it, and what is to be said of it."""
+        row, (field, unit) = entry.row, of
         if found is None:
             code = code_among(field.split("^"), self.reading)
             known = bool(self._of(one.line, field))
@@ -293,12 +293,16 @@ def _times(number: Number, code: Code) -> Number:
 
 
 def _marks(row: Row) -> Tuple[bytes, bytes, bytes, bytes]:
-    field, repeat, component, escape = (row.delimiters[at : at + 1] for at in range(4))
-    return field, repeat, component, escape
+    marks = row.delimiters
+    return marks[:1], marks[1:2], marks[2:3], marks[3:]
 
 
 def _bytes(text: str, row: Row, one: Stored) -> bytes:
     """A text as a component's bytes: in the message's encoding, delimiters as escapes."""
+    if text.isascii():
+        plain = text.encode(one.encoding)
+        if not any(mark in plain for mark in row.delimiters):
+            return plain
     field, repeat, component, escape = _marks(row)
     names = {field: b"F", repeat: b"R", component: b"S", escape: b"E"}
     out = []

@@ -221,7 +221,7 @@ class _Made:
             "intent": "order",
             "category": [{"coding": [_LABORATORY]}],
             "priority": _PRIORITY.get(field_text(record, 6).upper()),
-            "code": _code(codes[0], tests[0].system, "") if len(codes) == 1 else {"text": " ".join(codes)},
+            "code": _code(codes[0], tests[0].system, "") if len(codes) == 1 else {"text": " ".join(codes)} if codes else None,
             "subject": subject,
             "authoredOn": told.iso(record.text(7)),
             "requester": {"display": " ".join(filter(None, parts_of(record, 17)))} if parts_of(record, 17) else None,
@@ -346,7 +346,7 @@ def _request_status(order: Ordered, codes: List[str], results: List[Result]) -> 
     if named:
         return _REQUEST.get(named, "unknown")
     done = {one.code for one in results if _STATUS.get(one.status) in ("final", "corrected", "cancelled")}
-    return "completed" if done >= set(codes) else "active"
+    return "completed" if codes and done >= set(codes) else "active"
 
 
 def _patient(case: Case, named: List[Data]) -> Data:
