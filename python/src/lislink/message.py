@@ -295,13 +295,15 @@ def _read_from(stream: bytes, begun: int, encoding: str) -> Generator[Found, Non
     with Reader() as reader:
         try:
             while place < len(stream):
-                for row in reader.feed(stream[place : place + size]):
+                whole = stream.rfind(b"\r", place, place + size) + 1  # records that are whole are read together
+                end = whole if whole > place else place + size
+                for row in reader.feed(stream[place:end]):
                     rows.append(row)
                     ends.append(begun + reader.read)
                     if row.letter == "L":
                         yield Found(Message(rows, encoding), start, ends)
                         start, rows, ends = ends[-1], [], []
-                place, size = place + size, min(size * 2, 1 << 16)
+                place, size = end, min(size * 2, 1 << 16)
             reader.finish()
             return None
         except MessageError as error:

@@ -9,7 +9,7 @@ import re
 import time
 from typing import Any, Callable, Dict, FrozenSet, List, NamedTuple, Sequence, Tuple
 
-from ..host.files import sync_folder, write_synced, write_unsynced
+from ..host.files import Unsynced, sync_folder, write_synced
 from ..host.store import StoreError, Stored
 from .results import Reading
 from .samples import samples_of
@@ -43,8 +43,8 @@ class Aside:
         self._keys, self._firsts = {one.key for one in self.held}, _firsts_of(self.held)
         self._rows: Dict[str, Tuple[Held, str]] = {}
         #: Which message is tried, and for which time: a try that ends the process is counted too.
-        self._trying = cursor + ".trying"
-        self._key, self._tries = _trying_of(self._trying)
+        self._trying = Unsynced(cursor + ".trying")
+        self._key, self._tries = _trying_of(cursor + ".trying")
         #: How the records of a line are read.
         self._reading = reading
 
@@ -71,7 +71,7 @@ class Aside:
         """Notes a try. It needs no sync: what is counted are ends of this process, and not of the machine."""
         self._key, self._tries = key, tries
         with contextlib.suppress(OSError):
-            write_unsynced(self._trying, f"{key} {tries}\n".encode())
+            self._trying.write(f"{key} {tries}\n".encode())
 
     def begins(self, one: Stored) -> bool:
         """Counts a try of the next message before it is made; False if it is set aside, since each try ended the

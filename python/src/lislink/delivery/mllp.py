@@ -49,10 +49,11 @@ class Mllp:
 
     def _try(self, data: bytes, key: str) -> None:
         line = self._line or self._connected()
+        until = time.monotonic() + self._seconds
         try:
             line.settimeout(self._seconds)
             line.sendall(_START + data + _END + b"\r")
-            self._answered(line, key)
+            self._answered(line, key, until)
         except socket.timeout:
             self.close()
             other = f": its last answer is to another message, {self._other}" if self._other else ""
@@ -76,9 +77,9 @@ class Mllp:
         self._line, self._left = line, b""
         return line
 
-    def _answered(self, line: socket.socket, key: str) -> None:
+    def _answered(self, line: socket.socket, key: str, until: float) -> None:
         """Waits for the answer to the message with this key. One to another message is late, and not looked at."""
-        until, self._other = time.monotonic() + self._seconds, ""
+        self._other = ""
         while time.monotonic() < until:
             told = acknowledgement(self._block(line, until))
             if told is None:

@@ -11,7 +11,7 @@ from typing import Any, Callable, Dict, List, NamedTuple, Optional, Set
 from ..delivery.aside import Aside, Held, grant, wishes
 from ..delivery.failures import Quarantined, Refused, Unreachable
 from .export import Writer
-from .files import take_lock, write_synced, write_unsynced
+from .files import Unsynced, take_lock, write_synced
 from .store import Store, StoreError, Stored
 
 #: How long a store without new messages is left alone, and how long a delivery that failed waits: at first, at most.
@@ -47,8 +47,9 @@ class Cursor:
         self.number, self.key = read_cursor(path)
         #: How long the last messages took from when they were kept, in seconds.
         self._took = read_took(path)
+        self._ahead = Unsynced(path + ".ahead")
         if (self.number, self.key) == self._disk:
-            _forget(path)
+            self._ahead.remove()
 
     def check(self, store: Store) -> None:
         """Whether the store has the message that was delivered last: else it isn't the same store any more."""
@@ -68,7 +69,7 @@ class Cursor:
                 self._sync(one.number, one.key, took)
             else:
                 data = {"after": self._disk, "number": one.number, "key": one.key}
-                write_unsynced(self.path + ".ahead", (json.dumps(data) + "\n").encode())
+                self._ahead.write((json.dumps(data) + "\n").encode())
                 self._is_ahead = True
         except OSError as error:
             why = f"{self.path}: {error.strerror or error}"
@@ -79,7 +80,7 @@ class Cursor:
         data = {"number": number, "key": key, "took": took}
         write_synced(self.path, (json.dumps(data) + "\n").encode())
         self._disk, self._synced, self._is_ahead = (number, key), time.monotonic(), False
-        _forget(self.path)
+        self._ahead.remove()
 
     def settle(self) -> None:
         """Brings what is delivered to the disk; one that can't be written is ahead of it, as it was."""
@@ -120,12 +121,6 @@ def _is_there(path: str) -> bool:
     except (OSError, ValueError):
         return True
     return True
-
-
-def _forget(path: str) -> None:
-    """Takes away what a cursor was ahead of the disk."""
-    with contextlib.suppress(OSError):
-        os.unlink(path + ".ahead")
 
 
 def read_cursor(path: str) -> "tuple[int, str]":
@@ -175,7 +170,7 @@ class _Notes:
     """Writes how a delivery does, when that changes. It is for who looks: one that can't be written says nothing."""
 
     def __init__(self, delivery: "Delivery") -> None:
-        self._path, self._counts = delivery.cursor.path + ".state", delivery.counts
+        self._file, self._counts = Unsynced(delivery.cursor.path + ".state"), delivery.counts
         self._state = State(0.0, " ")
 
     def well(self) -> None:
@@ -193,7 +188,7 @@ class _Notes:
         is_as_before = bool(why) == bool(self._state.why.strip()) and self._state.since
         self._state = State(self._state.since if is_as_before else time.time(), why, counts)
         with contextlib.suppress(OSError):
-            write_unsynced(self._path, (json.dumps(self._state._asdict()) + "\n").encode())
+            self._file.write((json.dumps(self._state._asdict()) + "\n").encode())
 
 
 def read_took(path: str) -> List[float]:

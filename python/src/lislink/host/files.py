@@ -5,6 +5,7 @@ import fcntl
 import os
 import stat
 import time
+from io import FileIO
 from typing import Iterator, Optional
 
 #: How long a start waits for a lock, in seconds: who asks whether it is taken has it for a moment.
@@ -98,13 +99,30 @@ def write_synced(path: str, data: bytes) -> None:
     sync_folder(os.path.dirname(os.path.realpath(path)))
 
 
-def write_unsynced(path: str, data: bytes) -> None:
-    """Writes a small file that a power cut may take or damage, in place: a name that is replaced costs a sync on some
-    file systems. It ends in blanks, so that a shorter text after a longer one is whole at once."""
-    with _closing(os.open(path, os.O_WRONLY | os.O_CREAT | os.O_NOFOLLOW | os.O_CLOEXEC, _MODE)) as file:
-        size = max(len(data), os.fstat(file).st_size)
-        if os.pwrite(file, data.ljust(size), 0) < size:
+class Unsynced:
+    """A small file that a power cut may take or damage. It is written in place: a name that is replaced costs a sync on
+    some file systems. It ends in blanks, so that a shorter text after a longer one is whole at once."""
+
+    def __init__(self, path: str) -> None:
+        self._path = path
+        self._file: Optional[FileIO] = None
+        self._size = 0
+
+    def write(self, data: bytes) -> None:
+        """Writes it anew, with an OSError if it can't; it is opened once."""
+        if self._file is None:
+            how = os.O_WRONLY | os.O_CREAT | os.O_NOFOLLOW | os.O_CLOEXEC
+            self._file = FileIO(os.open(self._path, how, _MODE), "wb")
+            self._size = os.fstat(self._file.fileno()).st_size
+        self._size = max(len(data), self._size)
+        if os.pwrite(self._file.fileno(), data.ljust(self._size), 0) < self._size:
             raise OSError(errno.ENOSPC, os.strerror(errno.ENOSPC))
+
+    def remove(self) -> None:
+        """Takes it away."""
+        self._file = None
+        with contextlib.suppress(OSError):
+            os.unlink(self._path)
 
 
 def sync_folder(path: str) -> None:
