@@ -131,8 +131,21 @@ class Oru(WithLibrary):
         self.same("an OBR for each test", names, ["GLU^^L", "GLU^^L", "GLU^^L", "K^^L", "K^^L"])
         zoned = told.segments_of(oru_of(stored(body), zone="America/New_York"))[0]
         self.same("times have the line's zone", zoned[2][6], "20261127090000-0500")
-        for word in ("MSH-5", "MSH-7=x", "MSH-12=2.7", "obr=sample", "sample="):
+        for word in ("MSH-5", "MSH-7=x", "MSH-12=2.7", "obr=patient", "sample="):
             self.raises(word, OptionError, lambda word=word: oru.wishes_of([word]))
+
+    def test_obr(self):
+        """An OBR for a sample has what its orders have that differ in their tests alone."""
+        rows = ["O|1|S7||^^^GLU|R", "R|1|^^^GLU|5.4", "O|2|S7||^^^K|R", "C|1|I|x", "R|1|^^^K|4", "O|3|S7||^^^GLU|R",
+                "R|1|^^^GLU|5.5", "O|4|S7||^^^FT4|R" + "|" * 20 + "X", "O|5|S8||^^^NA|R", "R|1|^^^NA|139"]
+        for word, wanted in (("sample", ["OBR PANEL^GLU K^L", "NTE", "TQ1", "OBX GLU^^L 1", "OBX K^^L ", "OBX GLU^^L 2",
+                                         "OBR FT4^^L", "TQ1", "OBR NA^^L", "TQ1", "OBX NA^^L "]),
+                             ("order", ["OBR GLU^^L", "TQ1", "OBX GLU^^L ", "OBR K^^L", "NTE", "TQ1", "OBX K^^L ",
+                                        "OBR GLU^^L", "TQ1", "OBX GLU^^L ", "OBR FT4^^L", "TQ1", "OBR NA^^L", "TQ1",
+                                        "OBX NA^^L "])):
+            found = told.segments_of(oru_of(stored(message("P|1", *rows)), oru.wishes_of([f"obr={word}"])))[0][1:]
+            named = [" ".join([one[0], *{"OBR": one[4:5], "OBX": one[3:5]}.get(one[0], [])]) for one in found]
+            self.same(f"an OBR for each {word}", named, wanted)
 
     def test_identities(self):
         """Of an identity with components the first is the id, the fourth its authority, the fifth its type; one of

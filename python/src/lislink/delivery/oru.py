@@ -3,6 +3,7 @@ another patient. The same message gives the same bytes each time."""
 import datetime
 import hashlib
 import re
+from collections import Counter
 from typing import Dict, Iterator, List, Mapping, NamedTuple, Optional, Sequence, Tuple, Union
 
 from ..host.options import OptionError
@@ -34,12 +35,12 @@ VERSIONS = ("2.3.1", "2.5", "2.5.1")
 
 class Wishes(NamedTuple):
     """What a receiver wants in its messages: fields of MSH by their numbers; authority and type of the identities of
-    P-3, P-4 and P-5, by these numbers; the authority of samples; and an OBR for each test, in place of each order."""
+    P-3, P-4 and P-5, by these numbers; the authority of samples; and for what an OBR is: an order, a test, a sample."""
 
     header: Mapping[int, str] = {}
     authorities: Mapping[int, Tuple[str, str]] = {}
     samples: str = ""
-    by_test: bool = False
+    obr: str = "order"
 
     @property
     def version(self) -> str:
@@ -52,10 +53,11 @@ _HEADER = {f"MSH-{number}": number for number in (3, 4, 5, 6, 11, 12)}
 
 
 def wishes_of(words: Sequence[str]) -> Wishes:
-    """Words `NAME=VALUE`: `MSH-5=LIS`, `practice=HOSP PI` (authority and type), `sample=AUTHORITY`, `obr=test`."""
+    """Words `NAME=VALUE`: `MSH-5=LIS`, `practice=HOSP PI` (authority and type), `sample=AUTHORITY`, `obr=test`,
+    `obr=sample`."""
     header: Dict[int, str] = {}
     authorities: Dict[int, Tuple[str, str]] = {}
-    samples, by_test = "", False
+    samples, obr = "", "order"
     for word in words:
         name, equals, value = word.partition("=")
         if not equals or not value:
@@ -67,14 +69,14 @@ def wishes_of(words: Sequence[str]) -> Wishes:
             authorities[_IDENTITIES[name]] = authority, kind.strip()
         elif name == "sample":
             samples = value
-        elif name == "obr" and value in ("test", "order"):
-            by_test = value == "test"
+        elif name == "obr" and value in ("order", "test", "sample"):
+            obr = value
         else:
-            names = ", ".join([*_HEADER, *_IDENTITIES, "sample", "obr=test"])
+            names = ", ".join([*_HEADER, *_IDENTITIES, "sample", "obr=test", "obr=sample"])
             raise OptionError(f"{word}: what can be set is {names}")
     if header.get(12, VERSIONS[0]) not in VERSIONS:
         raise OptionError(f"MSH-12={header[12]}: a version is {', '.join(VERSIONS)}")
-    return Wishes(header, authorities, samples, by_test)
+    return Wishes(header, authorities, samples, obr)
 
 
 def escaped(text: str) -> str:
@@ -134,12 +136,14 @@ def _segments(told: Told, place: int, case: Case, wishes: Wishes) -> Iterator[st
     yield segment("MSH", _header(told, place, wishes))
     yield from _patient(case, wishes)
     marks = [Comment("L", mark) for mark in told.marks]
-    number = 0
-    for order in case.orders:
-        for one, results in _reports(told, order, wishes):
-            number += 1
-            yield from _order(told, number, one, results, marks, wishes)
-            marks = []
+    reports = [(order, list(told.results(order))) for order in case.orders]
+    if wishes.obr == "sample":
+        reports = list(_by_sample(reports))
+    elif wishes.obr == "test":
+        reports = [each for order, results in reports for each in _by_test(order, results)]
+    for number, (order, results) in enumerate(reports, 1):
+        yield from _order(told, number, order, results, marks, wishes)
+        marks = []
 
 
 def _header(told: Told, place: int, wishes: Wishes) -> Dict[int, Field]:
@@ -193,12 +197,33 @@ def _day(text: str) -> str:
     return text.strip()[:8] if re.match(r"\d{8}", text.strip()) else ""
 
 
-def _reports(told: Told, order: Ordered, wishes: Wishes) -> Iterator[Tuple[Ordered, List[Result]]]:
-    """What one OBR is for: an order, or each of its tests."""
-    results = told.results(order)
-    if not wishes.by_test:
-        yield order, list(results)
-        return
+#: What one OBR is for, and its results.
+Report = Tuple[Ordered, List[Result]]
+
+
+def _by_sample(reports: Sequence[Report]) -> Iterator[Report]:
+    """Orders of one sample as one, if they differ in their tests alone."""
+    found: Dict[Tuple[object, ...], Report] = {}
+    for order, results in reports:
+        row = order.record.row
+        alike = tuple(row.written(number) for number in range(3, row.first + row.count) if number != 5)
+        known = (*alike, order.record.number if not order.sample else 0)
+        if known in found:
+            first, others = found[known]
+            tests = [*first.tests, *(one for one in order.tests if one not in first.tests)]
+            order = first._replace(tests=tests, comments=[*first.comments, *order.comments])
+            results = [*others, *results]
+        found[known] = order, results
+    for order, results in found.values():
+        total, turns = Counter(one.code for one in results), Counter()  # type: Counter[str], Counter[str]
+        for at, one in enumerate(results):
+            turns[one.code] += 1
+            results[at] = one._replace(turn=turns[one.code] if total[one.code] > 1 else 0)
+        yield order, results
+
+
+def _by_test(order: Ordered, results: List[Result]) -> Iterator[Report]:
+    """Each test of an order by itself."""
     found: Dict[str, Tuple[Ordered, List[Result]]] = {}
     for one in results:
         test = Coding(one.code, one.system)
