@@ -198,8 +198,8 @@ class Oru(WithLibrary):
 
     def test_ids(self):
         """MSH-10 has 20 letters and digits, of its own for each patient of each message, and the same each time."""
-        keys = [f"{random.Random(at).getrandbits(96):024x}" for at in range(200)] + ["0" * 24, "f" * 24, "k", ""]
-        named = [(key, place) for key in keys for place in (1, 2, 3, 128, 129)]
+        keys = [f"{random.Random(at).getrandbits(96):024x}" for at in range(200)] + [f"{at:024x}" for at in range(4)]
+        named = [(key, place) for key in [*keys, "f" * 24, "k", ""] for place in (1, 2, 3, 64, 65, 128, 129)]
         found = [oru.control_id(*one) for one in named]
         self.true("20 of them", all(re.fullmatch(r"[0-9A-Z]{20}", one) for one in found))
         self.same("none is there twice", len(set(found)), len(found))
