@@ -2,6 +2,7 @@
 message of which this can't be said surely is quarantined: nothing of it goes out."""
 import codecs
 import datetime
+import functools
 import re
 import zoneinfo
 from collections import Counter
@@ -416,6 +417,7 @@ def time_of(text: str) -> str:
     return text if moment_of(text) is not None else ""
 
 
+@functools.lru_cache(maxsize=64)  # the results of a message mostly have the same times
 def moment_of(text: str) -> Optional[datetime.datetime]:
     """What a time of a record means, which has no zone; None for anything else."""
     found = _TIME.match(text.strip()) if text else None
