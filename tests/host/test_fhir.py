@@ -178,6 +178,13 @@ class Fhir(HostTest):
         self.same("a test is missing", (order["status"], order["code"]), ("active", {"text": "A B"}))
         control = observations(bundle_of(stored(message("P|1", "O|1|S7|||||||||Q", "R|1|^^^A|1"))), "Specimen")[0]
         walk_in = observations(bundle_of(stored(message("P|1", "O|1|S7", "R|1|^^^A|1"))), "Specimen")[0]
+        rows = [row for who in (4711, 4712) for row in (f"P|1|{who}", "O|1|S7", "R|1|^^^A|1")]
+        both = bundle_of(stored(message(*rows, "O|2|S7|||||||||Q", "R|1|^^^A|1")),
+                         oru.wishes_of(["practice=urn:a", "sample=urn:s"]))
+        found = [tube_of(both, one) for one in observations(both)]
+        self.same("two patients and a control with one number have each their own",
+                  [one.get("subject") for one in found], [one.get("subject") for one in observations(both)])
+        self.same("no fault", fhir_r4.faults(both), [])
         self.true("a control's", control["identifier"][1] != walk_in["identifier"][1])
 
     def test_identities(self):

@@ -86,6 +86,8 @@ def of_fhir(data):
         value = one.get("valueString") or quantity.get("comparator", "") + quantity.get("value", "")
         control = any("a control" in note["text"] for note in one.get("note", []))
         tube = known.get(one.get("specimen", {}).get("reference"), {"identifier": [{}]})
+        based = [known[each["reference"]] for each in one.get("basedOn", [])]
+        assert all(each.get("subject") == one.get("subject") for each in based + [tube] * ("subject" in tube)), one
         sample = tube["identifier"][0].get("value", "")
         code = one["code"]["coding"][0]["code"]
         units = [note["text"][5:] for note in one.get("note", []) if note["text"].startswith("unit ")]

@@ -102,6 +102,8 @@ class _Made:
         self._urls: Dict[str, str] = {}
         self._searches: Dict[str, str] = {}
         self._resources: Dict[str, Data] = {}
+        #: Whose the first sample of each number is.
+        self._whose: Dict[str, Tuple[Optional[Data], bool]] = {}
         self._turns: "Counter[Tuple[str, ...]]" = Counter()
 
     def _add(self, name: _Name, resource: Data) -> str:
@@ -187,7 +189,8 @@ class _Made:
         told, record, system = self._told, order.record, self._wishes.samples
         number = {"system": system, "value": order.sample} if _ADDRESS.match(system) else {"value": order.sample}
         name = _Name([number], f"identifier={system}|{quote(order.sample, safe='')}")
-        if "system" not in number:
+        whose = self._whose.setdefault(order.sample, (subject, order.control))
+        if "system" not in number or whose != (subject, order.control):  # two of one number are two, whatever is set
             what = [told.one.line, order.sample, *_who(case), "Q" if order.control else "", record.text(8).strip()]
             name = self._own(_OF_SAMPLE, _digest(*what), number)
         taken, (code, text) = told.iso(record.text(8)), specimen_of(record)
