@@ -218,5 +218,7 @@ FAULTS = {
     "test_deliver.Killed.test_https": ("delivery/https.py", '"X-Request-ID": key}', '"X-Request-ID": str(id(data))}'),
     "test_deliver.Answers.test_breaks_off": ("delivery/https.py", "self.fp = _Head(whole)", "self.fp = whole"),
     "test_deliver.Answers.test_drips": ("delivery/https.py", "        timer.start()\n", ""),
-    "test_deliver.Answers.test_again": ("delivery/https.py", "min(float(wait), _LONGEST)", "0.0"),
+    "test_deliver.Answers.test_again": (
+        "delivery/https.py", '(_wait_of(answer.getheader("Retry-After") or "")', "(0.0"
+    ),
 }

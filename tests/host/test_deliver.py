@@ -1,5 +1,7 @@
 """Deliveries: what is quarantined, what is left out, tries that end the process, and commands that outlive it."""
 import csv
+import datetime
+import email.utils
 import io
 import os
 import random
@@ -386,6 +388,11 @@ class Answers(HostTest):
         """A server that is busy says when to come again; a file of headers is read for each message."""
         busy = b"HTTP/1.1 429 Too Many Requests\r\nRetry-After: 7\r\nContent-Length: 0\r\n\r\n"
         self.same("busy", self.told(Raw(busy))[:2], ("Unreachable", 7.0))
+        at = email.utils.format_datetime(datetime.datetime.now(datetime.timezone.utc) + datetime.timedelta(seconds=600))
+        for text, least, most in ((at, 1.0, 600.0), ("Wed, 21 Oct 2015 07:28:00 GMT", 0.0, 0.0), ("soon", 0.0, 0.0),
+                                  ("99999", 3600.0, 3600.0)):
+            name, wait, _ = self.told(Raw(busy.replace(b"7\r", text.encode() + b"\r")))
+            self.true(f"until {text}", name == "Unreachable" and least <= wait <= most, str(wait))
         waits = []
 
         def take(_):

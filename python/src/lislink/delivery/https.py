@@ -1,11 +1,13 @@
 """Messages over HTTPS: each is the body of a POST. The server's certificate is verified. Over HTTP to this machine
 alone."""
 import contextlib
+import datetime
 import http.client
 import re
 import socket
 import ssl
 import threading
+from email.utils import parsedate_to_datetime
 from typing import Any, Dict, Optional
 from urllib.parse import urlsplit
 
@@ -172,8 +174,16 @@ class Https:
         why = f"{self._where}: {answer.status} {http.client.responses.get(answer.status, '')}".strip()
         if answer.status in _OF_MESSAGE:
             raise Refused(why)
-        wait = answer.getheader("Retry-After") or ""
-        raise Unreachable(why, min(float(wait), _LONGEST) if re.match(r"\d{1,9}$", wait) else 0.0)
+        raise Unreachable(why, min(_wait_of(answer.getheader("Retry-After") or ""), _LONGEST))
+
+
+def _wait_of(text: str) -> float:
+    """For how many seconds a server asks to be left alone, by a number of them or a date (RFC 9110, 10.2.3)."""
+    if re.match(r"\d{1,9}$", text):
+        return float(text)
+    with contextlib.suppress(TypeError, ValueError):
+        return max(0.0, (parsedate_to_datetime(text) - datetime.datetime.now(datetime.timezone.utc)).total_seconds())
+    return 0.0
 
 
 def to_https(server: Https, write: Writer, form: str) -> Target:
