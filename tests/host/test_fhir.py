@@ -66,12 +66,7 @@ class Fhir(HostTest):
         bare = observations(bundle_of(stored(message(*rows))))[0]
         self.same("a line without a zone", (bare["effectiveDateTime"], bare["note"][1]["text"]),
                   ("2026-11-27", "the analyzer's clock, whose zone is not known: 20261127103500"))
-        taken = message("P|1", "O|1|S7|||||20261127093000", "R|1|^^^A|1|||||||||20261127103500")
-        taken = bundle_of(stored(taken), zone="Asia/Tokyo").decode()
-        self.has("that of the sample goes before", taken, '"effectiveDateTime":"2026-11-27T09:30:00+09:00"')
         self.same("notes", [it["text"] for it in one["note"]], ["a comment", "repeat of message 00ff"])
-        mended = bundle_of(stored(message(*rows), reason="mended from 00fe: x")).decode()
-        self.same("a mended one is marked", mended.count('{"text":"mended from 00fe: x"}'), 4)
         self.same("a text", (two["valueString"], two["interpretation"], two["referenceRange"]),
                   ("neg", [{"text": "!"}], [{"text": "usual"}]))
         self.has("its unit", str(two["note"]), "unit mmol/L")
@@ -85,6 +80,15 @@ class Fhir(HostTest):
         again = bundle_of(stored(message(*rows), again_of="00ff"), zone="Europe/Berlin").decode()
         self.same("the same bytes again", again, out)
         self.same("a query has none", bundle_of(stored(message("Q|1|^S7||ALL"))), b"")
+
+    def test_marks(self):
+        """Marks of this host; the time of a sample goes before a result's."""
+        rows = ["P|1", "O|1|S7", "R|1|^^^A|1", "R|2|^^^B|1"]
+        mended = bundle_of(stored(message(*rows), reason="mended from 00fe: x")).decode()
+        self.same("a mended one is marked", mended.count('{"text":"mended from 00fe: x"}'), 2)
+        taken = message("P|1", "O|1|S7|||||20261127093000", "R|1|^^^A|1|||||||||20261127103500")
+        taken = bundle_of(stored(taken), zone="Asia/Tokyo").decode()
+        self.has("that of the sample goes before", taken, '"effectiveDateTime":"2026-11-27T09:30:00+09:00"')
 
     def test_names(self):
         """A result that comes again is the same Observation, a correction updates it, another result is another one."""
@@ -155,10 +159,14 @@ class Fhir(HostTest):
         reports = observations(out, "DiagnosticReport")
         self.same("reports", [(it["status"], it["basedOn"]) for it in reports],
                   [("final", asked[0]), ("cancelled", asked[1])])
-        bare = observations(bundle_of(stored(message(*rows))), "Patient")
-        self.same("without the system of an identity it is no Patient", bare, [])
-        walk_in = bundle_of(stored(message("P|1", *rows[1:])))
-        self.same("an order of nobody isn't there", observations(walk_in, "ServiceRequest"), [])
+
+    def test_nobody(self):
+        """Without the system of an identity there is no Patient, and without an identity no ServiceRequest."""
+        rows = ["O|1|S7||^^^GLU", "R|1|^^^GLU|5.4|mmol/L"]
+        known = bundle_of(stored(message("P|1|4711", *rows)))
+        self.same("no Patient", [len(observations(known, kind)) for kind in ("Patient", "ServiceRequest")], [0, 1])
+        walk_in = bundle_of(stored(message("P|1", *rows)))
+        self.same("no order", [len(observations(walk_in, kind)) for kind in ("ServiceRequest", "Specimen")], [0, 1])
 
     def test_samples(self):
         """A sample whose number has no system is that of its line, its patient and its time; an order whose tests
@@ -217,6 +225,9 @@ class Fhir(HostTest):
             out = bundle_of(stored(message(*rows)), rng.choice((oru.Wishes(), systems)),
                             zone=rng.choice(("", "Europe/Berlin"))).decode()
             self.need(fhir_r4.faults(out) == [], lambda: f"{at}: {fhir_r4.faults(out)}: {rows}")
+
+    def test_wrong_structure(self):
+        """What isn't as published is noticed."""
         good = bundle_of(stored(message("P|1|4711", "O|1|S7|||R||20261127||||||||serum", "R|1|^^^A|<5.4|U/L|1-2|H",
                                         "C|1|I|x"))).decode()
         self.same("a good one", fhir_r4.faults(good), [])

@@ -214,23 +214,25 @@ class _Made:
             return []
         told, record = self._told, order.record
         tests = order.tests or [Coding(one.code, one.system) for one in results]
-        codes = list(dict.fromkeys(one.code for one in tests))
+        codes, physician = list(dict.fromkeys(one.code for one in tests)), " ".join(filter(None, parts_of(record, 17)))
         ordered = [told.one.line, order.sample, *_who(case), "", *codes, record.text(7).strip()]
         name = self._own(_OF_ORDER, _digest(*ordered), updates=True)
-        made = {
+        made: Data = {
             "resourceType": "ServiceRequest",
             "identifier": name.identifiers,
             "status": _request_status(order, codes, results),
             "intent": "order",
             "category": [{"coding": [_LABORATORY]}],
             "priority": _PRIORITY.get(field_text(record, 6).upper()),
-            "code": _code(codes[0], tests[0].system, "") if len(codes) == 1 else {"text": " ".join(codes)} if codes else None,
+            "code": _code(codes[0], tests[0].system, "") if len(codes) == 1 else {"text": " ".join(codes)},
             "subject": subject,
             "authoredOn": told.iso(record.text(7)),
-            "requester": {"display": " ".join(filter(None, parts_of(record, 17)))} if parts_of(record, 17) else None,
+            "requester": {"display": physician} if physician else None,
             "specimen": [specimen] if specimen else None,
             "note": [{"text": field_text(record, 14)}] if field_text(record, 14) else None,
         }
+        if not codes:
+            del made["code"]
         return [{"reference": self._add(name, made)}]
 
     def _observation(self, about: _About, result: Result) -> str:

@@ -243,10 +243,8 @@ def _order(
     record, is_old = order.record, wishes.version == VERSIONS[0]
     taken, (code, text) = told.at(record.text(8)), specimen_of(record)
     kind = [code, text, "HL70487"] if code else ["", text] if text else []
-    priority = field_text(record, 6).upper()
-    priority = priority if len(priority) == 1 and priority in _PRIORITIES else ""
+    priority = next((one for one in _PRIORITIES if one == field_text(record, 6).upper()), "")
     first = "" if taken else min((one.at for one in results if one.at), default="")
-    physician = parts_of(record, 17)
     yield segment(
         "OBR",
         {
@@ -261,7 +259,7 @@ def _order(
             13: field_text(record, 14),
             14: told.at(record.text(15)),
             15: kind if is_old else "",
-            16: physician,
+            16: parts_of(record, 17),
             22: told.at(record.text(23)),
             25: _report(order, results),
         },
