@@ -40,15 +40,19 @@ class Plan:
         """A patient with or without an identity and a name."""
         rng = self.rng
         identity = rng.choice(("", "", f"P{rng.randrange(1000)}"))
+        more = rng.choice(("", "", " ", "^^^HOSP", "^^^urn:x^MR")) if identity else rng.choice(("", "^^^"))
+        is_sure = rng.random() > 0.03
+        more = more if is_sure else rng.choice(("^7", "^^M10", "\\P1", "^^^H^MR^y")) if identity else "^^^P1"
         field = rng.choice((3, 4, 5))
         cells = ["P", str(number), "", "", "", rng.choice(("", "Doe^Jane"))]
-        cells[field - 1] = identity
+        cells[field - 1] = identity + more
         self.rows.append("|".join(cells))
         for at in range(1, rng.choice((1, 1, 2)) + 1):
-            self.add_order(at, identity)
+            self.add_order(at, identity, is_sure)
 
-    def add_order(self, at, identity):
-        """An order, with the sample where the line's setting has it, or missing, or somewhere else."""
+    def add_order(self, at, identity, is_sure):
+        """An order, with the sample where the line's setting has it, or missing, or somewhere else; of a patient of
+        whom it is sure who that is, or not."""
         rng = self.rng
         sample = rng.choice(("", *[f"S{rng.randrange(10**6)}"] * 11))
         control = self.is_control or rng.random() < 0.15
@@ -60,7 +64,7 @@ class Plan:
         action = "Q" if control and not self.is_control else rng.choice(("", "N"))
         self.rows.append(f"O|{at}|{fields}|{rng.choice(('', '^^^GLU'))}|R||||||{action}")
         count = rng.choice((0, 1, 1, 2, 4))
-        self.unsure |= count > 0 and not sample
+        self.unsure |= count > 0 and not (sample and (is_sure or control))
         codes = rng.sample("ABCDEFGH", count)
         for place, letter in enumerate(codes, 1):
             self.add_result(place, letter, None if control else identity or None, sample, control)
