@@ -125,7 +125,8 @@ class Oru(WithLibrary):
                   ("20261127093500", "fasting", "20261127095000", "20261127110000"))
         old = told.segments_of(oru_of(stored(body), oru.wishes_of(["MSH-12=2.3.1"])))[0]
         self.same("v2.3.1", [one[0] for one in old], ["MSH", "PID", "OBR", "OBX", "OBX", "OBX"])
-        self.same("its fields", (old[0][9], old[0][12], old[2][15]), ("ORU^R01", "2.3.1", "SER^serum^HL70487"))
+        self.same("its fields", (old[0][9], old[0][12], old[2][15], old[2][27]),
+                  ("ORU^R01", "2.3.1", "SER^serum^HL70487", "^^^^^S"))
         each = told.segments_of(oru_of(stored(body), oru.wishes_of(["obr=test"])))[0]
         names = [one[4] if one[0] == "OBR" else one[3] for one in each if one[0] in ("OBR", "OBX")]
         self.same("an OBR for each test", names, ["GLU^^L", "GLU^^L", "GLU^^L", "K^^L", "K^^L"])

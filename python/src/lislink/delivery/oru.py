@@ -262,6 +262,7 @@ def _order(
             16: parts_of(record, 17),
             22: told.at(record.text(23)),
             25: _report(order, results),
+            27: [*[""] * 5, priority] if is_old else "",
         },
     )
     yield from _notes([*order.comments, *([Comment("L", _NOT_TAKEN)] if first else []), *more])
