@@ -120,7 +120,9 @@ class Unsynced:
 
     def remove(self) -> None:
         """Takes it away."""
-        self._file = None
+        file, self._file = self._file, None
+        if file is not None:
+            file.close()
         with contextlib.suppress(OSError):
             os.unlink(self._path)
 
