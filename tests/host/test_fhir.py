@@ -12,6 +12,7 @@ import ssl
 import subprocess
 import threading
 import time
+import urllib.parse
 
 from lislink.host import deliver
 from lislink.host.options import OptionError
@@ -225,6 +226,10 @@ class Fhir(HostTest):
             out = bundle_of(stored(message(*rows)), rng.choice((oru.Wishes(), systems)),
                             zone=rng.choice(("", "Europe/Berlin"))).decode()
             self.need(fhir_r4.faults(out) == [], lambda: f"{at}: {fhir_r4.faults(out)}: {rows}")
+            for one in json.loads(out)["entry"] if out else ():
+                search = one["request"].get("ifNoneExist") or one["request"]["url"].partition("?")[2]
+                system, _, value = urllib.parse.unquote(search.partition("identifier=")[2]).partition("|")
+                self.need({"system": system, "value": value} in one["resource"]["identifier"], lambda: f"{at}: {one}")
 
     def test_wrong_structure(self):
         """What isn't as published is noticed."""
