@@ -260,10 +260,32 @@ class Records(FieldTest):
         self.has("table: how many results were left", ran.error, "1 results before it aren't told")
         gbk = GOOD.replace(b"4711", "病人".encode("gbk"))
         ran, rows = table(gbk)
+        ran, rows = table(gbk, "--encoding", "utf-8")
         self.check(ran.status == 1 and "--encoding" in ran.error, "table: another encoding is told", ran.error)
         ran, rows = table(gbk, "--encoding", "gbk")
         self.same("table: an encoding of choice", (rows[1][1], ran.status), ("病人", 0))
         self.same("table: no such encoding", lislab("table", "--encoding", "klingon", data=GOOD).status, 2)
+
+    def test_letters(self):
+        """Table and ladder read Latin-1, as a host does, and say of letters that they look like another encoding's."""
+        not_latin = "the letters are not latin-1, perhaps gbk or windows-1252: name the encoding, as --encoding gbk"
+        for letters, name, told in (
+            ("Müller", "latin-1", ""),
+            ("Müller", "utf-8", "the letters are those of utf-8: name the encoding, as --encoding utf-8"),
+            ("“Müller”", "cp1252", not_latin),
+            ("陶喆", "gbk", not_latin),
+        ):
+            records = GOOD.replace(b"4711", letters.encode(name))
+            ran, rows = table(records)
+            error = f"lislab: {told}\n" if told else ""
+            self.same(f"table: {letters} in {name}", (rows[1][1], ran.error, ran.status),
+                      (letters.encode(name).decode("latin-1"), error, int(bool(told))))
+            ran, rows = table(records, "--encoding", name)
+            self.same(f"table: {letters} by its name", (rows[1][1], ran.error, ran.status), (letters, "", 0))
+            frames = b"".join(framed(at, row) for at, row in enumerate(records.split(b"\r")[:-1], 1))
+            capture = f"> {(b'\x05' + frames + b'\x04').hex()}\n".encode()
+            self.same(f"ladder: {letters} in {name}", lislab("ladder", "-", data=capture).error, error)
+            self.same(f"ladder: {letters} by its name", lislab("ladder", "-", "--encoding", name, data=capture).error, "")
 
     def test_table_as_the_program(self):
         with open(os.path.join(SAMPLES, "panel.records"), "rb") as file:

@@ -228,6 +228,7 @@ FAULTS = {
     "test_notices.Said.test_a_host": Edit(
         "host/intake.py", "f\"{reason}, after record {one.records}, at byte {one.size}\"", "reason"
     ),
+    "test_notices.Said.test_letters": Edit("letters.py", "            self._read(piece, False)\n", ""),
     "test_notices.Said.test_bad_sessions": Edit(
         "host/notices.py", "AT_ONCE, SECONDS = 10, 30.0", "AT_ONCE, SECONDS = 1000, 30.0"
     ),

@@ -7,7 +7,8 @@ import select
 import time
 
 from lislink import FrameFault
-from lislink.host.notices import CONNECTION, FRAME, Notices, Watch
+from lislink.host.notices import CONNECTION, FRAME, LETTERS, Notices, Watch
+from lislink.letters import NOT_LATIN, UTF_8, Letters, looks_like
 from lislink.link import Note, Step
 from lislink.orders.book import open_book
 from lislink.orders.order import Order
@@ -107,6 +108,30 @@ class Said(HostTest):
         notices.say_dropped(True)
         self.same("once", said.count(row), 1)
         self.same("counts", (notices.counts["bad"], notices.not_said["bad"][FRAME]), ({"other": 3600, FRAME: 41}, 31))
+
+    def test_letters(self):
+        """A whole message whose letters look like those of another encoding is said, once, wherever it is cut."""
+        host = Host(self.path("letters.db"), "--listen", "0,name=named,encoding=utf-8", scale=1.0)
+        named = next(int(row.split()[1].rsplit(":", 1)[1]) for row in host.rows if row.endswith(" named\n"))
+        names = [("Zoë", "latin-1"), ("Zoë", "utf-8"), ("“Zoë”", "cp1252"), ("Zoe", "ascii")]
+        for port in (host.port, named):
+            with Client(port) as client:
+                for text, name in names:
+                    texts = [b"H|\\^&\r", b"P|1||4711||" + text.encode(name) + b"\r", b"L|1\r"]
+                    self.true(f"{text} in {name} is acknowledged", client.whole(texts))
+        self.same("the host's status", host.stop(), 0)
+        said = [row.split(": its letters are ")[1] for row in trouble(host.errors[-1]) if "letters" in row]
+        at_last = "and the line's encoding is iso8859-1"
+        self.same("what is said", said, [f"{look}, {at_last}" for look in (UTF_8, NOT_LATIN)])
+        data = json.loads(lislab("status", "--store", host.store, "--json").stdout)
+        self.same("counted", data["notices"]["fire"][LETTERS], 2)
+        for text in ("“Zoë”, 病人^\r".encode(name) for name in ("utf-8", "gbk")):
+            for first in range(len(text) + 1):
+                for second in range(first, len(text) + 1):
+                    letters = Letters()
+                    for piece in (text[:first], text[first:second], text[second:]):
+                        letters.take(piece)
+                    self.same(f"cut at {first} and {second}", letters.look(), looks_like(text))
 
     def test_bad_sessions(self):
         """A thousand bad sessions make no thousand lines."""

@@ -18,6 +18,7 @@ from .host.files import write_whole
 from .host.options import OptionError
 from .host.said import shown
 from .host.store import StoreError
+from .letters import LATIN, UTF_8, looks_like
 from .link import FRAME_TEXT, LONG_FRAME_TEXT
 from .orders import commands as order_commands
 from .delivery import commands as delivery_commands
@@ -158,6 +159,7 @@ def run_ladder(ask: argparse.Namespace) -> int:
     for remark in remarks:
         say(remark)
     ladder = Ladder(capture, ask.encoding, _frame_limit(ask))
+    _say_letters("", ladder.stream, ask)
     if ask.html:
         from .field.page import page_of
 
@@ -233,7 +235,9 @@ def run_table(ask: argparse.Namespace) -> int:
     status, odd = GOOD, 0
     for path in ask.records or ["-"]:
         where = f"{path}: " if len(ask.records) > 1 else ""
-        for row, why in table.rows_of(records_of(path, ask), columns, ask.encoding, ask.orders):
+        records = records_of(path, ask)
+        status = LOOKS_WRONG if _say_letters(where, records, ask) else status
+        for row, why in table.rows_of(records, columns, ask.encoding, ask.orders):
             if row is None:
                 say(where + why)
                 status = LOOKS_WRONG
@@ -248,11 +252,24 @@ def run_table(ask: argparse.Namespace) -> int:
     return status
 
 
+def _say_letters(where: str, records: bytes, ask: argparse.Namespace) -> bool:
+    """Says whether the letters of records look like those of another encoding."""
+    look = looks_like(records, ask.encoding)
+    if look:
+        name = "utf-8" if look == UTF_8 else "gbk"
+        say(f"{where}the letters are {look}: name the encoding, as --encoding {name}")
+    return bool(look)
+
+
 def _encoding(name: str) -> str:
     try:
         return codecs.lookup(name).name
     except LookupError:
         raise argparse.ArgumentTypeError(f"there is no encoding {name}") from None
+
+
+def _add_encoding(one: argparse.ArgumentParser) -> None:
+    one.add_argument("--encoding", type=_encoding, default=LATIN, help="of the records' text (latin-1, as a host's)")
 
 
 def _add_ladder(one: argparse.ArgumentParser) -> None:
@@ -261,7 +278,7 @@ def _add_ladder(one: argparse.ArgumentParser) -> None:
     _add_long(one)
     one.add_argument("--wrong", action="store_true", help="only the rows that look wrong, and the summary")
     one.add_argument("--times", metavar="FILE", help="times of the capture's lines (CAPTURE.times if it is there)")
-    one.add_argument("--encoding", type=_encoding, default="utf-8", help="of the records' text (utf-8)")
+    _add_encoding(one)
     _import_options(one)
     one.set_defaults(run=run_ladder)
 
@@ -310,7 +327,7 @@ def _add_table(one: argparse.ArgumentParser) -> None:
     one.add_argument(
         "--sample-from", type=int, choices=(3, 4), default=3, help="the field of the order that has the sample (3)"
     )
-    one.add_argument("--encoding", type=_encoding, default="utf-8", help="of the records' text (utf-8)")
+    _add_encoding(one)
     one.add_argument("--no-header", action="store_true", help="no line of names")
     one.add_argument("--orders", action="store_true", help="a row for each order, and not for each result")
     nested = "in JSON lines: lists where a field has components or repeats"

@@ -4,6 +4,7 @@ import json
 from typing import Any, Dict, Generator, Iterable, Iterator, List, NamedTuple, Optional, Tuple, Union
 
 from ._checks import as_pieces
+from .letters import LATIN
 from .records import MessageError, Reader
 from .rows import Row
 from .shown import Parts, as_parts, as_text
@@ -156,7 +157,7 @@ class Finding(NamedTuple):
 class Message:
     """A whole message: a header, patients and queries with what is below them, and a terminator."""
 
-    def __init__(self, rows: Iterable[Row], encoding: str = "latin-1") -> None:
+    def __init__(self, rows: Iterable[Row], encoding: str = LATIN) -> None:
         #: Its records.
         self.rows = list(rows)
         #: The encoding of its texts.
@@ -276,7 +277,7 @@ class Found(NamedTuple):
     ends: List[int]
 
 
-def read_all(stream: Union[bytes, Iterable[bytes]], encoding: str = "latin-1") -> Iterator[Union[Found, Fault]]:
+def read_all(stream: Union[bytes, Iterable[bytes]], encoding: str = LATIN) -> Iterator[Union[Found, Fault]]:
     """All messages of a stream, or of the pieces of one, and a Fault for each that can't be read, which doesn't hide
     the later ones: reading goes on at the next record that begins with H and a byte that may be a delimiter."""
     stream, at = b"".join(as_pieces(stream)), 0

@@ -1,6 +1,5 @@
 """What a message says, in the terms that other systems share: patients, orders with their results, and comments. A
 message of which this can't be said surely is quarantined: nothing of it goes out."""
-import codecs
 import datetime
 import functools
 import re
@@ -10,6 +9,7 @@ from typing import Dict, Iterator, List, Mapping, NamedTuple, Optional, Tuple
 
 from ..host.options import LETTERS, TWICE
 from ..host.store import Stored
+from ..letters import UTF_8, looks_like
 from ..message import Entry, Fault, Message, read_all
 from ..watch.unix import shown
 from .failures import Quarantined, Refused
@@ -19,10 +19,8 @@ from .numbers import number_of
 _TIME = re.compile(r"(\d{4})(\d\d)(\d\d)(?:(\d\d)(?:(\d\d)(\d\d)?)?)?$", re.ASCII)
 #: Report types of an order (LIS02-A2, 9.4.26) that say something of it, also without a result.
 REPORTS = "CPFXIYZ"
-#: The fields of a patient's identities. Letters of one byte, in which UTF-8 can be read without a fault. The most
-#: records of a message.
-IDENTITIES = (3, 4, 5)
-_ONE_BYTE, MOST_RECORDS = ("iso8859", "cp125", "koi8", "ascii"), 250_000
+#: The fields of a patient's identities. The most records of a message.
+IDENTITIES, MOST_RECORDS = (3, 4, 5), 250_000
 
 
 class Reading(NamedTuple):
@@ -395,11 +393,7 @@ def letters_fault(body: bytes, encoding: str) -> str:
         body.decode(encoding)
     except UnicodeDecodeError as error:
         return f"byte {error.start} of the message is no letter of {encoding}, the line's encoding"
-    if body.isascii() or not codecs.lookup(encoding).name.startswith(_ONE_BYTE):
-        return ""
-    try:
-        body.decode("utf-8")
-    except UnicodeDecodeError:
+    if looks_like(body, encoding) != UTF_8:
         return ""
     return f"its letters are those of UTF-8, and the line's encoding is {encoding}"
 

@@ -5,6 +5,7 @@ from typing import Dict, Iterator, List, NamedTuple, Optional, Tuple, Union
 
 from ..capture import Capture, Line
 from ..codes import Kind, Note, Readiness
+from ..letters import LATIN
 from ..link import FRAME_TEXT, Receiver, Scanner, Signal, Step
 from ..message import Fault, Found, read_all
 from ..watch.verdicts import BAD, Meaning, Verdict
@@ -83,7 +84,7 @@ def _has_echo(capture: Capture) -> bool:
 class Ladder:
     """The rows of a capture, the texts and messages in it, and what looks wrong."""
 
-    def __init__(self, capture: Capture, encoding: str = "latin-1", frame_limit: int = FRAME_TEXT) -> None:
+    def __init__(self, capture: Capture, encoding: str = LATIN, frame_limit: int = FRAME_TEXT) -> None:
         self.rows: List[Row] = []
         self.texts: List[Text] = []
         self.differences: List[Tuple[int, bytes, bytes]] = []  # the line (0 for the end), sent, due

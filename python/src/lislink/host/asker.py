@@ -5,6 +5,7 @@ import re
 from typing import Iterator, List, NamedTuple, Optional, Sequence, Tuple
 
 from ..codes import Outcome, Phase, Role
+from ..letters import LATIN
 from ..link import FRAME_TEXT
 from ..records import Writer, messages
 from ..station import Answer, Station
@@ -23,7 +24,7 @@ class Round(NamedTuple):
     why: str
 
 
-def query_texts(samples: Sequence[str], encoding: str = "latin-1") -> List[bytes]:
+def query_texts(samples: Sequence[str], encoding: str = LATIN) -> List[bytes]:
     """The records of a query for samples: all of them if there are none."""
     named = [sample.encode(encoding) for sample in samples] or [b"ALL"]
     with Writer() as writer:

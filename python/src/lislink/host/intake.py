@@ -5,6 +5,7 @@ import re
 from typing import Callable, Dict, Iterable, Iterator, List, Optional, Tuple
 
 from ..codes import Reason, Status
+from ..letters import Letters
 from ..records import MessageError, Reader
 from .store import UNFINISHED, UNREADABLE, WHOLE, Add, Begin, Change, End, new_key
 from .unknown import Unknown
@@ -58,7 +59,7 @@ class _Message:
         #: All its bytes, as long as they aren't too many to be mended; how many of them count.
         self.body, self.held = body, 0
         self.places = self.size = self.records = 0
-        self.fault = ""
+        self.fault, self.letters = "", Letters(begin.encoding)
         #: Where its last record ended, in bytes of the message.
         self.ended = 0
 
@@ -84,6 +85,8 @@ class Intake:
         self._message: Optional[_Message] = None
         #: The ends of messages that aren't known to be kept.
         self._ends: List[End] = []
+        #: What the letters of whole messages look like that have ended, by their keys, if it is another encoding.
+        self.letters: Dict[str, str] = {}
 
     def take(self, text: bytes) -> Iterator[List[Change]]:
         """The changes that keep a text, step by step, each of which is short work; TooLong if a message passes the
@@ -194,6 +197,7 @@ class Intake:
         one.places += 1
         one.size += len(body)
         one.digest.update(body)
+        one.letters.take(body)
         if one.body is not None and self._held is not None:
             one.body += body
             if not self._held.takes(one):
@@ -203,6 +207,9 @@ class Intake:
         one, self._message = self._message, None
         assert one is not None
         one.reader.close()
+        look = one.letters.look() if state == WHOLE else ""
+        if look:
+            self.letters[one.key] = look
         if state != WHOLE and one.body:
             self.bodies[one.key] = one.begin, bytes(one.body)
         if self._held is not None:

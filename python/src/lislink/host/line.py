@@ -14,7 +14,7 @@ from .feeds import AsItComes, LineFeeds
 from .intake import Intake, TooLong
 from .mend import LINE_FEEDS, Ended
 from .mender import Bodies, Mender, is_mended
-from .notices import CODES, CONNECTION, MESSAGE, REJECTED, REPLY
+from .notices import CODES, CONNECTION, LETTERS, MESSAGE, REJECTED, REPLY
 from .options import Limits
 from .store import MENDED, WHOLE, Add, Change, End, StoreError
 
@@ -395,6 +395,7 @@ class Line:
             if not isinstance(change, End):
                 continue
             self._note_codes(change)
+            self._note_letters(change)
             self._counts["messages" if change.state == WHOLE else "quarantined"] += 1
             if change.state == WHOLE or (change.size and not change.reason.startswith(MENDED)):
                 self._probe.ended(change)
@@ -413,6 +414,13 @@ class Line:
         if count:
             self._counts["unknown_codes"] += count
             self._say(f"message {end.key} has codes that the line's table lacks: {names}", CODES)
+
+    def _note_letters(self, end: End) -> None:
+        """Says of a whole message that its letters look like those of another encoding."""
+        look = self._intake.letters.pop(end.key, "")
+        if look and end.state == WHOLE:
+            about = f"message {end.key}: its letters are {look}"
+            self._say(f"{about}, and the line's encoding is {self._intake.encoding}", LETTERS)
 
     def _took_mended(self, key: str, changes: Sequence[Change]) -> None:
         """A message was mended by these changes, and is kept or will be."""

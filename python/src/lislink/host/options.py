@@ -6,6 +6,7 @@ import zoneinfo
 from typing import Any, Callable, Dict, Iterable, List, NamedTuple, Sequence, Tuple, TypeVar, Union
 
 from ..field.normalize import CHANGES
+from ..letters import LATIN
 from ..orders import asks
 from ..orders.asks import Asks
 from ..link import FRAME_TEXT, LONG_FRAME_TEXT
@@ -24,8 +25,8 @@ LINKS = ("lis01", "plain")
 #: What is mended on each line, whatever it names; the names of the other mends, and one that means the same as another.
 ALWAYS = frozenset(("long",))
 NAMES, SAME = tuple(name for name in CHANGES if name not in ALWAYS), {"escape": "bytes"}
-#: The flow controls of a serial line, and the encoding of a line that names none.
-FLOWS, LATIN = ("none", "rtscts", "xonxoff"), codecs.lookup("latin-1").name
+#: The flow controls of a serial line.
+FLOWS = ("none", "rtscts", "xonxoff")
 
 
 class OptionError(Exception):
