@@ -283,7 +283,7 @@ class Records(FieldTest):
             ran, rows = table(records, "--encoding", name)
             self.same(f"table: {letters} by its name", (rows[1][1], ran.error, ran.status), (letters, "", 0))
             frames = b"".join(framed(at, row) for at, row in enumerate(records.split(b"\r")[:-1], 1))
-            capture = f"> {(b'\x05' + frames + b'\x04').hex()}\n".encode()
+            capture = b"> " + (b"\x05" + frames + b"\x04").hex().encode() + b"\n"
             self.same(f"ladder: {letters} in {name}", lislab("ladder", "-", data=capture).error, error)
             self.same(f"ladder: {letters} by its name", lislab("ladder", "-", "--encoding", name, data=capture).error, "")
 

@@ -44,7 +44,7 @@ PARTS = {
     "analyzers": Part("test_load.Load.test_200_analyzers", 12, 300),
     "messages": Part("test_load.Load.test_memory", 3000, 1000000),
     "orders": Part("test_orders.Fire.test_kills", 10, 1000),
-    "orders_postgres": Part("test_orders_postgres.PostgresBooks.test_two_hosts_are_killed", 4, 200),
+    "orders_postgres": Part("test_orders_postgres.PostgresBooks.test_two_hosts_are_killed", 4, 1000),
     "reloads": Part("test_lines_file.LinesFile.test_reloads", 20, 100),
     "mllp": Part("test_mllp.Receivers.test_kills", 200, 1000),
     "deliveries": Part("test_deliver.Killed", 10, 100),

@@ -41,8 +41,8 @@ class Plain:
         self.line = line or socket.create_connection(("127.0.0.1", port), 10)
         self.line.setsockopt(socket.IPPROTO_TCP, socket.TCP_NODELAY, 1)
         self.left = b""
-        #: How often it took a frame again.
-        self.again = 0
+        #: How often it took a frame again; the records of the session that goes on.
+        self.again, self.rows = 0, []
 
     def close(self):
         """Closes the line."""
@@ -117,6 +117,7 @@ class Plain:
                 continue
             if is_good(data, number):
                 rows, number = [*rows, data[2:-5]], number + 1
+                self.rows = rows
                 self.reply(ACK)
             elif is_good(data, number - 1) and number > 1:
                 self.again += 1

@@ -14,7 +14,7 @@ FAULTS = {
         "orders/book.py", "return f\"(holder = ''{left})\"", "return f\"(1 = 1{left})\""
     ),
     "test_orders.SqliteBooks.test_given_back": (
-        "orders/book.py", "SET holder = '' WHERE holder = ?\"", "SET holder = '' WHERE holder <> ?\""
+        "orders/book.py", "held = f\"holder = ? AND", "held = f\"holder <> ? AND"
     ),
     "test_order_files.Files.test_dates": ("orders/book.py", "over <= self.until", "over < self.until"),
     "test_orders.SpoolBooks.test_states": ("orders/book.py", "mine += at == self._seat(seat)", "mine += 1"),
@@ -24,7 +24,7 @@ FAULTS = {
         "orders/book.py", "return f\"(holder = ''{left})\"", "return f\"(1 = 1{left})\""
     ),
     "test_orders.SpoolBooks.test_given_back": (
-        "orders/book.py", "SET holder = '' WHERE holder = ?\"", "SET holder = '' WHERE holder <> ?\""
+        "orders/book.py", "held = f\"holder = ? AND", "held = f\"holder <> ? AND"
     ),
     "test_orders.SpoolBooks.test_files": (
         "orders/folder.py", "WHERE file = ?\", (file,)).fetchone():", "WHERE file = ?\", (path,)).fetchone():"
@@ -71,6 +71,10 @@ FAULTS = {
         "host/duplex.py",
         '            self._over_in_vain("the line was closed")\n',
         "            self._outbox.sent(self._site, self._sending)\n",
+    ),
+    "test_orders.Answers.test_a_host_that_dies": ("host/outbox.py", 'self._say_left(book.left, "this host")', "pass"),
+    "test_orders.Desks.test_marks_come_first": (
+        "host/outbox.py", "(self._first if first else self._others)", "self._others"
     ),
     "test_orders.Answers.test_asked_before_the_line_went": (
         "host/outbox.py", "self._work.begin(self._until_kept(self._book.leave, site.seat))", "pass"
@@ -128,6 +132,7 @@ FAULTS = {
         f"{books}.{test}": fault
         for books in ("test_orders.SqliteBooks", "test_orders.SpoolBooks", "test_orders_postgres.PostgresBooks")
         for test, fault in {
+            "test_taken_over": ("orders/book.py", "self._set(\"changed = ?\", (self._clock(),), numbers)", "pass"),
             "test_asked_again": ("orders/book.py", "if now >= set(wanted) else 0.0", "if now else 0.0"),
             "test_rows_of_other_programs": (
                 "orders/book.py",
@@ -144,7 +149,7 @@ FAULTS = {
         "orders/book.py", "return f\"(holder = ''{left})\"", "return f\"(1 = 1{left})\""
     ),
     "test_orders_postgres.PostgresBooks.test_given_back": (
-        "orders/book.py", "SET holder = '' WHERE holder = ?\"", "SET holder = '' WHERE holder <> ?\""
+        "orders/book.py", "held = f\"holder = ? AND", "held = f\"holder <> ? AND"
     ),
     "test_orders_postgres.PostgresBooks.test_two_hosts_are_killed": (
         "host/duplex.py", "        self._sending, self._busy = batch, 0\n",

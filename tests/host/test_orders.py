@@ -14,9 +14,10 @@ from collections import Counter
 from lislink.host.duplex import TwoWayLine
 from lislink.host.line import Turns
 from lislink.host.options import Limits
-from lislink.host.outbox import Batch, Outbox, Site
+from lislink.host.outbox import Batch, Desk, Outbox, Site
 from lislink.host.store import open_store
-from lislink.orders.book import Wanted, open_book
+from lislink.host.turns import Turns
+from lislink.orders.book import PERHAPS, Wanted, open_book
 from lislink.orders.order import Order
 from tests.host import hosts
 from tests.host.hosts import SCALE, Host, HostTest, lislab, wait_for
@@ -178,15 +179,46 @@ class Books:
             one.close()
 
     def test_given_back(self):
-        """What a host held when it died waits again when it starts."""
+        """What a host held when it died waits again when it starts; that an analyzer may have got it stays noted."""
         where = self.new()
         one = open_book(where, "one")
-        one.add([Order("S1", ("K",))])
-        self.same("taken", len(one.take("", "1", "fire", 9, [])), 1)
+        one.add([Order("S1", ("K",)), Order("S2", ("K",)), Order("S3", ("K",))])
+        self.same("taken", len(one.take("", "1", "fire", 2, [])), 2)
+        one.sent("fire", [2])
         one.close()
         one = open_book(where, "one")
-        self.same("taken again", len(one.take("", "1", "fire", 9, [])), 1)
+        self.same("left", one.left, [1])
+        self.same("taken again", [placed.number for placed in one.take("", "1", "fire", 9, [])], [1, 3])
+        one.sent("fire", [1, 3])
+        self.same("noted", [(placed.state, placed.reason) for placed in one.listed()],
+                  [("sent", PERHAPS), ("sent", ""), ("sent", "")])
         one.close()
+        one = open_book(where, "one")
+        self.same("nothing left", one.left, [])
+        one.close()
+
+    def test_taken_over(self):
+        """Another host takes what a host that is gone had in its hands, once that hasn't said for a while that it has
+        it still; the first one, if it comes back, changes nothing of it."""
+        where, now = self.new(), [1000.0]
+        one, two = (open_book(where, name) for name in ("one", "two"))
+        for book in (one, two):
+            self.addCleanup(book.close)
+            book._clock = lambda: now[0]
+        one.add([Order("S1", ("K",))])
+        self.same("taken", [placed.number for placed in one.take("", "1", "fire", 9, [])], [1])
+        taken = lambda: [(placed.number, placed.left_by) for placed in two.take("", "1", "fire", 9, [])]  # noqa: E731
+        for seconds in (29, 29):
+            now[0] += seconds
+            self.same("not yet", (two.due(), taken()), ([], []))
+            one.still([1])
+        now[0] += 31
+        self.same("due", two.due(), [("", "")])
+        self.same("taken over", taken(), [(1, "one")])
+        self.same("not failed by the first one", one.tried("fire", [1], "why", 1, 0), [])
+        self.same("noted", next(two.listed()).reason, PERHAPS)
+        two.sent("fire", [1])
+        self.same("sent", [(placed.state, placed.reason) for placed in one.listed()], [("sent", PERHAPS)])
 
 
 class SqliteBooks(Books, HostTest):
@@ -481,6 +513,24 @@ class Answers(HostTest):
         one = Plain(port, SLOW)
         self.same("sent", samples_of(one.take(400)), ["S7"])
 
+    def test_a_host_that_dies(self):
+        """A host dies in a session of its own: the next one says which orders an analyzer may have got before."""
+        host, port = self.started(orders=("S7", "S8", "S9"), line="orders=send")
+        host.words = tuple(word.replace("127.0.0.1:0,", f"127.0.0.1:{port},") for word in host.words)
+        one = Plain(port, SLOW)
+        self.same("asks", one.byte(30), ENQ)
+        one.put(ACK)
+        self.same("a frame", one.byte(30), b"\x02")
+        host.kill()
+        one.close()
+        host.start()
+        self.has("said", host.says(), "orders 1-3 were being sent when this host died: sent again, perhaps a second")
+        one = Plain(port, SLOW)
+        self.same("sent", samples_of(one.take(400)), ["S7", "S8", "S9"])
+        self.true("marked", wait_for(lambda: set(states(host.store).values()) == {"sent"}), states(host.store))
+        listed = lislab("order", "list", "--store", host.store).stdout.splitlines()
+        self.true("listed", all(row.endswith(PERHAPS) for row in listed) and len(listed) == 3, listed)
+
     def test_asked_before_the_line_went(self):
         """The line goes after a query: its answer comes on the next line from there."""
         host, port = self.started()
@@ -530,6 +580,29 @@ class Answers(HostTest):
         rows = [json.loads(row) for row in lislab("export", "--store", host.store).stdout.splitlines()]
         self.same("messages", len(rows), 2)
         self.true("results", "5.5" in json.dumps(rows[1]), rows[1])
+
+
+class Desks(HostTest):
+    """What does the work of a store."""
+
+    def test_marks_come_first(self):
+        """A mark is done before look-ups that were put before it, and what fails fails alone."""
+        desk, begun, goes_on, done = Desk(), threading.Event(), threading.Event(), []
+
+        def first():
+            begun.set()
+            goes_on.wait(60)
+
+        futures = [desk.put(first, False)]
+        begun.wait(60)
+        futures += [desk.put(lambda: done.append("look"), False), desk.put(lambda: done.append("mark"), True)]
+        futures += [desk.put(lambda: 1 // 0, False), desk.put(lambda: done.append("mark"), True)]
+        futures[3].cancel()
+        futures.append(desk.put(lambda: 1 // 0, False))
+        goes_on.set()
+        self.same("fails", type(futures[-1].exception(60)), ZeroDivisionError)
+        desk.shut()
+        self.same("done", done, ["mark", "mark", "look"])
 
 
 class OnSerial(HostTest):

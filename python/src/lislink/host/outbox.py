@@ -3,10 +3,11 @@ import asyncio
 import functools
 import re
 import time
-from concurrent.futures import ThreadPoolExecutor
-from typing import Any, Callable, Collection, Dict, List, Mapping, NamedTuple, Optional, Sequence, Set, Tuple
+from collections import deque
+from concurrent.futures import Future, ThreadPoolExecutor
+from typing import Any, Callable, Collection, Deque, Dict, List, Mapping, NamedTuple, Optional, Sequence, Set, Tuple
 
-from ..orders.book import FAILED, Asked, Failed, OrderBook, Placed, Wanted
+from ..orders.book import FAILED, STILL, Asked, Failed, OrderBook, Placed, Wanted
 from ..orders.order import ANSWERED, NORMAL, ORDERED, QUERIED, Order, OrderError
 from ..orders.order import failure, nothing_of, texts_of, told_of
 from ..orders.asks import Asks
@@ -24,6 +25,8 @@ WAITS = (5.0, 15.0, 60.0, 300.0)
 #: How often a query is looked up while the store gives no answer, a look apart; an answer that couldn't be sent waits so
 #: many seconds for its analyzer to connect anew.
 LOOKS, KEPT = 3, 600.0
+#: Work of a thread, and what becomes of it.
+Work = Tuple["Future[Any]", Callable[[], Any]]
 
 
 class Site(NamedTuple):
@@ -68,6 +71,34 @@ class Batch(NamedTuple):
         return told_of(one.order for one in self.placed) or "the answer to a query"
 
 
+class Desk:
+    """A thread that does work for a store: marks before all else, so that a host that dies sends little twice."""
+
+    def __init__(self) -> None:
+        self._thread = ThreadPoolExecutor(1, "orders")
+        self._first, self._others = deque(), deque()  # type: Deque[Work], Deque[Work]
+
+    def put(self, work: Callable[[], Any], first: bool) -> "Future[Any]":
+        """What will be done, before all others that are not `first`."""
+        done: "Future[Any]" = Future()
+        (self._first if first else self._others).append((done, work))
+        self._thread.submit(self._next)
+        return done
+
+    def _next(self) -> None:
+        done, work = (self._first or self._others).popleft()
+        if not done.set_running_or_notify_cancel():
+            return
+        try:
+            done.set_result(work())
+        except BaseException as error:
+            done.set_exception(error)
+
+    def shut(self) -> None:
+        """Ends the thread, after all that was put."""
+        self._thread.shutdown()
+
+
 class Outbox:
     """The orders of a host. A store that is slow, or a command, delays no line."""
 
@@ -80,10 +111,11 @@ class Outbox:
         say: Callable[[str], None],
     ) -> None:
         self._open, self._command, self._tries, self._scale, self._say = open_book, command, tries, scale, say
-        self._thread, self._asking = ThreadPoolExecutor(1, "orders"), asyncio.Semaphore(AT_ONCE)
+        self._desk, self._asking = Desk(), asyncio.Semaphore(AT_ONCE)
         self._book: Optional[OrderBook] = None
-        #: The orders that are being sent, or are sent and not yet marked.
+        #: The orders that are being sent, or are sent and not yet marked; when it was said last that they are in hand.
         self._in_hand: Set[int] = set()
+        self._still = time.monotonic()
         self._work = Tasks(say)
         self._looking: "Optional[asyncio.Task[None]]" = None
         self._woken: List[Callable[[str, str], None]] = []
@@ -102,7 +134,9 @@ class Outbox:
     async def start(self) -> None:
         """Opens the store; StoreError."""
         if not self._command:
-            self._book = await self._run(self._open)
+            book: OrderBook = await self._run(self._open)
+            self._say_left(book.left, "this host")
+            self._book = book
             self._looking = self._work.begin(self._look())
 
     async def stop(self) -> None:
@@ -114,10 +148,16 @@ class Outbox:
         await self._work.cancel()
         if self._book is not None:
             await self._run(self._book.close)
-        self._thread.shutdown()
+        self._desk.shut()
 
-    async def _run(self, work: Callable[..., Any], *words: Any) -> Any:
-        return await asyncio.get_running_loop().run_in_executor(self._thread, functools.partial(work, *words))
+    async def _run(self, work: Callable[..., Any], *words: Any, first: bool = False) -> Any:
+        return await asyncio.wrap_future(self._desk.put(functools.partial(work, *words), first))
+
+    def _say_left(self, numbers: Sequence[int], host: str) -> None:
+        """Says which orders a host had in its hands when it died: some of them may be sent a second time."""
+        if numbers:
+            many = f"orders {_ranges(sorted(numbers))} were" if len(numbers) > 1 else f"order {numbers[0]} was"
+            self._say(f"{many} being sent when {host} died: sent again, perhaps a second time")
 
     # ---- waking lines
 
@@ -139,11 +179,11 @@ class Outbox:
         if self._book is not None:
             self._work.begin(self._until_kept(self._book.leave, site.seat))
 
-    async def _until_kept(self, change: Callable[..., None], *words: Any) -> None:
+    async def _until_kept(self, change: Callable[..., None], *words: Any, first: bool = False) -> None:
         """Changes the store, again each second until it holds."""
         while True:
             try:
-                await self._run(change, *words)
+                await self._run(change, *words, first=first)
                 return
             except StoreError as error:
                 self._say_once(f"orders can't be marked: {error}")
@@ -160,6 +200,7 @@ class Outbox:
                 self._told = set(told)
                 due = await self._run(self._book.due)
                 await self._look_at_failed()
+                await self._say_still()
                 self._said = ""
             except StoreError as error:
                 due = []
@@ -168,6 +209,13 @@ class Outbox:
                 for woken in list(self._woken):
                     woken(asked, line)
             await asyncio.sleep(LOOK * max(self._scale, 0.05))
+
+    async def _say_still(self) -> None:
+        """Says to the store now and then that what is in hand still is: a long session keeps its orders."""
+        assert self._book is not None
+        if self._in_hand and time.monotonic() >= self._still + STILL:
+            self._still = time.monotonic()
+            await self._run(self._book.still, sorted(self._in_hand))
 
     async def _look_at_failed(self) -> None:
         assert self._book is not None
@@ -301,6 +349,8 @@ class Outbox:
             if one.state == FAILED:
                 self._say(f"{site.line}: order {one.number} has failed: {one.reason}")
         good = [one for one in placed if one.state != FAILED]
+        for host in {one.left_by for one in good} - {""}:
+            self._say_left([one.number for one in good if one.left_by == host], f"host {host}")
         self._in_hand.update(one.number for one in good)
         return good
 
@@ -331,7 +381,7 @@ class Outbox:
     async def _mark(self, site: Site, numbers: List[int]) -> None:
         """Marks orders as sent. Until that is done nobody sends them again but a host that starts anew."""
         assert self._book is not None
-        await self._until_kept(self._book.sent, site.line, numbers)
+        await self._until_kept(self._book.sent, site.line, numbers, first=True)
         self._in_hand.difference_update(numbers)
         for number in numbers:
             self._lots.pop(number, None)
@@ -365,6 +415,17 @@ class Outbox:
         except StoreError as error:
             self._say_once(f"orders can't be marked: {error}")
         self._in_hand.difference_update(numbers)
+
+
+def _ranges(numbers: Sequence[int]) -> str:
+    """Numbers that rise, those that follow one another as a range."""
+    runs: List[List[int]] = []
+    for number in numbers:
+        if runs and number == runs[-1][-1] + 1:
+            runs[-1] = [runs[-1][0], number]
+        else:
+            runs.append([number])
+    return ", ".join("-".join(map(str, run)) for run in runs)
 
 
 def _beside(site: Site, queries: Sequence[Query], order: Order) -> Tuple[int, List[bytes]]:

@@ -13,8 +13,11 @@ from .order import Order, OrderError, order_of
 
 #: The states of an order. One that is done is kept as sent, with the time when its last result came.
 WAITING, SENT, DONE, FAILED, CANCELLED = STATES = ("waiting", "sent", "done", "failed", "cancelled")
-#: A host that is gone has its orders for so many seconds more: it may only have lost its connection.
-LEFT_AFTER = 30.0
+#: A host that is gone has its orders for so many seconds more: it may only have lost its connection. So often does one
+#: that sends them say that it has them still.
+LEFT_AFTER, STILL = 30.0, 10.0
+#: The reason of an order that a host had in its hands when it died. It stays when the order is sent again.
+PERHAPS = "a host died while it was being sent: an analyzer may have got it before"
 _TABLES = (
     f"""CREATE TABLE IF NOT EXISTS orders (
         number BIGINT PRIMARY KEY, sample TEXT NOT NULL, tests TEXT NOT NULL, line TEXT NOT NULL DEFAULT '',
@@ -61,6 +64,8 @@ class Placed(NamedTuple):
     asked: str = ""
     #: The tests whose results have come.
     came: Tuple[str, ...] = ()
+    #: The host that had it in its hands, and is gone.
+    left_by: str = ""
 
 
 class Asked(NamedTuple):
@@ -122,22 +127,31 @@ class OrderBook:
 
     def __init__(self, store: SqlStore, host: str = "", clock: Callable[[], float] = time.time) -> None:
         self._store, self._host, self._clock = store, host, clock
+        #: The orders that this host had in its hands when it died: they wait again.
+        self.left: List[int] = []
 
     def start(self) -> None:
         """Makes the table if it is missing, and gives back what this host held when it died; StoreError."""
         self._store.join()
         with self._store.changing():
             self._store.lock_numbers()
-            for statement in _TABLES:
+            # To ask for an index that is there would lock the table, and hold up another host's marks.
+            for statement in () if self._store.has("orders_failed") else _TABLES:
                 self._store.run(statement)
             known = self._known()
             for name, kind in _LATER.items():
                 if name not in known:
                     self._store.run(f"ALTER TABLE orders ADD COLUMN {name} {kind}")
             if self._host:
-                self._store.run("UPDATE orders SET holder = '' WHERE holder = ?", (self._host,))
-                self._store.run(f"UPDATE orders SET seat = '' WHERE substr(seat, 1, {len(self._host) + 1}) = ?",
-                                (self._host + "/",))
+                self._take_back_left()
+
+    def _take_back_left(self) -> None:
+        held = f"holder = ? AND state = '{WAITING}'"
+        rows = self._store.run(f"SELECT number FROM orders WHERE {held} ORDER BY number", (self._host,)).fetchall()
+        self.left = [int(number) for (number,) in rows]
+        self._store.run(f"UPDATE orders SET holder = '', reason = ? WHERE {held}", (PERHAPS, self._host))
+        self._store.run(f"UPDATE orders SET seat = '' WHERE substr(seat, 1, {len(self._host) + 1}) = ?",
+                        (self._host + "/",))
 
     def is_there(self) -> bool:
         """Whether there is a table of orders."""
@@ -316,29 +330,39 @@ class OrderBook:
         with self._store.changing():
             free, gone = self._free(now)
             rows = self._store.run(
-                f"SELECT {self._columns()} FROM orders WHERE state = '{WAITING}' AND next_try <= ? AND {free}{skip}"
-                f" AND asked = ? AND seat IN ('', ?) AND line IN ('', ?) ORDER BY {_IN_TURN} LIMIT ?"
+                f"SELECT holder, {self._columns()} FROM orders WHERE state = '{WAITING}' AND next_try <= ? AND {free}"
+                f"{skip} AND asked = ? AND seat IN ('', ?) AND line IN ('', ?) ORDER BY {_IN_TURN} LIMIT ?"
                 f"{self._store.skip_locked}",
                 (now, *gone, *out, place, self._seat(seat), line, most),
             ).fetchall()
-            placed = [_placed(row) for row in rows]
+            placed = [_placed(row)._replace(left_by=holder) for holder, *row in rows]
             for one in placed:
                 if one.state == FAILED:
                     self._store.run(
                         "UPDATE orders SET state = ?, reason = ?, asked = ?, changed = ? WHERE number = ?",
                         (FAILED, one.reason, line, now, one.number),
                     )
-                else:
-                    self._store.run(
-                        "UPDATE orders SET holder = ?, changed = ? WHERE number = ?", (self._host, now, one.number)
-                    )
+            good = [one for one in placed if one.state != FAILED]
+            self._set("reason = ?", (PERHAPS,), [one.number for one in good if one.left_by])
+            self._set("holder = ?, changed = ?", (self._host, now), [one.number for one in good])
         return placed
+
+    def _set(self, what: str, values: Sequence[Any], numbers: Sequence[int], where: str = "") -> None:
+        """Changes orders by their numbers, all of a lot by one statement."""
+        for start in range(0, len(numbers), LOT):
+            some = numbers[start : start + LOT]
+            words = f"UPDATE orders SET {what} WHERE number IN ({', '.join('?' * len(some))})"
+            self._store.run(f"{words} AND state = '{WAITING}'{where}", (*values, *some))
+
+    def still(self, numbers: Sequence[int]) -> None:
+        """Orders that were taken are being sent still: no other host takes them, even if this one lost its name."""
+        with self._store.changing():
+            self._set("changed = ?", (self._clock(),), numbers)
 
     def give_back(self, numbers: Sequence[int]) -> None:
         """Orders that were taken wait again, as if they hadn't been."""
         with self._store.changing():
-            for number in numbers:
-                self._store.run(f"UPDATE orders SET holder = '' WHERE number = ? AND state = '{WAITING}'", (number,))
+            self._set("holder = ''", (), numbers)
 
     def _free(self, now: float) -> Tuple[str, List[Any]]:
         """The condition of orders that no host has, or one that is gone for a while."""
@@ -352,20 +376,23 @@ class OrderBook:
 
     def due(self) -> List[Tuple[str, str]]:
         """Where orders are to be sent now: the places that asked, and the lines of those that nobody asked for."""
+        now = self._clock()
         rows = self._store.read(
-            f"SELECT DISTINCT asked, line FROM orders WHERE state = '{WAITING}' AND next_try <= ?", (self._clock(),)
+            f"SELECT DISTINCT asked, line FROM orders WHERE state = '{WAITING}' AND next_try <= ?"
+            " AND (holder = '' OR changed < ?)",
+            (now, now - LEFT_AFTER),
         )
         return [(asked, line) for asked, line in rows]
 
     def sent(self, line: str, numbers: Sequence[int]) -> None:
         """Orders are sent on a line: each frame of theirs was acknowledged, in a session that is done."""
+        reason = "reason = CASE WHEN reason = ? THEN reason ELSE '' END"
         with self._store.changing():
-            for number in numbers:
-                self._store.run(
-                    "UPDATE orders SET state = ?, reason = '', holder = '', asked = '', seat = '', sent_on = ?,"
-                    f" changed = ? WHERE number = ? AND state = '{WAITING}'",
-                    (SENT, line, self._clock(), number),
-                )
+            self._set(
+                f"state = ?, {reason}, holder = '', asked = '', seat = '', sent_on = ?, changed = ?",
+                (SENT, PERHAPS, line, self._clock()),
+                numbers,
+            )
 
     def results(self, line: str, sample: str, tests: Collection[str]) -> None:
         """Results of these tests of a sample came on a line: an order that was sent is done once each of its tests has
@@ -398,12 +425,12 @@ class OrderBook:
                 tries = int(before) + 1
                 state = FAILED if 0 < most <= tries else WAITING
                 asked = line if state == FAILED else asked
-                self._store.run(
+                done = self._store.run(
                     "UPDATE orders SET state = ?, reason = ?, tries = ?, holder = '', changed = ?, next_try = ?,"
-                    f" asked = ? WHERE number = ? AND state = '{WAITING}'",
-                    (state, why, tries, now, now + wait, asked, number),
+                    f" asked = ? WHERE number = ? AND state = '{WAITING}' AND holder IN ('', ?)",
+                    (state, why, tries, now, now + wait, asked, number, self._host),
                 )
-                failed += [number] if state == FAILED else []
+                failed += [number] if state == FAILED and done.rowcount else []
         return failed
 
     def close(self) -> None:

@@ -60,7 +60,7 @@ def told(placed: Placed) -> str:
     """An order in a line: its number, sample, line and tests; then its state, if it isn't new."""
     order = placed.order
     words = f"order {placed.number} {order.sample} {order.line or '-'} {','.join(order.tests)}"
-    if placed.state == "waiting" and not placed.tries:
+    if placed.state == "waiting" and not placed.reason:
         return words
     at = time.strftime("%Y-%m-%d %H:%M:%S", time.localtime(placed.changed))
     where = f" on {placed.asked}:" if placed.state == FAILED and placed.asked not in ("", order.line) else ""
