@@ -14,6 +14,7 @@
     late          a reply goes out however old it is
     growing       each text stays in memory
     open          the store can be read by everybody
+    asleep        the machine was suspended for as many seconds as the file LISLAB_ASLEEP says
 """
 import os
 import random
@@ -21,7 +22,7 @@ import sys
 import time
 
 from lislink import cli
-from lislink.host import deliver, intake, line, sql, sqlite, store
+from lislink.host import asleep, deliver, intake, line, sql, sqlite, store
 
 
 def failing_commits(share, why="the disk is full, as the test has it"):
@@ -132,6 +133,19 @@ def is_open():
     sqlite.private = lambda path: None
 
 
+def suspended():
+    """Has a clock that a test sets."""
+
+    def drift():
+        try:
+            with open(os.environ["LISLAB_ASLEEP"], encoding="ascii") as file:
+                return float(file.read() or 0)
+        except FileNotFoundError:
+            return 0.0
+
+    asleep._drift = drift
+
+
 FAULTS = {
     "commit": lambda: failing_commits(0.1),
     "full": lambda: failing_commits(1.0),
@@ -147,6 +161,7 @@ FAULTS = {
     "late": late,
     "growing": growing,
     "open": is_open,
+    "asleep": suspended,
 }
 
 if __name__ == "__main__":

@@ -96,7 +96,9 @@ FAULTS = {
         "    finally:\n        os.replace(made, whole)\n    if not path:",
     ),
     "test_files.Whole.test_short_writes": Edit("host/files.py", "left = left[count:]", 'left = left[:0]'),
-    "test_intake.Streams.test_what_is_held": Edit("host/intake.py", " or more > self._left:", ":"),
+    "test_intake.Streams.test_what_is_held": Edit(
+        "host/intake.py", "        if wants - has > self._left:\n            return None\n", ""
+    ),
     "test_intake.Streams.test_places": Edit("host/intake.py", "place = one.ended + error.place", "place = error.place"),
     "test_intake.Streams.test_random_streams": Edit(
         "host/intake.py",
@@ -129,6 +131,18 @@ FAULTS = {
         'self._ended.update(ended)\n            raise StoreError(f"{self.folder}: {error}") from None',
         "self._ended.update(ended)",
     ),
+    "test_late.Late.test_a_new_line": Edit(
+        "host/duplex.py", "if self._site.is_anew and waits and self", "if False and waits and self"
+    ),
+    "test_late.Late.test_the_same_line": Edit("host/serve.py", "Serial) and not place.waits:", "Serial) and place.waits:"),
+    "test_late.Late.test_a_serial_line": Edit("host/duplex.py", "return max(float(seconds), QUIET - since)", "return seconds"),
+    "test_late.Suspended.test_lines_are_taken_anew": Edit(
+        "host/line.py", "(self._is_cut or not self._is_busy())", "not self._is_busy()"
+    ),
+    "test_late.Suspended.test_a_reply_that_was_asleep": Edit(
+        "host/line.py", "- arrived + self.asleep.seconds()", "- arrived"
+    ),
+    "test_late.Suspended.test_clocks": Edit("host/asleep.py", "            self._noted = self._drift()\n", "            pass\n"),
     "test_lines.Lines.test_cuts": Edit(
         "host/line.py", "self._receiver.hear_placed(heard.data)", "self._receiver.hear_placed(heard.data[:64])"
     ),
@@ -160,7 +174,7 @@ FAULTS = {
         "host/line.py", "        if self._is_through():\n            return True\n        if self._pieces", "        if self._pieces"
     ),
     "test_lines.Lines.test_stop": Edit(
-        "host/line.py", "return self._stopping and not self._is_busy()", "return self._stopping"
+        "host/line.py", "return self._stopping and (self._is_cut or not self._is_busy())", "return self._stopping"
     ),
     "test_lines.Lines.test_capture": Edit(
         "host/line.py", 'self._tape.bytes("<", data)', 'self._tape.bytes("<", b"")'
@@ -433,9 +447,13 @@ FAULTS = {
     ),
     "test_turns.Turns.test_sqlite": Edit(
         "host/line.py",
-        "        if time.thread_time() > self._over:\n            await",
-        "        if not self._over:\n            await",
+        "        if self._share.is_over():\n            self._pause",
+        "        if not self._share:\n            self._pause",
     ),
+    "test_turns.Turns.test_who_works_now_and_then": Edit(
+        "host/turns.py", "max(self._turns.had, self._had) + now", "self._turns.had + now"
+    ),
+    "test_turns.Turns.test_room_for_texts": Edit("host/line.py", "self._has_room(has is not None)", "self._has_room(True)"),
     "test_status.Status.test_running": Edit(
         "host/status.py", "return not store.held_to_the_end and ", "return "
     ),
@@ -494,6 +512,9 @@ FAULTS = {
     ),
     "test_watch_page.Looks.test_tally": Edit(
         "watch/tally.py", "self._number = found[-1].number", "self._number = found[0].number"
+    ),
+    "test_watch_page.Looks.test_without_a_token": Edit(
+        "watch/web.py", "if not is_wanted and path in OPEN:", "if not is_wanted:"
     ),
     "test_watch_page.Looks.test_who_may_look": Edit(
         "watch/web.py", "hmac.compare_digest(found, token.encode())", "bool(found)"

@@ -65,7 +65,7 @@ FAULTS = {
         "elif self._station.phase in (Phase.BUSY, Phase.CONTENTION):\n            self._station.give_up()",
     ),
     "test_orders.Answers.test_a_busy_analyzer": (
-        "host/duplex.py", "return self._station.seconds", "return self._station.seconds and 1"
+        "host/duplex.py", "seconds = self._station.seconds", "seconds = self._station.seconds and 1"
     ),
     "test_orders.Answers.test_a_line_that_is_pulled": (
         "host/duplex.py",
@@ -119,8 +119,8 @@ FAULTS = {
         "host/asker.py", "(one for one in tests if one in known)", "(one for one in tests if one not in known)"
     ),
     "test_orders.Fire.test_kills": (
-        "host/duplex.py", "        self._sending, self._busy = batch, 0\n",
-        "        self._sending, self._busy = batch, 0\n        self._outbox.sent(self._site, batch)\n",
+        "host/duplex.py", "        self._sending, self._phase = batch, self._station.phase\n",
+        "        self._sending, self._phase = batch, self._station.phase\n        self._outbox.sent(self._site, batch)\n",
     ),
     "test_orders.Fire.test_late_and_noisy": (
         "host/duplex.py", "if outcome is Outcome.DONE:", "if outcome is not Outcome.NONE:"
@@ -152,7 +152,7 @@ FAULTS = {
         "orders/book.py", "held = f\"holder = ? AND", "held = f\"holder <> ? AND"
     ),
     "test_orders_postgres.PostgresBooks.test_two_hosts_are_killed": (
-        "host/duplex.py", "        self._sending, self._busy = batch, 0\n",
-        "        self._sending, self._busy = batch, 0\n        self._outbox.sent(self._site, batch)\n",
+        "host/duplex.py", "        self._sending, self._phase = batch, self._station.phase\n",
+        "        self._sending, self._phase = batch, self._station.phase\n        self._outbox.sent(self._site, batch)\n",
     ),
 }

@@ -125,7 +125,7 @@ class Said(HostTest):
         self.same("what is said", said, [f"{look}, {at_last}" for look in (UTF_8, NOT_LATIN)])
         data = json.loads(lislab("status", "--store", host.store, "--json").stdout)
         self.same("counted", data["notices"]["fire"][LETTERS], 2)
-        for text in ("“Zoë”, 病人^\r".encode(name) for name in ("utf-8", "gbk")):
+        for text in ("“Zo”, 病人^\r".encode(name) for name in ("utf-8", "gbk")):
             for first in range(len(text) + 1):
                 for second in range(first, len(text) + 1):
                     letters = Letters()

@@ -12,7 +12,6 @@ import unittest.mock
 from collections import Counter
 
 from lislink.host.duplex import TwoWayLine
-from lislink.host.line import Turns
 from lislink.host.options import Limits
 from lislink.host.outbox import Batch, Desk, Outbox, Site
 from lislink.host.store import open_store

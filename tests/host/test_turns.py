@@ -3,12 +3,14 @@ import asyncio
 import threading
 import time
 import unittest.mock
+from collections import Counter
 
 from lislink import frame_bytes
+from lislink.host import serve, turns as turn
 from lislink.host.commits import Committer
 from lislink.link import LONG_FRAME_TEXT
-from tests.host.hosts import Host, HostTest
-from tests.host.test_lines import ACK, ENQ, TEXTS, Client
+from tests.host.hosts import Host, HostTest, wait_for
+from tests.host.test_lines import ACK, ENQ, NAK, TEXTS, Client
 
 #: The longest text.
 MOST = 1 << 20
@@ -84,6 +86,69 @@ class Turns(HostTest):
         asyncio.run(keep())
         rest = [["text 0"], ["text 1"], ["text 2"], ["part 0"]], [["part 1"]], [["part 2"]]
         self.same("commits", commits, [[["first"]], *rest])
+
+    def test_who_works_now_and_then(self):
+        """120 lines have work all the time, and share it; one that works now and then waits for none of them, and they
+        have a little of each turn of the loop."""
+        worked, done, over, waits, loops = [0.0], Counter(), [], [], [0]
+        turns = turn.Turns(lambda: worked[0])
+
+        async def busy(name):
+            share = turn.Share(turns)
+            while not over:
+                share.goes_on()
+                worked[0] += 0.0007
+                done[name] += 1
+                await (share.wait() if share.is_over() else asyncio.sleep(0))
+
+        async def calm():
+            share = turn.Share(turns)
+            for _ in range(20):
+                for _ in range(400):
+                    loops[0] += 1
+                    await asyncio.sleep(0)
+                before = sum(done.values())
+                share.goes_on()
+                worked[0] += 0.0007
+                if share.is_over():
+                    await share.wait()
+                waits.append(sum(done.values()) - before)
+            over.append(True)
+
+        async def all_of_them():
+            await asyncio.gather(calm(), *map(busy, range(120)))
+
+        asyncio.run(all_of_them())
+        self.same("it waits for", set(waits), {0})
+        self.true("each as much", max(done.values()) - min(done.values()) <= 20, done)
+        self.true("a little of each turn", 0 < sum(done.values()) <= 4 * turn.AT_ONCE * loops[0], (done, loops))
+
+    def test_room_for_texts(self):
+        """Long texts that aren't complete have some room together: for a frame that finds none there is NAK, also in the
+        end; when others are gone, there is room again."""
+        host = Host(self.path("room.db"), "--listen", "0,name=long,frame=63993", "--listen",
+                    "0,name=asks,orders=ask,frame=63993", scale=1.0)
+        ports = {row.split()[2]: int(row.split()[1].rsplit(":", 1)[1]) for row in host.rows if row.startswith("listen")}
+        part, most = b"y" * LONG_FRAME_TEXT, serve.TEXTS // (15 * LONG_FRAME_TEXT)
+        units = [frame_bytes(number % 8, False, part, frame_limit=LONG_FRAME_TEXT) for number in range(1, 16)]
+        lines = [Client(ports["long"]) for _ in range(most + 10)]
+        replies = [b"".join(one.asks(unit) for unit in (ENQ, *units)) for one in lines]
+        self.same("taken", replies[:most], [ACK * 16] * most)
+        self.same("taken in part", [one[:1] + one[-1:] for one in replies[most + 3 :]], [ACK + NAK] * 7)
+        self.has("said", host.says(), "NO_ROOM")
+        with Client(host.port) as short, Client(ports["asks"]) as asks:
+            self.true("a short text", short.whole(TEXTS))
+            self.true("a short one where the host asks", asks.whole(TEXTS))
+            self.same("a long one where the host asks", [asks.asks(unit, seconds=1) for unit in (ENQ, *units[:3])][-1], b"")
+        for one in lines[:most]:
+            one.socket.close()
+
+        def is_room():
+            with Client(ports["long"]) as last:
+                return b"".join(last.asks(unit) for unit in (ENQ, *units)) == ACK * 16
+
+        self.true("room again", wait_for(is_room))
+        host.kill()
 
     def is_shared(self, name, store, text, share):
         """Whether others are answered while a text is kept; tried again if not."""

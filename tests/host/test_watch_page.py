@@ -153,9 +153,9 @@ class Looks(HostTest):
         self.addCleanup(one.close)
         return one
 
-    def test_who_may_look(self):
-        """Pages are read, on a loopback address and by its name; with a token only by who has it."""
-        store = self.path("who.db")
+    def test_without_a_token(self):
+        """On a loopback address and by its name states and metrics are read; what records say isn't."""
+        store = self.path("without.db")
         fill(store, "chemistry", [whole("a")])
         site = self.site(store, token="")
         status, heads, _ = site.get("/")
@@ -175,6 +175,12 @@ class Looks(HostTest):
             self.same(f"{path} without a token", site.get(path)[0], 403)
         self.same("metrics", site.get("/metrics")[0], 200)
         self.same("too many words", site.get("/?" + "&".join(f"a{at}=1" for at in range(20)))[0], 400)
+
+    def test_who_may_look(self):
+        """With a token what records say is read by who has it alone."""
+        store = self.path("who.db")
+        fill(store, "chemistry", [whole("a")])
+        key = tally.each(store, lambda one: tally.last_heads(one, "chemistry"))[0].key
         site = self.site(store)
         for path in ("/x", "/../etc/passwd", "//etc/passwd", "/line?name=x", "/message?key=x", "/line"):
             self.same(path, site.get(path)[0], 404)

@@ -94,8 +94,8 @@ def _scale(parser: argparse.ArgumentParser) -> None:
 def _add_serve(one: argparse.ArgumentParser) -> None:
     _store(one)
     for name, where, what in (
-        ("--listen", f"HOST:PORT{_SETTINGS}[,telnet=yes]", "a TCP port; HOST is 127.0.0.1 if it isn't named"),
-        ("--connect", f"HOST:PORT{_SETTINGS}[,telnet=yes]", "a TCP port to connect to, of what listens there"),
+        ("--listen", f"HOST:PORT{_SETTINGS}[,telnet=yes][,waits=..]", "a TCP port; HOST is 127.0.0.1 if it isn't named"),
+        ("--connect", f"HOST:PORT{_SETTINGS}[,telnet=yes][,waits=..]", "a TCP port to connect to, of what listens there"),
         ("--serial", f"DEVICE:SPEED{_SETTINGS}[,mode=8N1][,flow=..]", "a serial line"),
     ):
         one.add_argument(name, action="append", default=[], metavar=where, help=what)

@@ -24,6 +24,8 @@ PIECE, MOST_SAMPLES = 1024, 1000
 #: So many NAKs to its ENQ end a session, and so many times that the other end asked too and then sent nothing.
 BUSY = 6
 _REPLIES = (b"\x04", b"\x06", b"\x15")
+#: The phases after which ENQ goes out again.
+_WAITS = (Phase.BUSY, Phase.CONTENTION)
 #: Why a session of the host's own failed.
 _WHY = {Outcome.TIMED_OUT: "no reply came in time", Outcome.SIX_TRIES: "a frame was rejected six times"}
 _OVER = (Note.OPENED, Note.NOT_READY, Note.ENDED, Note.TIMED_OUT)
@@ -103,6 +105,8 @@ class TwoWayLine(Line):
         self._look_ups = asyncio.Lock()
         if not self.is_tcp:  # a reply to the host that was here before may still be on its way
             self._quiet()
+        #: When the host sent something of its own last.
+        self._asked = self._loop.time()
         #: Whether a session of the host's own had no reply, and nothing came since; whether anything ever came.
         self._unanswered = self._has_heard = False
         outbox.wakes(self._woken)
@@ -118,7 +122,19 @@ class TwoWayLine(Line):
         self._quiet()
 
     def _seconds(self) -> Optional[float]:
-        return self._station.seconds
+        seconds = self._station.seconds
+        if self.is_tcp or seconds is None or self._station.phase not in _WAITS or self._station.is_open:
+            return seconds
+        # On a serial line ENQ goes out again once no late reply to the last one can come.
+        since = (self._loop.time() - self._asked) / self._limits.scale
+        return max(float(seconds), QUIET - since)
+
+    def _held(self) -> int:
+        return self._station.held
+
+    def _has_room(self, is_there: bool) -> None:
+        if not is_there and self._station.is_open:
+            self._restart("there was no room for a long text")
 
     def _end(self) -> None:
         self._outbox.forget(self._site, self._woken)
@@ -140,7 +156,22 @@ class TwoWayLine(Line):
     # ---- what comes
 
     async def _timed(self, now: float) -> None:
-        await self._meant(self._station.timer(), 0, now)
+        waits = self._station.phase in _WAITS and not self._station.is_open
+        if self._site.is_anew and waits and self._station.needs_new_line:
+            self._put_off()
+        else:
+            await self._meant(self._station.timer(), 0, now)
+            self._look_at_room()
+
+    def _put_off(self) -> None:
+        """ENQ would go out again, and a reply to the last one may come late: it goes out on the next connection."""
+        batch, self._sending = self._sending, None
+        self._station.give_up()
+        self._outbox.put_off[self._site.place] = self._busy, self._contended
+        if batch is not None:
+            self._outbox.unsent(self._site, batch)
+        self.stop("for a new connection, on which the host asks again")
+        self._set_timer()
 
     async def _heard(self, data: bytes, arrived: float) -> None:
         self._note_late(data)
@@ -161,6 +192,7 @@ class TwoWayLine(Line):
                 self._asking.over()
             self._contended = 0
         elif answer.send:
+            self._asked = self._loop.time()
             self._send(answer.send)
         elif self._station.phase is Phase.BUSY:
             self._asked_in_vain()
@@ -256,7 +288,7 @@ class TwoWayLine(Line):
             task.cancel()
         back = [batch for batch in self._ready if batch.is_answer]
         self._ready = deque(batch for batch in self._ready if not batch.is_answer)
-        waits = self._station.phase in (Phase.BUSY, Phase.CONTENTION)
+        waits = self._station.phase in _WAITS
         if self._sending is not None and self._sending.is_answer and waits:
             self._station.give_up()
             back.append(self._sending)
@@ -290,9 +322,10 @@ class TwoWayLine(Line):
         except LinkError as error:
             self._outbox.failed(self._site, batch, str(error))
             return
-        self._sending, self._busy = batch, 0
-        self._contended, self._phase = 0, self._station.phase
+        self._sending, self._phase = batch, self._station.phase
+        self._busy, self._contended = self._outbox.put_off.pop(self._site.place, (0, 0))
         self._counts["own_sessions"] += 1
+        self._asked = self._loop.time()
         self._send(out)
         self._set_timer()
 
@@ -310,6 +343,9 @@ class TwoWayLine(Line):
         if BUSY in (self._busy, self._contended):
             both = "the analyzer asks for the line, too, and sends nothing"
             self._over_in_vain("the analyzer is busy" if self._busy >= BUSY else both)
+            self._quiet()
+            if self._site.is_anew:
+                self.stop("since a session of the host's own failed")
             return
         self._over_in_vain(_WHY.get(outcome, f"the session ended as {outcome.name}"), outcome is Outcome.SIX_TRIES)
         self._unanswered = outcome is Outcome.TIMED_OUT

@@ -29,24 +29,37 @@ class TooLong(Exception):
     """A message has more bytes than the line takes."""
 
 
+class Pool:
+    """So many bytes for all lines of a host, besides the first ones of each, which it has for itself."""
+
+    def __init__(self, most: int) -> None:
+        self._left = most
+
+    def taken(self, has: int, size: int) -> Optional[int]:
+        """What somebody has of it now who had `has` and holds so many bytes; None if there is no room for them."""
+        wants = max(0, size - FIRST)
+        if wants - has > self._left:
+            return None
+        self._left -= wants - has
+        return wants
+
+
 class Held:
     """How many bytes of messages that aren't whole yet the lines of a host may hold: the first ones of each message,
     and of longer ones up to `most` of one and `all_lines` of all."""
 
     def __init__(self, most: int, all_lines: int = 0) -> None:
-        self.most, self._left = most, all_lines or most
+        self.most, self._pool = most, Pool(all_lines or most)
 
     def takes(self, one: "_Message") -> bool:
         """Whether a message may be held as long as it is now."""
-        more = max(0, len(one.body or b"") - FIRST) - one.held
-        if one.size > self.most or more > self._left:
-            return False
-        one.held, self._left = one.held + more, self._left - more
-        return True
+        has = self._pool.taken(one.held, len(one.body or b"")) if one.size <= self.most else None
+        one.held = one.held if has is None else has
+        return has is not None
 
     def drop(self, one: "_Message") -> None:
         """A message is held no more."""
-        self._left, one.held, one.body = self._left + one.held, 0, None
+        one.held, one.body = self._pool.taken(one.held, 0) or 0, None
 
 
 class _Message:

@@ -2,26 +2,26 @@
 what is answered; this module decides when an answer goes out: after its text is kept, and never late."""
 import asyncio
 import functools
-import time
 from collections import Counter, deque
 from typing import Callable, Deque, Dict, List, Optional, Sequence, Tuple
 
 from ..codes import Note
 from ..link import RECEIVER, Receiver, Step
 from ..watch.pulse import Probe
+from .asleep import Asleep
 from .commits import Committer
 from .feeds import AsItComes, LineFeeds
-from .intake import Intake, TooLong
+from .intake import FIRST, Intake, Pool, TooLong
 from .mend import LINE_FEEDS, Ended
 from .mender import Bodies, Mender, is_mended
 from .notices import CODES, CONNECTION, LETTERS, MESSAGE, REJECTED, REPLY
 from .options import Limits
 from .store import MENDED, WHOLE, Add, Change, End, StoreError
+from .turns import Share, Turns
 
-#: How many bytes may wait to be heard before the line is read no further; for how many seconds one line is heard,
-#: whatever pieces its bytes come in, before the others have their turn, and for how many they have it; how many bytes of
-#: a long text are kept in one row.
-WAITING, HEARS, TURN, TOGETHER = 1 << 16, 0.002, 0.005, 1 << 14
+#: How many bytes may wait to be heard before the line is read no further; how many bytes of a long text are kept in one
+#: row.
+WAITING, TOGETHER = 1 << 16, 1 << 14
 #: EOT after so many seconds without a frame is that of an analyzer that heard no reply.
 BROKEN = 10.0
 #: What ends a session, and what that makes of a message without its L record.
@@ -79,21 +79,11 @@ class Wire:
         """Reads on."""
 
 
-class Turns:
-    """Lines with much work go on one after another, with a pause in which the others, and the thread that commits, have
-    as long a turn."""
-
-    def __init__(self) -> None:
-        self._next = asyncio.Lock()
-
-    async def wait(self) -> None:
-        """Done when it is a line's turn again."""
-        async with self._next:
-            await asyncio.sleep(TURN)
-
-
 class Line:
     """A line that is connected."""
+
+    #: Whether the machine was suspended, and nobody took note of it yet; the room for texts that aren't complete.
+    asleep, room = Asleep(), Pool(1 << 40)
 
     def __init__(
         self,
@@ -114,20 +104,22 @@ class Line:
         #: Whether the last frame was taken, and when a reply went out last.
         self._is_taken, self._replied = False, 0.0
         self._wire, self._intake, self._committer, self._limits = wire, intake, committer, limits
-        self._counts, self._say, self._turns = counts, say, turns
+        self._counts, self._say, self._share = counts, say, Share(turns)
         self._tape = self._watch = self._probe = probe
         self._feeds = self._feeds_of(frame)
         self._loop = asyncio.get_running_loop()
         self._begin(frame)
         self._pieces: Deque[Tuple[float, bytes]] = deque()
         self._size, self._paused_at = 0, None  # type: int, Optional[float]
+        #: When it was read last, and until when what is read may have come since it was read before a pause.
+        self._read_at = self._old_until = self._old = self._loop.time()
         self._due: Optional[float] = None
         #: When bytes came last, by the loop's clock; whether there was a session.
         self.last_byte = self._loop.time()
         self.had_session = False
-        #: When its turn is over, by the time that this thread works, and whether a text is kept in parts.
-        self._over, self._is_long = 0.0, False
-        self._lost = self._stopping = False
+        #: Whether a text is kept in parts; how much of the room for texts it has.
+        self._is_long, self._has = False, 0
+        self._lost = self._stopping = self._is_cut = False
         #: Why the line is closed, once that is known.
         self._closed = ""
         self._waiter: "Optional[asyncio.Future[None]]" = None
@@ -159,11 +151,20 @@ class Line:
     def _end(self) -> None:
         self._receiver.close()
 
+    def _held(self) -> int:
+        """How many bytes of a text are held that isn't complete."""
+        return self._receiver.held
+
+    def _has_room(self, is_there: bool) -> None:
+        """Takes no more of a text for which there is no room."""
+        self._receiver.set_room(is_there)
+
     async def _timed(self, now: float) -> None:
         """The timer's time is over."""
         step = self._receiver.timer()
         self._watch.step(0, step)
         await self._step(step, now)
+        self._look_at_room()
 
     async def _heard(self, data: bytes, arrived: float) -> None:
         for heard in self._feeds.take(data):
@@ -188,12 +189,20 @@ class Line:
         """Bytes came, not before this time of the loop's clock."""
         if self._paused_at is not None:
             arrived = min(arrived, self._paused_at)
+        elif arrived <= self._old_until:
+            arrived = min(arrived, self._old)
+        self._read_at = self._loop.time()
         self._pieces.append((arrived, data))
         self._size += len(data)
-        if self._size > WAITING and self._paused_at is None:
-            self._paused_at = arrived
-            self._wire.pause()
+        if self._size > WAITING:
+            self._pause(arrived)
         self._wake()
+
+    def _pause(self, since: float) -> None:
+        """Reads no further for now: what is read next may have come from this time on."""
+        if self._paused_at is None:
+            self._paused_at = since
+            self._wire.pause()
 
     def lost(self, why: str = "by the other end") -> None:
         """The line is gone: what came is still heard."""
@@ -204,6 +213,12 @@ class Line:
         """Closes the line as soon as no session goes on."""
         self._stopping, self._closed = True, self._closed or why
         self._wake()
+
+    def cut(self, why: str) -> None:
+        """Closes the line now, also within a session: what came and isn't answered yet is too old."""
+        self._pieces.clear()
+        self._size, self._is_cut = 0, True
+        self.stop(why)
 
     def give_way(self) -> None:
         """Closes a line that has had no session for another one."""
@@ -251,7 +266,8 @@ class Line:
             raise
         finally:
             self._lost = True
-            self._drop(why)
+            self._drop(f"the line was closed {self._closed}" if self._is_cut else why)
+            self.room.taken(self._has, 0)
             self._watch.over()
             self._end()
             came = f"bytes {self._watch.heard}, sessions {self._watch.sessions}"
@@ -261,7 +277,7 @@ class Line:
 
     def _is_through(self) -> bool:
         """Whether the line is to be closed and no session goes on: what came since, as ENQ, is heard by nobody."""
-        return self._stopping and not self._is_busy()
+        return self._stopping and (self._is_cut or not self._is_busy())
 
     async def _nothing_left(self) -> bool:
         """Waits until there is something to do; whether the line is over."""
@@ -270,7 +286,7 @@ class Line:
         if self._pieces:
             return False
         if self._paused_at is not None:
-            self._paused_at = None
+            self._old, self._old_until, self._paused_at = self._paused_at, self._loop.time(), None
             self._wire.resume()
         if self._lost:
             return True
@@ -283,7 +299,7 @@ class Line:
         finally:
             alarm.cancel()
             self._waiter = None
-        self._over = time.thread_time() + HEARS
+        self._share.goes_on()
         return self._is_through() or (self._lost and not self._pieces)
 
     async def _timer(self, now: float) -> None:
@@ -294,12 +310,22 @@ class Line:
         self._tape.bytes(">", data)
         self._watch.hears(data)
         await self._heard(data, arrived)
+        self._look_at_room()
+
+    def _look_at_room(self) -> None:
+        """Takes room for the text that is open. What all lines hold over the first bytes of each is limited."""
+        held = self._held()
+        if held <= FIRST and not self._has:
+            return
+        has = self.room.taken(self._has, held)
+        self._has_room(has is not None)
+        self._has = self._has if has is None else has
 
     async def _take_turns(self) -> None:
-        """Lets the others have their turn, if this line has had its own."""
-        if time.thread_time() > self._over:
-            await self._turns.wait()
-            self._over = time.thread_time() + HEARS
+        """Lets the others have their turn, if this line has had more than they."""
+        if self._share.is_over():
+            self._pause(self._read_at)
+            await self._share.wait()
 
     async def _step(self, step: Step, arrived: float) -> None:
         self.had_session = self.had_session or step.note is Note.OPENED
@@ -321,7 +347,10 @@ class Line:
 
     def _answer(self, reply: bytes, arrived: float) -> bool:
         """Sends a reply, if its sender may still be waiting for it."""
-        age = self._loop.time() - arrived
+        if self._is_cut:
+            self._restart(self._closed)
+            return False
+        age = self._loop.time() - arrived + self.asleep.seconds()
         if age > self._limits.reply * self._limits.scale:
             self._counts["late"] += 1
             byte = f"byte {self._watch.at} of the connection"
@@ -377,16 +406,18 @@ class Line:
         if self._intake.bodies:
             bodies, self._intake.bodies = self._intake.bodies, {}
             changes = await self._mender.of_all(changes, bodies, True, self._tries)
-            self._over = time.thread_time() + HEARS
+            self._share.goes_on()
             self._intake.also(is_mended(changes))
         return changes
 
     async def _put(self, part: Sequence[Change]) -> None:
         if any(isinstance(one, End) and one.state == WHOLE for one in part):
             await self._mender.order.over()  # nothing overtakes what is made of an earlier message
+        self._share.rests()
         await self._committer.put(part, self._is_long)
-        self._over = time.thread_time() + HEARS  # the others had theirs
+        self._share.goes_on()
         self._intake.kept()
+        await self._take_turns()
         self._note_ends(part)
 
     def _note_ends(self, changes: Sequence[Change]) -> None:
@@ -432,6 +463,7 @@ class Line:
         self._tape.event("R")
         self._watch.session_over()
         self._drop(reason)
+        self._look_at_room()
 
     def _drop(self, reason: str, is_over: bool = False) -> None:
         """No more comes of the message that goes on; whether the analyzer ended it so."""
@@ -462,14 +494,15 @@ class Ticks:
     before. What a turn of the loop reads was not there in the turn before it, and that turn began after the last tick
     but one. So `before`, the time of that tick, is early enough, however long the host was stopped."""
 
-    def __init__(self, period: float) -> None:
-        self._loop, self._period = asyncio.get_running_loop(), period
+    def __init__(self, period: float, look: Callable[[], None] = lambda: None) -> None:
+        self._loop, self._period, self._look = asyncio.get_running_loop(), period, look
         self._last = self.before = self._loop.time()
         self._handle = self._loop.call_later(period, self._tick)
 
     def _tick(self) -> None:
         self.before, self._last = self._last, self._loop.time()
         self._handle = self._loop.call_later(self._period, self._tick)
+        self._look()
 
     def stop(self) -> None:
         """Ends the ticks."""

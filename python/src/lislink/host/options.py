@@ -22,6 +22,8 @@ _SAMPLE = re.compile(r"(?:O\.[34]|P\.[345])(?:\.[1-9]\d?)?$|none$")
 LETTERS, TWICE = ("quarantine", "mark"), ("quarantine", "deliver")
 #: The links of a line: the standard's, and records between STX and ETX with no number and no checksum.
 LINKS = ("lis01", "plain")
+#: Where ENQ goes out again after NAK or ENQ in reply to the host's own: on the same connection, or on a new one.
+WAITS = ("same-line", "new-line")
 #: What is mended on each line, whatever it names; the names of the other mends, and one that means the same as another.
 ALWAYS = frozenset(("long",))
 NAMES, SAME = tuple(name for name in CHANGES if name not in ALWAYS), {"escape": "bytes"}
@@ -47,6 +49,7 @@ class Listen(NamedTuple):
     mend: Tuple[str, ...] = ()
     link: str = ""
     telnet: str = ""
+    waits: str = ""
     codes: str = ""
     sample: str = ""
     test: str = ""
@@ -69,6 +72,7 @@ class Connect(NamedTuple):
     mend: Tuple[str, ...] = ()
     link: str = ""
     telnet: str = ""
+    waits: str = ""
     codes: str = ""
     sample: str = ""
     test: str = ""
@@ -188,6 +192,12 @@ def _link(word: str) -> str:
     return "" if word == LINKS[0] else word
 
 
+def _waits(word: str) -> str:
+    if word not in WAITS:
+        raise OptionError(f"ENQ goes out again on the {' or '.join(WAITS)}, not {word}")
+    return "" if word == WAITS[0] else word
+
+
 def _telnet(word: str) -> str:
     if word not in ("yes", "no"):
         raise OptionError(f"telnet is yes or no, not {word}")
@@ -234,6 +244,7 @@ READS: Dict[str, Callable[[str], Any]] = {
     "mend": _mend,
     "link": _link,
     "telnet": _telnet,
+    "waits": _waits,
     "codes": str,
     "sample": _sample,
     "test": _test,
@@ -244,7 +255,7 @@ READS: Dict[str, Callable[[str], Any]] = {
 #: The settings that only a file of lines has: what a line's records mean, and how its queries are read.
 OF_FILES = ("codes", "sample", "test", "zone", "letters", "twice", *asks.READS)
 _WORDS = ("frame", "encoding", "orders", "none", "mend", "link")
-TCP_WORDS, SERIAL_WORDS = (*_WORDS, "telnet"), ("mode", "flow", *_WORDS)
+TCP_WORDS, SERIAL_WORDS = (*_WORDS, "telnet", "waits"), ("mode", "flow", *_WORDS)
 
 
 def read_setting(key: str, word: str) -> Any:
@@ -277,6 +288,8 @@ def check_settings(place: Place) -> None:
     """Settings that don't go together."""
     if place.link and place.orders:
         raise OptionError(f"a line with link={place.link} sends no orders: its sessions have no station")
+    if getattr(place, "waits", "") and not place.orders:
+        raise OptionError("waits: a line on which the host asks has orders = ask or send")
     if place.asks != Asks() and not place.orders:
         raise OptionError(f"{', '.join(asks.told(place.asks))}: a line that answers queries has orders = ask or send")
 

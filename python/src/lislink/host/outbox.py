@@ -42,6 +42,8 @@ class Site(NamedTuple):
     #: How its queries are read and answered; which component of an order's O-5 is the test.
     asks: Asks = Asks()
     component: int = 4
+    #: Whether ENQ goes out again on a new connection alone.
+    is_anew: bool = False
 
     @property
     def place(self) -> str:
@@ -128,6 +130,8 @@ class Outbox:
         self._queries: Dict[str, Sequence[Query]] = {}
         #: The answers that wait for a place to connect anew, each with when it was made.
         self._kept: Dict[str, Tuple[Batch, float]] = {}
+        #: How often an analyzer was busy in a row, or asked for the line too, before a place was connected anew.
+        self.put_off: Dict[str, Tuple[int, int]] = {}
         #: How many orders may be in one session with this one: fewer after a session that was rejected.
         self._lots: Dict[int, int] = {}
 

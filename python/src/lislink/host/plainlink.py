@@ -17,7 +17,16 @@ class PlainReceiver:
     """Hears such a link: a block is acknowledged, as ENQ is, and EOT ends a session."""
 
     def __init__(self) -> None:
-        self.is_open, self._block, self._is_within = False, bytearray(), False
+        self.is_open, self._block, self._is_within, self._most = False, bytearray(), False, MOST
+
+    @property
+    def held(self) -> int:
+        """How many bytes are held of a block that isn't complete."""
+        return len(self._block)
+
+    def set_room(self, room: bool) -> None:
+        """Says whether there is room for more of a block; without it the block is too long."""
+        self._most = MOST if room else 0
 
     def hear_placed(self, data: bytes) -> Iterator[Tuple[int, Step]]:
         """What bytes mean, each with its place."""
@@ -33,11 +42,11 @@ class PlainReceiver:
             self.is_open = False
             yield Step(b"", None, Note.ENDED, 0, 0)
         elif byte == _ETX and self._is_within:
-            is_long, text = len(self._block) > MOST, bytes(self._block)
+            is_long, text = len(self._block) > self._most, bytes(self._block)
             note = Note.TEXT_TOO_LONG if is_long else Note.ACCEPTED
             yield Step(_NAK if is_long else _ACK, None if is_long else text, note, 0, 0)
         elif byte not in (_STX, _ETX, _EOT) and self._is_within:
-            self._block += bytes([byte]) if len(self._block) <= MOST else b""
+            self._block += bytes([byte]) if len(self._block) <= self._most else b""
             return
         self._is_within = byte == _STX
         self._block.clear()

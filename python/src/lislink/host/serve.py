@@ -16,11 +16,12 @@ from typing import Any, Callable, Dict, Iterable, List, Mapping, NamedTuple, Opt
 from ..delivery.codes import Codes
 from ..watch.board import Board
 from . import mend, systemd
+from .asleep import Asleep
 from .commits import Committer
 from .duplex import TwoWayLine
 from .files import write_whole
-from .intake import Held, Intake
-from .line import Line, Ticks, Turns, Wire
+from .intake import Held, Intake, Pool
+from .line import Line, Ticks, Wire
 from .left import Left
 from .mend import Ended
 from .mender import InOrder, Mender, Workers, is_mended
@@ -34,6 +35,7 @@ from .tape import Tape
 from .tasks import Tasks
 from .telnet import Telnet
 from .tty import SerialWire, Unusable, open_serial
+from .turns import Turns
 from .unknown import Unknown
 
 #: How often the state is written for `lislab status`, and a serial device that is gone is looked for, in seconds.
@@ -44,8 +46,9 @@ FIRST, MOST, ANSWER = 1.0, 60.0, 10.0
 MENDING = ENDING = 3.0
 #: So many connections are accepted before other lines have their turn; so many may wait for it.
 ACCEPTS, BACKLOG = 4, 100
-#: So many bytes of long messages are held until they end, to be mended if they aren't whole.
-HELD = 32 << 20
+#: So many bytes of long messages are held until they end, to be mended if they aren't whole; and so many of long texts
+#: until they are complete.
+HELD, TEXTS = 32 << 20, 32 << 20
 #: So many bytes of a connection are heard before it is asked whose turn it is.
 PIECE = 4096
 #: How long the thread that commits waits for its turn while a line is busy: it needs one after each statement.
@@ -167,7 +170,8 @@ class Host:
         self.committer = Committer(store, functools.partial(self.notices.say, "store"))
         self.outbox: Optional[Outbox] = None
         self.turns = Turns()
-        self.ticks = Ticks(max(0.02, self.limits.reply * self.limits.scale / 40))
+        self.asleep = Asleep()
+        self.ticks = Ticks(max(0.02, self.limits.reply * self.limits.scale / 40), self._look_at_clock)
         self.board = Board(self.limits.scale)
         self.counts: Dict[str, "Counter[str]"] = {}
         self.last: Dict[str, float] = {}
@@ -188,9 +192,9 @@ class Host:
         #: Set for a moment when the file of lines was read again.
         self._changed = asyncio.Event()
         self._others = Tasks(say)
-        #: What mends messages, by the names of lines; and how many of each line a setting would deliver.
-        self._menders: List[Tuple[str, Mender]] = []
-        self._workers, self._held = Workers(), Held(mend.MOST, HELD)
+        #: What mends messages, by the names of lines and what they mend; and how many of each line a setting would deliver.
+        self._menders: Dict[Tuple[str, Tuple[str, ...]], Mender] = {}
+        self._workers, self._held, self._texts = Workers(), Held(mend.MOST, HELD), Pool(TEXTS)
         self._orders: Dict[str, InOrder] = {}
         self.would: Dict[str, "Counter[str]"] = {}
         #: What the table of each line lacks.
@@ -208,6 +212,7 @@ class Host:
         probe = self.board.probe(place, self._tape(place.name), notice)
         given = (wire, intake, self.committer, self.limits, counts, probe, place.frame, notice, self.turns, mender)
         line = self._line(place, peer, given)
+        line.asleep, line.room = self.asleep, self._texts
         notice("connected" if wire.is_tcp else "open", CONNECTION)
         task = asyncio.ensure_future(line.run())
         self.lines[line], self._places[line] = task, place
@@ -223,18 +228,19 @@ class Host:
             return Line(*given)
         self.seats += 1
         where = place.name, peer, place.encoding, place.orders == "send", place.none, str(self.seats)
-        site = Site(*where, place.asks, int(place.test.split("^")[0] or 4))
+        is_anew = bool(getattr(place, "waits", ""))
+        site = Site(*where, place.asks, int(place.test.split("^")[0] or 4), is_anew)
         return TwoWayLine(self.outbox, site, *given)
 
     def _mender(self, place: Place) -> Mender:
         """What mends the messages of a line, by its settings as they are now."""
-        one = next((one for name, one in self._menders if name == place.name and one.names == set(place.mend)), None)
+        one = self._menders.get((place.name, place.mend))
         if one is None:
             would = self.would.setdefault(place.name, Counter())
             unknown = self.unknown.setdefault(place.name, Unknown(place.name))
             order = self._orders.setdefault(place.name, InOrder())
             one = Mender(place.mend, self._workers, would, unknown, order)
-            self._menders.append((place.name, one))
+            self._menders[place.name, place.mend] = one
         return one
 
     async def _end_left(self) -> None:
@@ -254,6 +260,14 @@ class Host:
         await self.committer.put_later(made)
         for end in is_mended(made):
             self.notices.say(end.line, f"message {one.end.key} is mended: delivered as {end.key}; {LEFT}", MESSAGE)
+
+    def _look_at_clock(self) -> None:
+        """Takes all lines anew after the machine was suspended: no timer ran meanwhile, and none is waited for."""
+        seconds = self.asleep.note()
+        if seconds:
+            say(f"the machine was suspended for {seconds:.0f} s: each line is taken anew")
+            for line in list(self.lines):
+                line.cut("since the machine was suspended")
 
     def _notice(self, name: str, peer: str, text: str, kind: str) -> None:
         self.notices.say(name, text if peer == name else f"{peer}: {text}", kind)
@@ -516,7 +530,7 @@ class Host:
             task.cancel()
         await asyncio.gather(*self.lines.values(), self._others.cancel(), return_exceptions=True)
         await asyncio.gather(*(order.stop(MENDING) for order in self._orders.values()))
-        await asyncio.gather(*(mender.stop() for _, mender in self._menders))
+        await asyncio.gather(*(mender.stop() for mender in self._menders.values()))
         self._workers.stop()
         self.ticks.stop()
         await self.board.close()
@@ -571,11 +585,14 @@ class Host:
 
 
 def warn(places: Iterable[Place]) -> None:
-    """Says of which lines the link isn't the proved one."""
+    """Says of which lines the link isn't the proved one, or a reply that is late could be taken for another one."""
     for place in places:
         if place.link:
             what = "no number and no checksum, so damage isn't noticed; and a receiver that isn't proved"
             say(f"{place.name}: link={place.link} has {what}")
+        if place.orders and not isinstance(place, Serial) and not place.waits:
+            what = "after NAK or ENQ the host asks again on the same connection, where a late reply could answer it"
+            say(f"{place.name}: {what}: waits=new-line has the line connected anew first")
 
 
 def _why(error: Exception) -> str:
