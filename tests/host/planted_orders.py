@@ -17,7 +17,7 @@ FAULTS = {
         "orders/book.py", "held = f\"holder = ? AND", "held = f\"holder <> ? AND"
     ),
     "test_order_files.Files.test_dates": ("orders/book.py", "over <= self.until", "over < self.until"),
-    "test_orders.SpoolBooks.test_states": ("orders/book.py", "mine += at == self._seat(seat)", "mine += 1"),
+    "test_orders.SpoolBooks.test_states": ("orders/book.py", "mine += bool(holder and at == own and not is_left)", "mine += bool(holder)"),
     "test_order_files.Files.test_more": ("orders/order.py", "[rack, position] if position else rack", "[position, rack]"),
     "test_order_files.Files.test_ranges": ("orders/book.py", "int(self.first) <= int(sample)", "self.first <= sample"),
     "test_orders.SpoolBooks.test_two_hosts": (
@@ -132,6 +132,9 @@ FAULTS = {
         f"{books}.{test}": fault
         for books in ("test_orders.SqliteBooks", "test_orders.SpoolBooks", "test_orders_postgres.PostgresBooks")
         for test, fault in {
+            "test_asked_again_on_a_new_connection": (
+                "orders/book.py", 'seated = self._seat(seat) if place else ""', 'seated = ""'
+            ),
             "test_taken_over": ("orders/book.py", "self._set(\"changed = ?\", (self._clock(),), numbers)", "pass"),
             "test_asked_again": ("orders/book.py", "if now >= set(wanted) else 0.0", "if now else 0.0"),
             "test_rows_of_other_programs": (

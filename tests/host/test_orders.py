@@ -218,6 +218,27 @@ class Books:
         self.same("noted", next(two.listed()).reason, PERHAPS)
         two.sent("fire", [1])
         self.same("sent", [(placed.state, placed.reason) for placed in one.listed()], [("sent", PERHAPS)])
+        two.add([Order("S2", ("K",))])
+        wanted = [Wanted(("S2",))]
+        self.same("asked", two.ask("fire x", "7", "fire", wanted), (1, 0))
+        self.same("in hand", [placed.number for placed in two.take("fire x", "7", "fire", 9, [])], [2])
+        self.same("not by another one", one.ask("fire y", "1", "fire", wanted), (0, 0))
+        now[0] += 31
+        self.same("by another one in the end", one.ask("fire y", "1", "fire", wanted), (1, 0))
+        self.same("it has it", [(placed.number, placed.reason) for placed in one.take("fire y", "1", "fire", 9, [])],
+                  [(2, PERHAPS)])
+
+    def test_asked_again_on_a_new_connection(self):
+        """What was asked for over a connection that is gone is sent over the next one: who asks again there is being
+        answered, and gets no answer that there is nothing."""
+        one = open_book(self.new(), "one")
+        self.addCleanup(one.close)
+        one.add([Order("S1", ("K",))])
+        self.same("asked", one.ask("fire x", "1", "fire", [Wanted(("S1",))]), (1, 0))
+        one.leave("1")
+        self.same("taken", len(one.take("fire x", "2", "fire", 9, [])), 1)
+        self.same("asked again", one.ask("fire x", "2", "fire", [Wanted(("S1",))]), (0, 1))
+        self.same("elsewhere", one.ask("fire y", "3", "fire", [Wanted(("S1",))]), (0, 0))
 
 
 class SqliteBooks(Books, HostTest):

@@ -1,6 +1,7 @@
 """Orders in PostgreSQL, where two hosts share them."""
 import collections
 import random
+import socket
 import threading
 import time
 
@@ -26,8 +27,9 @@ class Mortal(Plain):
     """An analyzer that notes each message of which it acknowledged the last record, and dies at a reply once it is to,
     before the reply or after it."""
 
-    def __init__(self, port, of):
-        super().__init__(port, SLOW, of.rng.random(), slow=0.01)
+    def __init__(self, of):
+        line = socket.create_connection(("127.0.0.1", of.port), 10, (of.address, 0))
+        super().__init__(of.port, SLOW, of.rng.random(), slow=0.01, line=line)
         self.of = of
 
     def reply(self, data):
@@ -50,6 +52,7 @@ class Analyzer(threading.Thread):
     def __init__(self, port, over, seed, samples=None):
         super().__init__(daemon=True)
         self.port, self.over, self.rng, self.samples = port, over, random.Random(seed), samples
+        self.address = f"127.0.1.{seed + 1}"
         self.dies, self.deaths = False, 0
         #: The messages that it acknowledged whole; the samples of each of its queries, and how often it asked for each.
         self.whole, self.asked, self.times = [], [], collections.Counter()
@@ -57,7 +60,7 @@ class Analyzer(threading.Thread):
     def run(self):
         while not self.over.is_set():
             try:
-                one = Mortal(self.port, self)
+                one = Mortal(self)
                 while not self.over.is_set():
                     self.turn(one)
             except (Gone, OSError):

@@ -46,6 +46,7 @@ _IN_TURN = "CASE priority WHEN 'S' THEN 0 WHEN 'A' THEN 1 ELSE 2 END, number"
 LOT = 1000
 #: The state of an order that no analyzer asks for any more: one that was sent on a line stays sent.
 _BEFORE = f"CASE WHEN sent_on <> '' THEN '{SENT}' ELSE '{WAITING}' END"
+_WAITS = f"state = '{WAITING}'"
 #: The line on which an order has failed: it may be one for any line.
 _FAILED_ON = "CASE WHEN line = '' THEN asked ELSE line END"
 
@@ -276,29 +277,28 @@ class OrderBook:
     def ask(self, place: str, seat: str, line: str, wanted: Sequence[Wanted], again: float = 0.0) -> Asked:
         """Marks orders as asked for at a place, over the connection that has this seat. They are to be sent there now.
         They are those that wait, and those that were sent on the line not longer ago than so many seconds and lack a
-        result; none that is being sent."""
-        found, now, mine = 0, self._clock(), 0
+        result; none that is being sent, but by a host that is gone for a while."""
+        now, mine, own = self._clock(), 0, self._seat(seat)
+        free: Dict[int, str] = {}
         with self._store.changing():
+            gone = self._gone(now)
             for one in wanted:
                 where, values = one.condition()
                 rows = self._store.run(
-                    f"SELECT number, sample, collected, holder, seat FROM orders WHERE (state = '{WAITING}' OR"
+                    f"SELECT number, sample, collected, holder, seat, changed FROM orders WHERE (state = '{WAITING}' OR"
                     f" (state = '{SENT}' AND done = 0 AND sent_on = ? AND changed >= ?)) AND line IN ('', ?)"
                     f" AND {where}",
                     (line, now - again, line, *values),
                 ).fetchall()
-                for number, sample, collected, holder, at in rows:
-                    if not one.holds(sample, collected):
-                        continue
-                    if holder:
-                        mine += at == self._seat(seat)
-                    else:
-                        self._store.run(
-                            f"UPDATE orders SET state = '{WAITING}', asked = ?, seat = ?, next_try = 0 WHERE number = ?",
-                            (place, self._seat(seat), number),
-                        )
-                        found += 1
-        return Asked(found, mine)
+                for number, sample, collected, holder, at, changed in rows:
+                    if one.holds(sample, collected):
+                        is_left = holder in gone and changed < now - LEFT_AFTER
+                        mine += bool(holder and at == own and not is_left)
+                        free.update({number: holder} if is_left or not holder else {})
+            waits = f"state = '{WAITING}', asked = ?, seat = ?, next_try = 0"
+            self._set(waits, (place, own), list(free), f"state IN ('{WAITING}', '{SENT}')")
+            self._set("holder = '', reason = ?", (PERHAPS,), [number for number, holder in free.items() if holder])
+        return Asked(len(free), mine)
 
     def _seat(self, seat: str) -> str:
         return f"{self._host}/{seat}"
@@ -344,15 +344,17 @@ class OrderBook:
                     )
             good = [one for one in placed if one.state != FAILED]
             self._set("reason = ?", (PERHAPS,), [one.number for one in good if one.left_by])
-            self._set("holder = ?, changed = ?", (self._host, now), [one.number for one in good])
+            # An analyzer that asks again over this connection is being answered.
+            seated = self._seat(seat) if place else ""
+            self._set("holder = ?, changed = ?, seat = ?", (self._host, now, seated), [one.number for one in good])
         return placed
 
-    def _set(self, what: str, values: Sequence[Any], numbers: Sequence[int], where: str = "") -> None:
-        """Changes orders by their numbers, all of a lot by one statement."""
+    def _set(self, what: str, values: Sequence[Any], numbers: Sequence[int], where: str = _WAITS) -> None:
+        """Changes orders by their numbers, all of a lot by one statement: those that wait, or that `where` names."""
         for start in range(0, len(numbers), LOT):
             some = numbers[start : start + LOT]
             words = f"UPDATE orders SET {what} WHERE number IN ({', '.join('?' * len(some))})"
-            self._store.run(f"{words} AND state = '{WAITING}'{where}", (*values, *some))
+            self._store.run(f"{words} AND {where}", (*values, *some))
 
     def still(self, numbers: Sequence[int]) -> None:
         """Orders that were taken are being sent still: no other host takes them, even if this one lost its name."""
@@ -364,13 +366,17 @@ class OrderBook:
         with self._store.changing():
             self._set("holder = ''", (), numbers)
 
-    def _free(self, now: float) -> Tuple[str, List[Any]]:
-        """The condition of orders that no host has, or one that is gone for a while."""
+    def _gone(self, now: float) -> List[str]:
+        """The hosts that are gone, and have had orders in their hands for a while."""
         rows = self._store.run(
             f"SELECT DISTINCT holder FROM orders WHERE state = '{WAITING}' AND holder <> '' AND changed < ?",
             (now - LEFT_AFTER,),
         ).fetchall()
-        gone = [one for (one,) in rows if one == self._host or not self._store.is_held(one)]
+        return [one for (one,) in rows if one == self._host or not self._store.is_held(one)]
+
+    def _free(self, now: float) -> Tuple[str, List[Any]]:
+        """The condition of orders that no host has, or one that is gone for a while."""
+        gone = self._gone(now)
         left = f" OR (holder IN ({', '.join('?' * len(gone))}) AND changed < ?)" if gone else ""
         return f"(holder = ''{left})", [*gone, now - LEFT_AFTER] if gone else []
 
