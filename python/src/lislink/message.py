@@ -107,7 +107,7 @@ class Entry:
 
     def text(self, field: int, repeat: int = 0, component: int = 0) -> str:
         """A component as text in the message's encoding; empty if there is no such component."""
-        return (self.part(field, repeat, component) or b"").decode(self.encoding, "replace")
+        return (self.row.part(field, repeat, component) or b"").decode(self.encoding, "replace")
 
     def whole(self, field: int) -> str:
         """A field as text, its components joined by ^ and its repeats by a backslash. Escapes are decoded, but for

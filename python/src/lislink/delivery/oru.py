@@ -1,6 +1,7 @@
 """A message as ORU^R01 of HL7 v2: one for each patient, and one for the controls, so that no result can be under
 another patient. The same message gives the same bytes each time."""
 import datetime
+import functools
 import hashlib
 import re
 from collections import Counter
@@ -85,19 +86,25 @@ def escaped(text: str) -> str:
 
 
 def segment(name: str, fields: Mapping[int, Field]) -> str:
-    """A segment with these fields, by their numbers, and the CR after it."""
-    cells = {number: text for number, value in fields.items() if value for text in [_field(value)] if text}
-    last = max(cells, default=0)
-    first = 3 if name == "MSH" else 1  # MSH-1 is the delimiter itself
-    head = [name, "^~\\&"] if name == "MSH" else [name]
-    return "|".join(head + [cells.get(number, "") for number in range(first, last + 1)]) + "\r"
+    """A segment with these fields, by their numbers, which rise, and the CR after it."""
+    cells = [name]
+    place = 1  # of the next cell; MSH-1 is the delimiter itself
+    if name == "MSH":
+        cells, place = [name, "^~\\&"], 3
+    for number, value in fields.items():
+        text = value if isinstance(value, str) and value.isalnum() else _field(value) if value else ""
+        if text:
+            cells += [""] * (number - place)
+            cells.append(text)
+            place = number + 1
+    return "|".join(cells) + "\r"
 
 
 def _field(value: Field) -> str:
     if isinstance(value, str):
-        return value if value.isalnum() else escaped(value)
+        return escaped(value)
     if isinstance(value[0], str):
-        return "^".join([escaped(str(one)) for one in value]).rstrip("^")
+        return "^".join([one if one.isalnum() else escaped(one) for one in map(str, value)]).rstrip("^")
     return "~".join([_field(one) for one in value]).rstrip("~")
 
 
@@ -160,7 +167,7 @@ def _header(told: Told, place: int, wishes: Wishes) -> Dict[int, Field]:
         18: "UNICODE UTF-8",
     }
     given = {number: value.split("^") for number, value in wishes.header.items()}
-    return {**fields, **given}
+    return dict(sorted({**fields, **given}.items()))
 
 
 def _patient(case: Case, wishes: Wishes) -> Iterator[str]:
@@ -313,7 +320,6 @@ def _status(result: Result) -> str:
 
 def _result(told: Told, place: int, result: Result, taken: str) -> Iterator[str]:
     kind, value = _value(result.value)
-    usual = range_of(result.range)
     yield segment(
         "OBX",
         {
@@ -323,7 +329,7 @@ def _result(told: Told, place: int, result: Result, taken: str) -> Iterator[str]
             4: str(result.turn or ""),
             5: value,
             6: [result.ucum, result.unit, "UCUM"] if result.ucum else result.unit,
-            7: result.range if usual is None else usual.text(),
+            7: _range(result.range),
             8: [[one] for one in result.flags if one in _FLAGS],
             10: result.nature if result.nature in _NATURES else "",
             11: _status(result),
@@ -336,6 +342,13 @@ def _result(told: Told, place: int, result: Result, taken: str) -> Iterator[str]
     told_so = [f"flag {one}" for one in result.flags if one not in _FLAGS]
     told_so += [] if result.status in _STATUS else [f"the analyzer's status is {result.status}"]
     yield from _notes([*result.comments, *(Comment("I", one) for one in told_so)])
+
+
+@functools.lru_cache(maxsize=256)  # a test has one range in many messages
+def _range(text: str) -> str:
+    """A range as HL7 has it, if it is one of numbers."""
+    usual = range_of(text)
+    return text if usual is None else usual.text()
 
 
 def _value(text: str) -> "tuple[str, Field]":

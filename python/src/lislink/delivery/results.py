@@ -221,7 +221,8 @@ class Told:
 
     def _result(self, entry: Entry, turn: int) -> Result:
         _, field, coding, name = self._test(entry)
-        flags = [entry.text(7, at).strip() for at in range(len(entry.row.field(7)))]
+        repeats = 1 if entry.row.plain(7) is not None else len(entry.row.field(7))
+        flags = [entry.text(7, at).strip() for at in range(repeats)]
         return Result(
             coding.code,
             name,
