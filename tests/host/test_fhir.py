@@ -89,7 +89,8 @@ class Fhir(HostTest):
         self.same("a mended one is marked", mended.count('{"text":"mended from 00fe: x"}'), 2)
         taken = message("P|1", "O|1|S7|||||20261127093000", "R|1|^^^A|1|||||||||20261127103500")
         taken = bundle_of(stored(taken), zone="Asia/Tokyo").decode()
-        self.has("that of the sample goes before", taken, '"effectiveDateTime":"2026-11-27T09:30:00+09:00"')
+        self.same("that of the sample goes before", observations(taken)[0]["effectiveDateTime"],
+                  "2026-11-27T09:30:00+09:00")
 
     def test_names(self):
         """A result that comes again is the same Observation, a correction updates it, another result is another one."""
