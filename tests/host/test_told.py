@@ -54,7 +54,7 @@ class Plan:
         """An order, with the sample where the line's setting has it, or missing, or somewhere else; of a patient of
         whom it is sure who that is, or not."""
         rng = self.rng
-        sample = rng.choice(("", *[f"S{rng.randrange(10**6)}"] * 11))
+        sample = rng.choice(("", "S1", *[f"S{rng.randrange(10**6)}"] * 11))
         control = self.is_control or rng.random() < 0.15
         fields = {"": f"{sample}|", "O.4.3": f"|2001^05^   {sample}^B"}[self.reading.sample]
         if self.reading.sample == "" and rng.random() < 0.2:
@@ -122,7 +122,13 @@ class AsTold(HostTest):
 
     def test_fhir(self):
         """As FHIR."""
-        found = self.wrong(2, lambda one, reading: fhir.bundle_of(Told(Coded(one, reading))), told.of_fhir)
+        systems = oru.wishes_of(["practice=urn:a", "laboratory=urn:b", "third=urn:c", "sample=urn:d"])
+
+        def write(one, reading):
+            """Half of them with systems of identities and samples."""
+            return fhir.bundle_of(Told(Coded(one, reading)), systems if len(one.body) % 2 else oru.Wishes())
+
+        found = self.wrong(2, write, told.of_fhir)
         self.same("as it should be", found, "")
 
     def test_csv(self):
