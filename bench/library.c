@@ -122,12 +122,11 @@ static size_t read_lines(lis_reader *reader, size_t piece) {
             continue;
         const uint8_t *text = data + begin;
         size_t size = at - begin;
-        if (found.letter == 'H') {
-            lis_header_read(text, size, &by, &header);
-            lis_header_parts(text, size, parts, MOST_PARTS, &found_parts);
-        } else {
-            lis_record_parts(&by, text, size, parts, MOST_PARTS, &found_parts);
-        }
+        if (found.letter == 'H')
+            check(lis_header_read(text, size, &by, &header) == LIS_STATUS_OK, "a header");
+        lis_status told = found.letter == 'H' ? lis_header_parts(text, size, parts, MOST_PARTS, &found_parts)
+                                              : lis_record_parts(&by, text, size, parts, MOST_PARTS, &found_parts);
+        check(told == LIS_STATUS_OK, "parts");
         count += found_parts;
         begin = at + 1;
     }
@@ -142,8 +141,9 @@ static size_t read_alone(void) {
         lis_record header;
         end = memchr(text, '\r', (size_t)(data + len - text));
         if (*text == 'H') {
-            check(lis_header_read(text, (size_t)(end - text), &by, &header) == LIS_STATUS_OK, "a header");
-            lis_header_parts(text, (size_t)(end - text), parts, MOST_PARTS, &found_parts);
+            check(lis_header_read(text, (size_t)(end - text), &by, &header) == LIS_STATUS_OK
+                  && lis_header_parts(text, (size_t)(end - text), parts, MOST_PARTS, &found_parts) == LIS_STATUS_OK,
+                  "a header");
         } else {
             check(lis_record_parts(&by, text, (size_t)(end - text), parts, MOST_PARTS, &found_parts)
                   == LIS_STATUS_OK, "a record");

@@ -30,14 +30,15 @@ static lis_part parts[8];
 static lis_table table;
 static uint8_t out[256];
 static size_t size;
+static lis_status status;
 
 static void nothing(void) {}
 static void scanner_feed(void) {
     for (size_t at = 0; at < sizeof session - 1;)
         at += lis_scanner_feed(&scanner, session + at, sizeof session - 1 - at, &signal_);
 }
-static void sender_add_text(void) { lis_sender_add_text(&sender, (const uint8_t *)"P|1\r", 4); }
-static void sender_start(void) { lis_sender_start(&sender, &bytes, &place); }
+static void sender_add_text(void) { status = lis_sender_add_text(&sender, (const uint8_t *)"P|1\r", 4); }
+static void sender_start(void) { status = lis_sender_start(&sender, &bytes, &place); }
 static void sender_reply(void) { lis_sender_reply(&sender, 0x06, &bytes); }
 static void sender_timer(void) { lis_sender_timer(&sender, &bytes); }
 static void receiver_hear(void) {
@@ -49,27 +50,27 @@ static void station_hear(void) {
         at += lis_station_hear(&station, session + at, sizeof session - 1 - at, &answer);
 }
 static void station_reply(void) {
-    lis_station_add_text(&station, (const uint8_t *)"P|1\r", 4);
-    lis_station_start(&station, &bytes, &place);
+    status = lis_station_add_text(&station, (const uint8_t *)"P|1\r", 4);
+    status = lis_station_start(&station, &bytes, &place);
     lis_station_byte(&station, 0x06, &answer);
 }
 static void reader_read(void) {
     for (size_t at = 0; at < sizeof message - 1;) {
         at += lis_reader_read(&reader, message + at, sizeof message - 1 - at, &found);
-        lis_reader_part(&reader, 4, 1, 1, out, sizeof out, &size);
-        lis_reader_parts(&reader, parts, 8, &table);
-        lis_reader_text(&reader, out, sizeof out, &size);
+        status = lis_reader_part(&reader, 4, 1, 1, out, sizeof out, &size);
+        status = lis_reader_parts(&reader, parts, 8, &table);
+        status = lis_reader_text(&reader, out, sizeof out, &size);
     }
 }
-static void record_read(void) { lis_header_read(message, 5, &delimiters, &record); }
+static void record_read(void) { status = lis_header_read(message, 5, &delimiters, &record); }
 static void writer_put(void) {
-    lis_writer_record(&writer, 'H');
-    lis_writer_put(&writer, &size);
-    lis_writer_record(&writer, 'P');
-    lis_writer_component(&writer, (const uint8_t *)"1", 1);
-    lis_writer_field(&writer, (const uint8_t *)"2", 1);
-    lis_writer_put(&writer, &size);
-    lis_writer_text(&writer, 1, out, sizeof out, &size);
+    status = lis_writer_record(&writer, 'H');
+    status = lis_writer_put(&writer, &size);
+    status = lis_writer_record(&writer, 'P');
+    status = lis_writer_component(&writer, (const uint8_t *)"1", 1);
+    status = lis_writer_field(&writer, (const uint8_t *)"2", 1);
+    status = lis_writer_put(&writer, &size);
+    status = lis_writer_text(&writer, 1, out, sizeof out, &size);
 }
 
 /* The bytes of the stack that a call touches. */

@@ -14,13 +14,15 @@
  *     one of LIS_BLOCK_ALIGN, which was given to lis_X_init. From then to lis_X_end nothing else reads, writes or moves
  *     the block, and it has one handle. After lis_X_end the block is the caller's again, for anything, or for another
  *     lis_X_init.
- *   - The array that lis_sender_start_lent was given, and the texts that it names, stay unchanged in their places to
- *     the end of their session: until the sender is LIS_PHASE_NEUTRAL again, restarted or ended.
+ *   - The array that lis_sender_start_lent or lis_station_start_lent was given, and the texts that it names, stay
+ *     unchanged in their places to the end of their session: until the phase is LIS_PHASE_NEUTRAL again, or the sender
+ *     or the station is restarted or ended.
  *   - One thread at a time uses a handle and its block. Two handles have nothing in common.
  *   - No call is made from a signal handler, or in a forked child of a process with threads.
  *
  * Nothing else is asked: every length, every number and every order of calls is allowed. Of the caller's pointers a
- * handle keeps that to its block, and a sender those to the texts that stay with the caller; no call keeps another.
+ * handle keeps that to its block, and a sender or a station those to the texts that stay with the caller; no call keeps
+ * another.
  * No call blocks, prints or aborts, and one that takes its handle as const changes nothing. The library has no variable
  * of its own. Nothing checks a caller in C: docs/EMBEDDING.md lists what he can do wrong, and what happens then.
  *
@@ -56,8 +58,8 @@
 #define LIS_VERSION_PATCH 0
 
 /* A family of constants is a type of one byte: by the language in C++ and C23, by an attribute in gcc and clang, whose
- * -Wextra then warns of a constant of another family, and uint8_t elsewhere. In C++17 and C23 a
- * compiler warns of a status that isn't looked at. */
+ * -Wextra then warns of a constant of another family, and uint8_t elsewhere. A compiler warns of a status that isn't
+ * looked at: in C++17 and C23, and before them gcc and clang. */
 #if defined(__cplusplus) || (defined(__STDC_VERSION__) && __STDC_VERSION__ >= 202311L)
 #define LIS_ENUM(name) typedef enum LIS_LOOKED_AT name : uint8_t
 #define LIS_ENUM_END(name) name
@@ -136,6 +138,14 @@ LIS_ENUM(lis_status) {
 } LIS_ENUM_END(lis_status);
 #undef LIS_LOOKED_AT
 #define LIS_LOOKED_AT
+/* Before C++17 and C23 it is an attribute of each call that makes gcc and clang warn. */
+#ifdef __clang__
+#pragma clang diagnostic push
+#pragma clang diagnostic ignored "-Wdisabled-macro-expansion"
+#endif
+#if defined(__GNUC__) && (defined(__cplusplus) ? __cplusplus < 201703L : __STDC_VERSION__ + 0 < 202311L)
+#define lis_status __attribute__((__warn_unused_result__)) lis_status
+#endif
 
 /* Bytes to be sent. */
 typedef struct lis_bytes {
@@ -265,7 +275,7 @@ void lis_sender_end(lis_sender s);
 /* Sets how long the text of a frame may be, LIS_LIMIT_FRAME_TEXT (as after _init) or LIS_LIMIT_LONG_FRAME_TEXT, and
  * makes the sender new, as after _init, but for the texts of the next session, which stay. LIS_STATUS_IN_SESSION while
  * a session goes on, LIS_STATUS_BAD_NUMBER for another limit: then nothing has changed. With the long limit a frame may
- * have more bytes than a lis_bytes has room for: see lis_sender_frame. */
+ * have more bytes than a lis_bytes has room for, and the calls need a stack of 640 kB: see lis_sender_frame. */
 lis_status lis_sender_set_limit(lis_sender *s, size_t limit);
 /* Adds a copy of a text to the next session, also while one goes on. LIS_STATUS_TOO_LONG if it has over
  * LIS_LIMIT_TEXT_BYTES, LIS_STATUS_FULL, LIS_STATUS_OUT_OF_MEMORY: then nothing has changed. What the text holds is
@@ -362,7 +372,7 @@ LIS_ENUM(lis_note) {
     LIS_NOTE_OUT_OF_TURN = 6,       /* a frame came that isn't the next one; detail: its number */
     LIS_NOTE_REFUSED = 7,           /* a bad frame; detail: a lis_fault; place: the forbidden byte's */
     LIS_NOTE_NO_ROOM = 8,           /* there is no room for a frame, as lis_receiver_set_room said */
-    LIS_NOTE_TOO_LONG = 9,          /* the text would have over LIS_LIMIT_TEXT_BYTES */
+    LIS_NOTE_TOO_LONG = 9,          /* the text would have over LIS_LIMIT_TEXT_BYTES, or over the receiver's limit */
     LIS_NOTE_TOO_MANY = 10,         /* 4,294,967,295 frames were accepted in this session */
     LIS_NOTE_OUT_OF_MEMORY = 11,    /* the frame is answered NAK and not taken */
     LIS_NOTE_TIMED_OUT = 12         /* the line is closed, and what was held is dropped */
@@ -426,9 +436,14 @@ void lis_receiver_set_room(lis_receiver *s, bool room);
 /* Says how ENQ is answered from now on. LIS_STATUS_BAD_NUMBER: then nothing has changed. Once an ENQ was answered as
  * LIS_READY_CONTENDING says, the receiver is ready again. */
 lis_status lis_receiver_set_ready(lis_receiver *s, lis_ready readiness);
-/* Makes room for so many more bytes of text. LIS_STATUS_TOO_LONG if no text may have so many, LIS_STATUS_OUT_OF_MEMORY.
- * What is held stays. */
+/* Makes room for so many more bytes of text, and as much for the text after it: so once no text is longer, none takes
+ * memory, until lis_receiver_set_limit. LIS_STATUS_TOO_LONG if no text may have so many, LIS_STATUS_OUT_OF_MEMORY. What
+ * is held stays. */
 lis_status lis_receiver_reserve(lis_receiver *s, uint64_t bytes);
+/* Sets how many bytes a text may have, LIS_LIMIT_TEXT_BYTES as after _init or fewer, until lis_receiver_set_limit. A
+ * frame with which its text would have more is answered NAK and not taken: LIS_NOTE_TOO_LONG. LIS_STATUS_TOO_LONG if it
+ * is over LIS_LIMIT_TEXT_BYTES: then nothing has changed. */
+lis_status lis_receiver_set_text_limit(lis_receiver *s, size_t bytes);
 /* Whether the line is open, and so the receiver's timer runs. */
 bool lis_receiver_is_open(const lis_receiver *s);
 /* The same; `seconds` is how long it runs, and is always written, else as 0. Plain C, in src/c/connection.c. */
@@ -481,7 +496,8 @@ void lis_station_init(void *at);
 void lis_station_end(lis_station s);
 /* Sets the role, and how long the text of a frame may be, LIS_LIMIT_FRAME_TEXT or LIS_LIMIT_LONG_FRAME_TEXT, and makes
  * the station new, without a text. LIS_STATUS_BAD_NUMBER for another role or limit, LIS_STATUS_OUT_OF_MEMORY: then
- * nothing has changed. The long limit takes about 64 kB from the heap. */
+ * nothing has changed. The long limit takes about 64 kB from the heap, and its calls need a stack of 900 kB: see
+ * lis_station_frame. */
 lis_status lis_station_begin(lis_station *s, lis_role role, size_t limit);
 /* Adds a copy of a text to the next session, as lis_sender_add_text. */
 lis_status lis_station_add_text(lis_station *s, const uint8_t *text, size_t text_len);
@@ -491,6 +507,10 @@ void lis_station_clear(lis_station *s);
  * side has the line; else it fails as lis_sender_start does. The session is over when the phase is LIS_PHASE_NEUTRAL
  * again. */
 lis_status lis_station_start(lis_station *s, lis_bytes *out, lis_place *fault);
+/* The same with texts that stay with the caller: it takes no memory. Also LIS_STATUS_FULL if there are more than
+ * LIS_LIMIT_TEXTS. The texts that were added stay for the next session. */
+lis_status lis_station_start_lent(lis_station *s, const lis_text *texts, size_t texts_len, lis_bytes *out,
+                                  lis_place *fault);
 /* Hears one byte. `out` is always written. EOT in reply to a frame is taken as NAK, since it may be the end of a
  * session that the other side asked for: lis_station_turn_asked reports it. */
 void lis_station_byte(lis_station *s, uint8_t byte, lis_answer *out);
@@ -559,6 +579,9 @@ void lis_station_line_connected(lis_station_line *line);
 /* As lis_station_start, but LIS_STATUS_OLD_LINE, and nothing has changed, while a late reply could come: before the
  * first lis_station_line_connected; and after a session that timed out or was given up, until it is called again. */
 lis_status lis_station_line_start(lis_station_line *line, lis_bytes *out, lis_place *fault);
+/* The same, as lis_station_start_lent. */
+lis_status lis_station_line_start_lent(lis_station_line *line, const lis_text *texts, size_t texts_len, lis_bytes *out,
+                                       lis_place *fault);
 /* Whether a late reply could meet the station's next ENQ, that of a start or the one after a wait: over a line that
  * answers late, connect it anew first (docs/LINK.md, 'Both ways of a line that answers late'). */
 bool lis_station_line_needs_new(const lis_station_line *line);
@@ -727,13 +750,41 @@ typedef struct lis_entry {
  * src/c/pieces.c. */
 size_t lis_reader_records(lis_reader *s, const uint8_t *bytes, size_t bytes_len, lis_entry *entries,
                           size_t entries_len, lis_part *parts, size_t parts_len, size_t *count);
+/* Which component of each record a column has, counted as by lis_record_part. */
+typedef struct lis_column {
+    uint32_t field;        /* its field */
+    uint32_t repeat;       /* its repeat, from 0 */
+    uint32_t component;    /* which component of the repeat it is, from 0 */
+} lis_column;
+
+/* A component of a record, if the record has it. */
+typedef struct lis_cell {
+    size_t offset;                /* the place of its first byte in the piece; 0 if there is none */
+    uint32_t len;                 /* how many bytes it has */
+    lis_delimiters delimiters;    /* those of its message, for lis_part_decode */
+    uint32_t flags;               /* LIS_PART_ESCAPED, LIS_CELL_ABSENT or 0 */
+} lis_cell;
+
+/* A flag of a cell, next to that of a part. */
+enum lis_cell_flag {
+    LIS_CELL_ABSENT = 2    /* the record has no such component */
+};
+
+/* Reads records by lis_reader_next as lis_reader_records does, and puts these components of each one of a letter, in
+ * upper case, into the next row of `cells`: column k of row i at cells[k * rows_len + i]. `count` is how many rows were
+ * written; it reads on as long as there is room for one more. `parts` is room to work in: `parts_len` of
+ * LIS_LIMIT_RECORD_BYTES is never too short. Returns how many bytes it read; of 0 the same is to be said as of
+ * lis_reader_records. Plain C, in src/c/pieces.c. */
+size_t lis_reader_columns(lis_reader *s, const uint8_t *bytes, size_t bytes_len, uint8_t letter,
+                          const lis_column *columns, size_t columns_len, lis_cell *cells, size_t rows_len,
+                          lis_part *parts, size_t parts_len, size_t *count);
 /* The end of the stream: LIS_STATUS_OK, or LIS_STATUS_UNFINISHED and `out` has the reason. `out` is always written, and
  * the reader stays as it is. */
 lis_status lis_reader_finish(const lis_reader *s, lis_found *out);
 /* After LIS_FOUND_REFUSED: makes the reader as after _init, so that it reads on at a header. The message that was open
  * is dropped: it has no end. So a session that broke off costs its own message alone. True if the record that can't be
  * read is that header (LIS_REASON_SECOND_HEADER): give it again, from its first byte. Else go on at the next one, which
- * lis_header_find finds. Plain C, in src/c/pieces.c. */
+ * lis_header_find finds. Without a fault the reader begins anew too. */
 bool lis_reader_resume(lis_reader *s);
 /* Where the next header begins among bytes: how many come before it, or all if none does. `*begins` is whether a record
  * begins with the first byte, and is then whether one begins after the last one, for the next piece of a stream. What
@@ -814,6 +865,10 @@ size_t lis_writer_text_len(const lis_writer *s, size_t place);
  * `size` is always written, as 0 if it fails. */
 lis_status lis_writer_text(const lis_writer *s, size_t place, uint8_t *out, size_t out_len, size_t *size);
 
+#undef lis_status
+#ifdef __clang__
+#pragma clang diagnostic pop
+#endif
 /* ---- Words, for logs: plain C (src/c/names.c), tested and not proved. ---- */
 
 /* The release of the library, as LIS_VERSION: "0.1.0". */

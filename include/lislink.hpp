@@ -502,12 +502,13 @@ public:
     }
 
     // As hear, for bytes that came after `since`, when the line was last seen empty: a reply that could come after the
-    // sender's timer is not sent, which is one that is due more than two thirds of that timer after `since`.
-    template <class Keep, class Send, class Each = detail::nothing>
-    bool hear_since(std::chrono::steady_clock::time_point since, std::string_view bytes, Keep &&keep, Send &&send,
+    // sender's timer is not sent, which is one that is due more than two thirds of that timer after `since`. The clock
+    // is the caller's: that of a suspended machine should run on, as CLOCK_BOOTTIME does.
+    template <class Clock, class Duration, class Keep, class Send, class Each = detail::nothing>
+    bool hear_since(std::chrono::time_point<Clock, Duration> since, std::string_view bytes, Keep &&keep, Send &&send,
                     Each &&each = Each()) {
         auto in_time = [&](std::uint8_t reply) {
-            auto age = std::chrono::steady_clock::now() - since;
+            auto age = Clock::now() - since;
             return age <= std::chrono::seconds(LIS_SECONDS_REPLY * 2 / 3) && detail::went(send, reply);
         };
         return hear(bytes, keep, in_time, each);
@@ -525,8 +526,13 @@ public:
     void set_room(bool room) noexcept { lis_receiver_set_room(get(), room); }
     // Says how ENQ is answered from now on.
     void set_ready(lis_ready readiness) noexcept { (void)lis_receiver_set_ready(get(), readiness); }
-    // Makes room for so many more bytes of text.
+    // Makes room for so many more bytes of text, and as much for the text after it: so once no text is longer, none
+    // takes memory of the library.
     [[nodiscard]] lis_status try_reserve(std::uint64_t bytes) noexcept { return lis_receiver_reserve(get(), bytes); }
+    // Sets how many bytes a text may have. A frame with which its text would have more is answered NAK and not taken.
+    [[nodiscard]] lis_status try_set_text_limit(std::size_t bytes) noexcept {
+        return lis_receiver_set_text_limit(get(), bytes);
+    }
     // Sets how long the text of a frame may be, LIS_LIMIT_FRAME_TEXT or LIS_LIMIT_LONG_FRAME_TEXT, and makes the
     // receiver new.
     [[nodiscard]] lis_status try_set_frame_limit(std::size_t limit) noexcept {
@@ -534,6 +540,7 @@ public:
     }
 #if defined(__cpp_exceptions)
     void reserve(std::uint64_t bytes) { detail::check(try_reserve(bytes)); }                  // as try_reserve
+    void set_text_limit(std::size_t bytes) { detail::check(try_set_text_limit(bytes)); }      // as try_set_text_limit
     void set_frame_limit(std::size_t limit) { detail::check(try_set_frame_limit(limit)); }    // as try_set_frame_limit
 #endif
     bool is_open() const noexcept { return lis_receiver_is_open(get()); }    // whether its timer runs

@@ -36,6 +36,13 @@ class station {
         return lis_station_text(get(), detail::at(text_), len) == LIS_STATUS_OK;
     }
 
+    // The status of a start; `out` is ENQ if there is a session.
+    lis_status started(lis_status status, std::string_view &out) const noexcept {
+        if (status == LIS_STATUS_OK)
+            out = detail::view(answer_.send.bytes, answer_.send.len);
+        return status;
+    }
+
     // What is to be sent of the last answer.
     std::string_view out() noexcept {
         std::size_t size = 0;
@@ -135,10 +142,16 @@ public:
         fault_ = lis_place{};
         if (spent_)
             return LIS_STATUS_OLD_LINE;
-        lis_status status = lis_station_start(get(), &answer_.send, &fault_);
-        if (status == LIS_STATUS_OK)
-            out = detail::view(answer_.send.bytes, answer_.send.len);
-        return status;
+        return started(lis_station_start(get(), &answer_.send, &fault_), out);
+    }
+    // As try_start, to send texts that stay with their owner, in their places, until the session is over: it takes no
+    // memory. Also LIS_STATUS_FULL if there are more than a session takes. The texts that were added stay.
+    [[nodiscard]] lis_status try_start_lent(const lis_text *texts, std::size_t count, std::string_view &out) noexcept {
+        out = std::string_view();
+        fault_ = lis_place{};
+        if (spent_)
+            return LIS_STATUS_OLD_LINE;
+        return started(lis_station_start_lent(get(), texts, count, &answer_.send, &fault_), out);
     }
     // Which text and which byte of it the last start failed for.
     lis_place fault() const noexcept { return fault_; }
@@ -196,7 +209,7 @@ public:
     }
     // Says whether the other side gets the line from now on: its ENQ is answered ACK, or NAK.
     void set_ready(bool ready) noexcept { lis_station_set_ready(get(), ready); }
-    // Makes room for so many more bytes of text.
+    // Makes room for so many more bytes of text, and as much for the text after it.
     [[nodiscard]] lis_status try_reserve(std::uint64_t bytes) noexcept { return lis_station_reserve(get(), bytes); }
 
     bool awaits_reply() const noexcept { return lis_station_awaits_reply(get()); }    // the next byte is a reply

@@ -93,12 +93,27 @@ bool lis_station_line_needs_new(const lis_station_line *line) {
     return !line->is_new && outcome != LIS_OUTCOME_DONE && outcome != LIS_OUTCOME_SIX_TRIES;
 }
 
-lis_status lis_station_line_start(lis_station_line *line, lis_bytes *out, lis_place *fault) {
-    bool session = lis_station_phase(&line->station) != LIS_PHASE_NEUTRAL;
+/* Whether a late reply could meet the ENQ of a start; then `fault` is written. */
+static bool is_old(const lis_station_line *line, lis_place *fault) {
     fault->index = fault->place = 0;
-    if (!session && lis_station_line_needs_new(line))
-        return LIS_STATUS_OLD_LINE;
-    lis_status status = lis_station_start(&line->station, out, fault);
+    return lis_station_phase(&line->station) == LIS_PHASE_NEUTRAL && lis_station_line_needs_new(line);
+}
+
+/* The status of a start, after which the connection has had a session. */
+static lis_status begun(lis_station_line *line, lis_status status) {
     line->is_new = line->is_new && status != LIS_STATUS_OK;
     return status;
+}
+
+lis_status lis_station_line_start(lis_station_line *line, lis_bytes *out, lis_place *fault) {
+    if (is_old(line, fault))
+        return LIS_STATUS_OLD_LINE;
+    return begun(line, lis_station_start(&line->station, out, fault));
+}
+
+lis_status lis_station_line_start_lent(lis_station_line *line, const lis_text *texts, size_t texts_len, lis_bytes *out,
+                                       lis_place *fault) {
+    if (is_old(line, fault))
+        return LIS_STATUS_OLD_LINE;
+    return begun(line, lis_station_start_lent(&line->station, texts, texts_len, out, fault));
 }

@@ -1,5 +1,5 @@
-/* The records of a piece of a stream in one call, with all their parts; and where to go on after a fault. Part of
- * liblislink. The call for each record is proved, these loops are not: the tests compare the first with one call for
+/* The records of a piece of a stream in one call, with all their parts or with some; and where the next header begins.
+ * Part of liblislink. The call for each record is proved, these loops are not: the tests compare them with one call for
  * each record and part. */
 #include <string.h>
 
@@ -34,12 +34,43 @@ size_t lis_reader_records(lis_reader *s, const uint8_t *bytes, size_t bytes_len,
     return at;
 }
 
-bool lis_reader_resume(lis_reader *s) {
-    lis_found found;
-    lis_reader_finish(s, &found);
-    lis_reader_end(*s);
-    lis_reader_init(s->at);
-    return found.reason == LIS_REASON_SECOND_HEADER;
+/* Whether a part comes before a column's in the text. */
+static bool is_before(const lis_part *part, const lis_column *column) {
+    if (part->field != column->field) return part->field < column->field;
+    if (part->repeat != column->repeat) return part->repeat < column->repeat;
+    return part->component < column->component;
+}
+
+/* The cell of a column among a record's parts, whose text begins at `at`. */
+static lis_cell cell_of(const lis_column *column, size_t at, const lis_part *parts, const lis_table *table) {
+    lis_cell none = {0, 0, table->delimiters, LIS_CELL_ABSENT};
+    const lis_part *end = parts + table->count;
+    while (parts < end && is_before(parts, column)) parts++;
+    if (parts == end || parts->field != column->field || parts->repeat != column->repeat
+        || parts->component != column->component)
+        return none;
+    lis_cell found = {at + parts->offset, parts->len, table->delimiters, parts->flags};
+    return found;
+}
+
+size_t lis_reader_columns(lis_reader *s, const uint8_t *bytes, size_t bytes_len, uint8_t letter,
+                          const lis_column *columns, size_t columns_len, lis_cell *cells, size_t rows_len,
+                          lis_part *parts, size_t parts_len, size_t *count) {
+    size_t at = 0;
+    *count = 0;
+    while (at < bytes_len && *count < rows_len) {
+        lis_found found;
+        lis_table table;
+        bool wanted = (bytes[at] & ~0x20) == letter;
+        if (wanted && may_not_fit(bytes + at, bytes_len - at, parts_len)) break;
+        size_t read = lis_reader_next(s, bytes + at, bytes_len - at, &found, parts, wanted ? parts_len : 0, &table);
+        if (read == 0) break;
+        for (size_t k = 0; wanted && k < columns_len; k++)
+            cells[k * rows_len + *count] = cell_of(&columns[k], at, parts, &table);
+        *count += wanted;
+        at += read;
+    }
+    return at;
 }
 
 size_t lis_header_find(const uint8_t *bytes, size_t bytes_len, bool *begins) {

@@ -1,5 +1,6 @@
 /* Messages are read in pieces of any length by lis_reader_records, into tables of any length, and compared with what
- * lis_reader_read and lis_record_parts say of the same stream; also a record that can't come next. */
+ * lis_reader_read and lis_record_parts say of the same stream; also a record that can't come next. The cells of
+ * lis_reader_columns are compared with lis_record_part. */
 #include <stdio.h>
 #include <stdlib.h>
 #include <string.h>
@@ -68,6 +69,39 @@ static size_t round_of(lis_reader *s, lis_reader *other, const uint8_t *stream, 
     return records;
 }
 
+/* The cells of the results of a stream mean what lis_record_part answers for each. */
+static size_t columns_of(lis_reader *s, const uint8_t *stream, size_t len) {
+    static const lis_column wanted[] = {{4, 0, 0}, {3, 0, 3}, {5, 0, 0}, {3, 1, 0}, {3, 0, 3}, {1, 0, 0}, {99, 0, 0}};
+    enum { COLUMNS = sizeof wanted / sizeof *wanted };
+    static const lis_delimiters by = {'|', '\\', '^', '&'};
+    lis_cell cells[COLUMNS * 3];
+    lis_part parts[ROOM];
+    const uint8_t *next = stream;
+    size_t at = 0, rows = 0, count, size, plain_size;
+    do {
+        size_t read = lis_reader_columns(s, stream + at, len - at, 'R', wanted, COLUMNS, cells, 3, parts, ROOM, &count);
+        for (size_t row = 0; row < count; row++, rows++) {
+            uint8_t alone[ROOM], plain[ROOM];
+            next = memchr(next + (rows > 0), 'R', (size_t)(stream + len - next - (rows > 0)));
+            while (next > stream && next[-1] != '\r') next = memchr(next + 1, 'R', (size_t)(stream + len - next - 1));
+            size_t long_as = (size_t)((const uint8_t *)memchr(next, '\r', (size_t)(stream + len - next)) - next);
+            for (size_t k = 0; k < COLUMNS; k++) {
+                const lis_cell *cell = &cells[k * 3 + row];
+                lis_status status = lis_record_part(&by, next, long_as, wanted[k].field, wanted[k].repeat,
+                                                    wanted[k].component, alone, ROOM, &size);
+                if ((status == LIS_STATUS_ABSENT) != ((cell->flags & LIS_CELL_ABSENT) != 0)) fail("absent");
+                if (status != LIS_STATUS_OK) continue;
+                if (lis_part_decode(&cell->delimiters, stream + at + cell->offset, cell->len, plain, ROOM, &plain_size)
+                        != LIS_STATUS_OK || plain_size != size || memcmp(plain, alone, size) != 0)
+                    fail("cell");
+            }
+        }
+        at += read;
+        if (read == 0) fail("nothing was read");
+    } while (at < len);
+    return rows;
+}
+
 /* An order with no patient can't come next. It isn't read, and lis_reader_read says why. */
 static void check_refused(lis_reader *s) {
     const uint8_t *bytes = (const uint8_t *)"H|\\^&\rO|1\rL\r";
@@ -86,11 +120,13 @@ static void check_refused(lis_reader *s) {
 int main(void) {
     lis_reader s = {malloc(lis_reader_size())}, other = {malloc(lis_reader_size())};
     char stream[ROOM];
-    size_t records = 0;
+    size_t records = 0, rows = 0;
     if (!s.at || !other.at) return 1;
     lis_reader_init(s.at);
     lis_reader_init(other.at);
     for (int k = 0; k < ROUNDS; k++) records += round_of(&s, &other, (const uint8_t *)stream, make(stream));
+    for (int k = 0; k < ROUNDS; k++) rows += columns_of(&s, (const uint8_t *)stream, make(stream));
+    if (rows < ROUNDS) fail("rows");
     check_refused(&s);
     lis_reader_end(s);
     lis_reader_end(other);

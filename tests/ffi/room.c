@@ -1,5 +1,5 @@
-/* The room of a text is used again: once two texts of a length were delivered, a receiver and a station take no more
- * memory for texts that are no longer. A message is read as places without any. Counts the calls of the heap. */
+/* Room that was reserved lasts: a receiver and a station take no memory for texts that are no longer. Nor does a receiver
+ * without it once two texts were delivered. A message is read as places without any. Counts the calls of the heap. */
 #include "../../examples/c/refusing_heap.h"
 #include <stdio.h>
 #include <string.h>
@@ -50,20 +50,19 @@ static unsigned station_hears(lis_station *station, unsigned from, unsigned to) 
     return texts;
 }
 
-/* Prints the calls of the heap that a station makes for texts once it has delivered two. */
+/* Prints the calls of the heap that a station makes for texts, of which it has room for one. */
 static void of_station(void) {
     void *at = aligned_alloc(lis_station_align(), lis_station_size());
     const uint8_t enq = 5;
     lis_station station = {at};
     lis_answer answer;
     lis_station_init(at);
-    if (lis_station_reserve(&station, 1000) != LIS_STATUS_OK)
+    if (lis_station_reserve(&station, 200) != LIS_STATUS_OK || lis_station_reserve(&station, 100) != LIS_STATUS_OK)
         return;
-    lis_station_hear(&station, &enq, 1, &answer);
-    unsigned first = station_hears(&station, 1, 3);
     size_t before = calls;
-    unsigned more = station_hears(&station, 3, 500);
-    printf("a station: %u texts, %zu calls of the heap for the last %u\n", first + more, calls - before, more);
+    lis_station_hear(&station, &enq, 1, &answer);
+    unsigned heard = station_hears(&station, 1, 500);
+    printf("a station: %u texts, %zu calls of the heap\n", heard, calls - before);
     lis_station_end(station);
     free(at);
 }
@@ -82,19 +81,40 @@ static size_t records(void) {
     return good && message.len == len ? message.count : 0;
 }
 
+/* Prints the calls of the heap that a receiver makes for texts, of which it has room for one. */
+static void of_reserved(void) {
+    void *at = aligned_alloc(lis_receiver_align(), lis_receiver_size());
+    const uint8_t enq = 5;
+    lis_receiver receiver = {at};
+    lis_step step;
+    lis_receiver_init(at);
+    if (lis_receiver_reserve(&receiver, 200) != LIS_STATUS_OK)
+        return;
+    size_t before = calls;
+    lis_receiver_hear(&receiver, &enq, 1, &step);
+    unsigned heard = hears(&receiver, 1, 500);
+    printf("with room: %u texts, %zu calls of the heap\n", heard, calls - before);
+    lis_receiver_end(receiver);
+    free(at);
+}
+
 int main(void) {
     void *at = aligned_alloc(lis_receiver_align(), lis_receiver_size());
     const uint8_t enq = 5;
     lis_receiver receiver = {at};
     lis_step step;
     lis_receiver_init(at);
-    if (lis_receiver_reserve(&receiver, 1000) != LIS_STATUS_OK)
-        return 1;
     lis_receiver_hear(&receiver, &enq, 1, &step);
     unsigned first = hears(&receiver, 1, 3);
     size_t before = calls;
     unsigned more = hears(&receiver, 3, 500);
     printf("%u texts, %zu calls of the heap for the last %u\n", first + more, calls - before, more);
+    if (lis_receiver_reserve(&receiver, 400) != LIS_STATUS_OK)
+        return 1;
+    before = calls;
+    more = hears(&receiver, 500, 600);
+    printf("%u texts, %zu calls of the heap\n", more, calls - before);
+    of_reserved();
     before = calls;
     size_t read = records();
     printf("%zu records, %zu calls of the heap\n", read, calls - before);

@@ -1,6 +1,6 @@
 /* How much of the stack calls take: a thread runs them on memory that was painted. lis_long_frame_write takes under
- * 64 KiB for the longest text; a session and records at the usual limit suit a thread of 128 kB, as musl makes them; a
- * sender and a station with the long limit suit one of a megabyte. */
+ * 64 KiB for the longest text; a session and records at the usual limit take under 16 KiB, so that they suit a thread of
+ * 128 kB, as musl makes them; a sender and a station with the long limit suit one of a megabyte. */
 #define _GNU_SOURCE
 #include "lislink.h"
 #include <pthread.h>
@@ -22,6 +22,9 @@ static void *writes(void *unused) {
 
 #define DONE(holds) do { if (!(holds)) exit(3); } while (0)
 
+/* A frame was copied, or none awaits its reply. */
+static void copied(lis_status status) { DONE(status == LIS_STATUS_OK || status == LIS_STATUS_ABSENT); }
+
 /* A session of a sender with texts of 1,000 bytes, which a station hears. */
 static void carry(lis_sender *sender, lis_station *station, size_t len) {
     lis_bytes out;
@@ -38,7 +41,7 @@ static void carry(lis_sender *sender, lis_station *station, size_t len) {
         size = out.len;
         memcpy(frame, out.bytes, size);
         if (size == 0)
-            (void)lis_sender_frame(sender, frame, sizeof frame, &size);
+            copied(lis_sender_frame(sender, frame, sizeof frame, &size));
     }
     DONE(lis_sender_outcome(sender) == LIS_OUTCOME_DONE);
     lis_station_byte(station, 4, &answer);
@@ -55,7 +58,7 @@ static void send_all(lis_station *station, size_t len) {
     while (lis_station_phase(station) != LIS_PHASE_NEUTRAL) {
         uint8_t reply = ACK;
         lis_station_hear(station, &reply, 1, &answer);
-        (void)lis_station_frame(station, frame, sizeof frame, &size);
+        copied(lis_station_frame(station, frame, sizeof frame, &size));
     }
     DONE(lis_station_outcome(station) == LIS_OUTCOME_DONE);
 }
@@ -142,6 +145,6 @@ static bool is_under(const char *what, void *(*run)(void *), size_t most) {
 int main(void) {
     memset(text, 'a', sizeof text);
     bool good = is_under("lis_long_frame_write", writes, 64 << 10) && size == sizeof frame;
-    good = is_under("the usual limit", usual, 64 << 10) && good;
+    good = is_under("the usual limit", usual, 16 << 10) && good;
     return !(is_under("the long limit", longest, 1000 << 10) && good);
 }

@@ -146,12 +146,9 @@ static void of_turns(void) {
     end(&station);
 }
 
-/* Sends a text of so many bytes from one to another; how many frames are acknowledged. */
-static unsigned long long carried(lis_station *from, lis_station *there, size_t len) {
+/* Carries a session that was started from one to another; how many frames are acknowledged. */
+static unsigned long long sends_all(lis_station *from, lis_station *there) {
     lis_answer reply;
-    memset(text, 'x', len);
-    SAME(lis_station_add_text(from, text, len), LIS_STATUS_OK);
-    SAME(lis_station_start(from, &answer.send, &fault), LIS_STATUS_OK);
     while (lis_station_phase(from) != LIS_PHASE_NEUTRAL) {
         bool is_long = answer.send.len == 0;
         if (is_long)
@@ -164,9 +161,54 @@ static unsigned long long carried(lis_station *from, lis_station *there, size_t 
     SAME(lis_station_outcome(from), LIS_OUTCOME_DONE);
     SAME(lis_station_hear(there, answer.send.bytes, answer.send.len, &reply), 1);
     SAME(reply.step.note, LIS_NOTE_ENDED);
+    return lis_station_acknowledged(from);
+}
+
+/* Sends a text of so many bytes from one to another; how many frames are acknowledged. */
+static unsigned long long carried(lis_station *from, lis_station *there, size_t len) {
+    memset(text, 'x', len);
+    SAME(lis_station_add_text(from, text, len), LIS_STATUS_OK);
+    SAME(lis_station_start(from, &answer.send, &fault), LIS_STATUS_OK);
+    unsigned long long frames = sends_all(from, there);
     SAME(lis_station_text_len(there), len);
     SAME(lis_station_text(there, copy, len) == LIS_STATUS_OK && memcmp(copy, text, len) == 0, true);
-    return lis_station_acknowledged(from);
+    return frames;
+}
+
+/* Texts that stay with the caller: the same session without the heap. */
+static void of_lent(size_t limit) {
+    static const lis_text texts[] = {{(const uint8_t *)"ok", 2}, {NULL, 0}, {text, MOST}};
+    static const lis_text bad[] = {{text, 1}, {(const uint8_t *)"a\n", 2}};
+    static lis_text many[LIS_LIMIT_TEXTS + 1];
+    lis_station station = begun(LIS_ROLE_ANALYZER, limit), other = begun(LIS_ROLE_COMPUTER, limit);
+    memset(text, 'x', MOST);
+    add(&station, "later");
+    fault.index = fault.place = 9;
+    SAME(lis_station_start_lent(&station, many, LIS_LIMIT_TEXTS + 1, &out, &fault), LIS_STATUS_FULL);
+    SAME(fault.index + fault.place, 0);
+    SAME(lis_station_start_lent(&station, NULL, 0, &out, &fault), LIS_STATUS_NO_TEXT);
+    SAME(lis_station_start_lent(&station, bad, 2, &out, &fault), LIS_STATUS_FORBIDDEN);
+    SAME(fault.index * 10 + fault.place, 11);
+    size_t before = calls;
+    SAME(lis_station_start_lent(&station, texts, 3, &out, &fault), LIS_STATUS_OK);
+    SAME(out.len == 1 && out.bytes[0] == ENQ && fault.index + fault.place == 0, true);
+    SAME(lis_station_start_lent(&station, texts, 1, &out, &fault), LIS_STATUS_IN_SESSION);
+    lis_station_restart(&station);
+    SAME(lis_station_start_lent(&station, many, LIS_LIMIT_TEXTS, &out, &fault), LIS_STATUS_OK);
+    lis_station_restart(&station);
+    SAME(to(&station, ENQ), ACK);
+    SAME(lis_station_start_lent(&station, texts, 3, &out, &fault), LIS_STATUS_LINE_OPEN);
+    SAME(to(&station, EOT), 0);
+    SAME(lis_station_start_lent(&station, texts, 3, &out, &fault), LIS_STATUS_OK);
+    SAME(calls - before, 0);
+    answer.send = out;
+    SAME(sends_all(&station, &other), 2 + (limit == MOST ? 1 : 267));
+    SAME(lis_station_text_len(&other), MOST);
+    SAME(lis_station_start(&station, &answer.send, &fault), LIS_STATUS_OK);
+    SAME(sends_all(&station, &other), 1);
+    SAME(lis_station_text(&other, copy, 5) == LIS_STATUS_OK && memcmp(copy, "later", 5) == 0, true);
+    end(&station);
+    end(&other);
 }
 
 /* Each way in turn, with both limits. */
@@ -227,6 +269,8 @@ int main(void) {
     of_contention();
     of_turns();
     of_both_ways();
+    of_lent(LIS_LIMIT_FRAME_TEXT);
+    of_lent(LIS_LIMIT_LONG_FRAME_TEXT);
     of_refusals();
     of_null();
     SAME(live, 0);

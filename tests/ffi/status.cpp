@@ -41,6 +41,8 @@ static std::string sent(lislink::station &station, std::string_view bytes) {
 static bool of_station() {
     lislink::station station(std::nothrow);
     std::string_view enq, bytes = first;
+    static const std::uint8_t letter = 'a';
+    const lis_text lent = {&letter, 1};
     if (!is(station && station.try_begin(LIS_ROLE_ANALYZER, 241) == LIS_STATUS_BAD_NUMBER)
         || !is(station.try_begin(LIS_ROLE_ANALYZER, LIS_LIMIT_LONG_FRAME_TEXT) == LIS_STATUS_OK)
         || !is(station.try_add("a") == LIS_STATUS_OK && station.try_start(enq) == LIS_STATUS_OLD_LINE))
@@ -60,7 +62,9 @@ static bool of_station() {
         && is((station.connected(), station.try_add("a")) == LIS_STATUS_OK)
         && is(station.try_start(enq) == LIS_STATUS_OK && sent(station, "\x06\x06") == first + "\x04")
         && is(station.outcome() == LIS_OUTCOME_DONE && station.acknowledged() == 1 && !station.patience())
-        && is(!station.needs_new_line());
+        && is(station.try_start_lent(nullptr, 0, enq) == LIS_STATUS_NO_TEXT && enq.empty())
+        && is(station.try_start_lent(&lent, 1, enq) == LIS_STATUS_OK && enq == "\x05")
+        && is(sent(station, "\x06\x06") == first + "\x04" && !station.needs_new_line());
 }
 
 static bool of_records() {
@@ -110,7 +114,9 @@ static bool of_receiver() {
         return false;
     // A reply that can't be sent ends the session.
     return is(!receiver.hear("\x05", [](std::string_view) {}, [](std::uint8_t) { return false; }))
-        && is(!receiver.is_open()) && is(receiver.try_reserve(1048577) == LIS_STATUS_TOO_LONG);
+        && is(!receiver.is_open()) && is(receiver.try_reserve(1048577) == LIS_STATUS_TOO_LONG)
+        && is(receiver.try_set_text_limit(1048577) == LIS_STATUS_TOO_LONG)
+        && is(receiver.try_set_text_limit(0) == LIS_STATUS_OK);
 }
 
 int main() { return of_sender() && of_station() && of_records() && of_receiver() ? 0 : step; }

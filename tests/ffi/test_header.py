@@ -89,7 +89,7 @@ def plain():
     """What the library has in plain C: its functions, which a compiler compares with the header, and their structs."""
     texts = "".join(open(path).read() for path in glob.glob(f"{OURS}/*.c"))
     functions = re.findall(r"^\w[\w *]*?(lis_\w+)\([^;]*?\) \{$", texts, re.M)
-    return {"lis_line", "lis_station_line", "lis_entry", *functions}
+    return {"lis_line", "lis_station_line", "lis_entry", "lis_column", "lis_cell", *functions}
 
 
 class Header(kit.Test):
@@ -120,12 +120,14 @@ class Header(kit.Test):
         with open(f"{work}/ignores.c", "w") as other:
             other.write('#include "lislink.h"\nvoid ignores(lis_reader *s, lis_found *out);\n'
                         "void ignores(lis_reader *s, lis_found *out) { lis_reader_finish(s, out); }\n"
-                        "#if defined LIS_ENUM || defined LIS_ENUM_END || defined LIS_LOOKED_AT\n"
+                        "#if defined LIS_ENUM || defined LIS_ENUM_END || defined LIS_LOOKED_AT || defined lis_status\n"
                         "#error a macro stays\n#endif\n")
-        words = ["-c", f"{work}/ignores.c", "-o", f"{work}/ignores.o"]
-        self.runs(["gcc", "-std=c99", *WARNINGS, *words])
-        ran = subprocess.run(["g++", "-std=c++17", "-x", "c++", *WARNINGS, *words], capture_output=True, text=True)
-        self.has("a status that isn't looked at, in C++17", ran.stderr, "nodiscard")
+        words = [*WARNINGS, "-c", f"{work}/ignores.c", "-o", f"{work}/ignores.o"]
+        for compiler, said in (("gcc -std=c99", "warn_unused_result"), ("gcc -std=c11", "warn_unused_result"),
+                               ("g++ -std=c++11 -x c++", "warn_unused_result"), ("g++ -std=c++17 -x c++", "nodiscard")):
+            ran = subprocess.run([*compiler.split(), *words], capture_output=True, text=True)
+            self.has(f"{compiler}: a status that isn't looked at", ran.stderr, said)
+            self.check("a macro stays" not in ran.stderr, compiler, "a macro of lislink.h stays")
 
     def test_quotations(self):
         """Each block of C or Python on a page is in a sample, whole and in its order, at one depth."""

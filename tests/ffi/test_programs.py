@@ -17,13 +17,15 @@ PROGRAMS = {"values": (["values.c", "names.c", "pieces.c", "heap.c"], re.escape(
             "resume": (["../../tests/ffi/resume.c", "pieces.c", "heap.c"], r"\d+ compared\n"),
             "null": (["../../tests/ffi/null.c", "heap.c"], r"\d+ compared\n"),
             "long": (["../../tests/ffi/long.c"], r"\d+ compared\n"),
+            "within": (["../../tests/ffi/within.c", "heap.c"], r"\d+ compared\n"),
             "station": (["../../tests/ffi/station.c"], r"\d+ compared\n"),
             "parts": (["../../tests/ffi/parts.c", "heap.c"], r"\d+ compared\n"),
             "stack": (["../../tests/ffi/stack.c", "heap.c"], "lis_long_frame_write: under 64 KiB\n"
-                      "the usual limit: under 64 KiB\nthe long limit: under 1000 KiB\n"),
+                      "the usual limit: under 16 KiB\nthe long limit: under 1000 KiB\n"),
             "room": (["../../tests/ffi/room.c"],
-                     r"499 texts, 0 calls of the heap for the last 497\n1004 records, 0 calls of the heap\n"
-                     r"a station: 499 texts, 0 calls of the heap for the last 497\n"),
+                     r"499 texts, 0 calls of the heap for the last 497\n100 texts, 0 calls of the heap\n"
+                     r"with room: 499 texts, 0 calls of the heap\n1004 records, 0 calls of the heap\n"
+                     r"a station: 499 texts, 0 calls of the heap\n"),
             "last": (["../../tests/ffi/last.c", "heap.c"], r"\d+ compared\n"),
             "serial": (["../../tests/ffi/serial.c", "serial.c"], r"in out\n"),
             "line": (["../../tests/ffi/line.c", "connection.c", "heap.c"], r"\d+ compared\n"),
@@ -78,6 +80,19 @@ class Programs(kit.Test):
         for name, wanted in (("quick_results", RESULTS), ("read_places", WHOSE), ("read_results", None)):
             words = [sys.executable, f"{IN_PYTHON}/{name}.py"]
             self.names_one(words, f"{work}/broken", wanted, 0, **python_over(library))
+
+    def test_sessions(self):
+        """A message that a session left without its L is not printed, and is named: its texts come again."""
+        work = kit.folder_of(self)
+        with open(self.panel, "rb") as file:
+            texts = file.read().splitlines(keepends=True)
+        self.runs([*C11, *SANITIZERS, source("results.c"), source("heap.c"), self.archive, "-o", f"{work}/results"])
+        with open(f"{work}/link", "wb") as file:
+            file.write(session(texts[:5]) + session(texts) + session(texts[:5]))
+        with open(f"{work}/link") as given:
+            ran = subprocess.run([f"{work}/results"], stdin=given, capture_output=True, text=True, timeout=60)
+        self.same("results", (ran.stdout, ran.stderr, ran.returncode),
+                  (RESULTS, 2 * "a message without its end is dropped\n", 0))
 
     def names_one(self, words, path, wanted, status, **how):
         """Whether a sample prints this, and one line on standard error of a record that can't be read."""

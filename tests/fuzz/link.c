@@ -125,7 +125,7 @@ static void interrupt(struct ends *ends, uint32_t seed, const uint8_t *stream, s
         break;
     case 3:
         CHECK((lis_receiver_set_ready(&ends->pieces, (lis_ready)(seed & 3)) == LIS_STATUS_OK) == ((seed & 3) != 3));
-        lis_receiver_set_ready(&ends->bytes, (lis_ready)(seed & 3));
+        CHECK((lis_receiver_set_ready(&ends->bytes, (lis_ready)(seed & 3)) == LIS_STATUS_OK) == ((seed & 3) != 3));
         break;
     case 4:
         reserved = lis_receiver_reserve(&ends->pieces, more);
@@ -141,6 +141,12 @@ static void interrupt(struct ends *ends, uint32_t seed, const uint8_t *stream, s
     case 7:
         lis_sender_clear(&ends->sender);
         start(ends, stream, len);
+        break;
+    case 8:
+        more = seed & 1 ? more : more % 700;
+        reserved = lis_receiver_set_text_limit(&ends->pieces, more);
+        CHECK(reserved == (more > LIS_LIMIT_TEXT_BYTES ? LIS_STATUS_TOO_LONG : LIS_STATUS_OK));
+        CHECK(lis_receiver_set_text_limit(&ends->bytes, more) == reserved);
         break;
     default:
         break;

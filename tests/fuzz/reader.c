@@ -37,7 +37,8 @@ static size_t add_components(lis_reader *reader, size_t field, size_t repeat, ui
 static void check_table(lis_reader *reader, uint8_t *room) {
     lis_table table;
     size_t size, alone;
-    lis_reader_parts(reader, NULL, 0, &table);
+    lis_status counted = lis_reader_parts(reader, NULL, 0, &table);
+    CHECK(counted == (table.count > 0 ? LIS_STATUS_TOO_SHORT : LIS_STATUS_OK));
     lis_part *parts = block((table.count + 1) * sizeof *parts);
     uint8_t *text = block(table.len);
     CHECK(lis_reader_parts(reader, parts, table.count, &table) == LIS_STATUS_OK);

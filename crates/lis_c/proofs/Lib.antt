@@ -7,3 +7,5 @@ pub mod RecordLaws
 pub mod SignalLaws
 pub mod StationLaws
 pub mod StepLaws
+pub mod WithinHearing
+pub mod WithinLaws

@@ -15,5 +15,6 @@ pub mod Signals
 pub mod Stations
 pub mod Status
 pub mod Steps
+pub mod Within
 pub mod Writing
 pub mod inside

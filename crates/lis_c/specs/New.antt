@@ -8,9 +8,10 @@ use denote.Memory.{lone}
 use denote.RattleType.{RattleType}
 use Rattle.lis_link.specs.Sender.{new_sender}
 use Rattle.lis_record_values.specs.Delimiters.{usual}
-use Rattle.lis_c.specs.Limits.{NewReceiver, NewScanner, sender_limit, sender_state}
+use Rattle.lis_c.specs.Limits.{NewScanner, sender_limit, sender_state}
 use Rattle.lis_c.specs.Reading.{new_reader}
 use Rattle.lis_c.specs.Stations.{NewStation}
+use Rattle.lis_c.specs.Within.{NewReceiverState}
 use Rattle.lis_station.specs.declared.station.Role.TheVariants.{Computer}
 use Rattle.lis_c.specs.contracts.record_builder.WriterHandleState as writer_handle_state
 use Rattle.lis_c.specs.contracts.handle_state.ReaderHandleState as reader_handle_state
@@ -32,14 +33,14 @@ abbrev pub IsNewSender : Ptr → Fml
 IsNewSender = IsNew sender_handle_state.the_row (λ d. (sender_limit d.sender ≡ 240)
     × (sender_state d.sender ≡ new_sender) × (d.texts ≡ []))
 
--- a handle's state with a new receiver of the usual limit, which has reserved nothing, and no text
+-- a handle's state with a new receiver of the usual limit, which has reserved nothing, and no limit and no text
 abbrev pub IsNewReceiver : Ptr → Fml
-IsNewReceiver = IsNew receiver_handle_state.the_row (λ d. NewReceiver 240 d.receiver × (d.text ≡ []))
+IsNewReceiver = IsNew receiver_handle_state.the_row (λ d. NewReceiverState 240 d)
 
 -- a handle's state with a new station of a computer and of the usual limit, and no text
 abbrev pub IsNewStation : Ptr → Fml
 IsNewStation = IsNew station_handle_state.the_row (λ d. NewStation Computer 240 d.station × (d.texts ≡ [])
-    × (d.text ≡ []))
+    × (d.text ≡ []) × (d.reserved ≡ 0))
 
 -- a handle's state with a reader at the start of a stream
 abbrev pub IsNewReader : Ptr → Fml

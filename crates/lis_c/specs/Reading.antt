@@ -1,6 +1,6 @@
 -- What C gets of the records of a stream.
-use Rattle.std.specs.Prelude.{◌≡◌, ℕ, ◌-◌, ◌==◌, List, [], Option, None, Some, Result, Ok, Err, length, take}
-use Rattle.std.specs.Prelude.{if◌then◌else◌, position}
+use Rattle.std.specs.Prelude.{◌≡◌, ℕ, ◌-◌, ◌==◌, Bool, true, false, List, [], Option, None, Some, Result, Ok, Err}
+use Rattle.std.specs.Prelude.{if◌then◌else◌, length, position, take}
 use Rattle.lis_text.specs.Control.{CR}
 use Rattle.lis_record_values.specs.Kinds.{letter_of}
 use Rattle.lis_record_values.specs.Shape.{RecordContent}
@@ -43,6 +43,11 @@ detail_of reason = 0
 abbrev pub place_of : Reason → ℕ
 place_of (Reasons.BadRecord fault) = record_place fault
 place_of reason = 0
+
+-- the record is the header of the next message
+abbrev pub is_second_header : Reason → Bool
+is_second_header Reasons.SecondHeader = true
+is_second_header reason = false
 
 abbrev pub nothing : LisFound
 nothing = record { kind = 0; letter = 0; reason = 0; detail = 0; fields = 0; place = 0; number = 0 }

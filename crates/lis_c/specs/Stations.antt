@@ -1,7 +1,9 @@
 -- What C gets of a station's answer, and what is in a station's block.
 use Rattle.std.specs.Prelude.{◌≡◌, ℕ, ◌≤◌, ◌<◌, ◌⊎◌, Bool, true, false, List, [], ◌∷◌, length, Option, None, Some}
+use Rattle.std.specs.Prelude.{if◌then◌else◌, nat_lt}
 use Rattle.std.specs.Option.{option_to_list}
 use Rattle.lis_text.specs.Control.{NAK}
+use Rattle.lis_text.specs.LinkText.{longest_text, most_texts}
 use Rattle.lis_frame.specs.Frame.{FrameContent}
 use Rattle.lis_link.specs.declared.receiver.Note.TheVariants.{Quiet}
 use Rattle.lis_link.specs.Duties.{emitted_bytes}
@@ -18,8 +20,9 @@ use Rattle.lis_station.specs.Station.{StationAnswer, StationState, StationStep, 
 use Rattle.lis_c.specs.Codes.{note_code, note_detail, note_place, reply_code}
 use Rattle.lis_c.specs.Emitted.{HoldsBytes, HoldsEmitted}
 use Rattle.lis_c.specs.Limits.{LimitStatus}
-use Rattle.lis_c.specs.Status.{BAD_NUMBER, OK, start_index, start_place, start_status}
+use Rattle.lis_c.specs.Status.{BAD_NUMBER, FULL, OK, start_index, start_place, start_status}
 use Rattle.lis_c.specs.Steps.{HoldsText}
+use Rattle.lis_c.specs.declared.borrowed.LisText.{LisText}
 use Rattle.lis_c.specs.declared.out.LisAnswer.{LisAnswer}
 use Rattle.lis_c.specs.declared.out.LisStep.{LisStep}
 use Rattle.lis_c.specs.declared.station_state.StationHandleState.{StationHandleState}
@@ -65,6 +68,11 @@ pub record NewStation (role : Role) (limit : ℕ) (station : AnyStation) : Type 
   pub state_is : IsNow station (new_station role)
   pub spare_is : station_spare station ≡ 0
 
+-- after a text there is the room that was reserved, unless memory ran out for it
+abbrev pub HasReserved : Bool → StationHandleState → Type 0
+HasReserved has_text new = has_text ≡ true → new.lacks_room ≡ false → new.reserved ≤ longest_text →
+    new.reserved ≤ station_spare new.station
+
 -- it was made anew: the role is one of the two, the limit too, and memory may run out for the long one
 abbrev pub BeginStatus : (status role limit : ℕ) → Type 0
 BeginStatus status role limit = ((status ≡ BAD_NUMBER) × (2 ≤ role)) ⊎ ((role < 2) × LimitStatus status limit)
@@ -76,6 +84,11 @@ abbrev pub station_start_status : Option StationFault → ℕ
 station_start_status None = OK
 station_start_status (Some LineOpen) = LINE_OPEN
 station_start_status (Some (Start fault)) = start_status (Some fault)
+
+-- the same with the texts of an array: that there are too many is reported first
+abbrev pub station_borrowed_status : List LisText → Option StationFault → ℕ
+station_borrowed_status texts fault =
+    if nat_lt most_texts (length texts) then FULL else station_start_status fault
 
 abbrev pub station_start_index : Option StationFault → ℕ
 station_start_index None = 0

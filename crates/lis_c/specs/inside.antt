@@ -4,3 +4,4 @@ pub mod Reports
 pub mod Signals
 pub mod Stations
 pub mod Steps
+pub mod Within

@@ -1,17 +1,21 @@
 //! What is in the caller's blocks, at the pointers.
 
-ghost use Rattle.std.specs.Prelude.{◌≡◌, ◌≢◌, ◌≤◌, ◌++◌, ◌∷◌, [], length, None, Some, MatchResult, take};
+ghost use Rattle.std.specs.Prelude.{◌≡◌, ◌≢◌, ◌≤◌, ◌<◌, ◌⊎◌, ◌++◌, ◌∷◌, [], false, length, max, None, Some};
+ghost use Rattle.std.specs.Prelude.{MatchResult, OnErr, OnOk, take};
 ghost use Rattle.lis_c.specs.Codes.{note_code, note_detail, note_place};
 ghost use Rattle.lis_c.specs.Status.{AddTextStatus, OK};
 ghost use Rattle.lis_c.specs.Steps.{IsNotOutOfMemory, IsOutOfMemory, MakesStep, ReportsRefusedFrame};
 ghost use Rattle.lis_c.specs.inside.Steps.{ReportsStep};
-ghost use Rattle.lis_c.specs.Limits.{NewReceiver, NewScanner, Receives, receiver_limit, sender_limit, sender_state};
+ghost use Rattle.lis_c.specs.Limits.{NewScanner, Receives, kept_by, receiver_limit, sender_limit, sender_state};
 ghost use Rattle.lis_c.specs.Limits.{spare_of, with_state};
-ghost use Rattle.lis_link.specs.Receiver.{ReceiverState, on_byte, on_bytes, on_receiver_timer};
+ghost use Rattle.lis_c.specs.Within.{HasNoLimit, HasReserved, KeepsLimits, NewReceiverState, on_byte_within};
+ghost use Rattle.lis_c.specs.Within.{on_bytes_within};
+ghost use Rattle.lis_link.specs.Receiver.{ReceiverState, on_receiver_timer};
 ghost use Rattle.lis_link.specs.Receiver.{with_heard};
 ghost use Rattle.lis_link.specs.Sender.{new_sender, start_fault, started};
 ghost use Rattle.lis_link.specs.Representation.{SpareAfter};
 ghost use Rattle.lis_c.specs.Reading.{new_reader};
+ghost use Rattle.lis_text.specs.LinkText.{longest_text};
 
 use crate::borrowed::{CallerTexts, OwnOrCallerTexts};
 use crate::out::{LisStep, fault_code, fault_place};
@@ -22,7 +26,7 @@ use crate::status;
 use lis_link::{Hearing, Note, StartFault, StartRefusedOf, Step};
 use lis_message::RecordReader;
 use lis_text::{LONGEST_TEXT, LinkText, List, MOST_TEXTS, Texts};
-use std::alloc::Global;
+use std::alloc::{AllocError, Global};
 use std::mem;
 
 /// A scanner.
@@ -39,11 +43,18 @@ pub struct SenderHandleState {
     pub texts: Texts,
 }
 
-/// A receiver, and the text that it delivered last.
+/// A receiver, the text that it delivered last, and the most bytes of a text, if its caller has a limit. After a text
+/// it has again the room that was reserved, of which there are so many bytes next to that text; or it lacks room
+/// because memory ran out.
 #[derive(Drop)]
 pub struct ReceiverHandleState {
+    pub alloc: Global,
     pub receiver: AnyReceiver,
     pub text: LinkText,
+    pub most: Option<usize>,
+    pub reserved: u64,
+    pub beside: u64,
+    pub lacks_room: bool,
 }
 
 /// A reader of records.
@@ -154,15 +165,53 @@ impl SenderHandleState {
 
 impl ReceiverHandleState {
     pub(crate) fn new(alloc: Global) -> Self
-        ensures { NewReceiver 240 result.receiver × (result.text ≡ []) }
+        ensures { NewReceiverState 240 result }
+    {
+        ReceiverHandleState::over(alloc, AnyReceiver::usual(alloc))
+    }
+
+    /// A receiver with no text, no limit on one, and nothing reserved.
+    pub(crate) fn over(alloc: Global, receiver: AnyReceiver) -> Self
+        ensures { (result.receiver ≡ receiver) × (result.text ≡ []) × HasNoLimit result }
     {
         ReceiverHandleState {
-            receiver: AnyReceiver::usual(alloc),
+            alloc,
+            receiver,
             text: List::new(alloc),
+            most: None,
+            reserved: 0,
+            beside: 0,
+            lacks_room: false,
         }
     }
 
-    /// Reports a step. A text that it delivers is kept; the receiver has the room of the one before.
+    /// Makes room for `bytes` more bytes of held text, and as much next to the text that was delivered last, whose
+    /// memory is the receiver's once the next one is delivered.
+    pub(crate) fn reserve(&mut self, bytes: u64) -> Result<(), AllocError>
+        requires { bytes ≤ longest_text }
+        ensures ok { OnOk result (bytes ≤ spare_of self.new.receiver) }
+        ensures exact { OnOk result (spare_of self.new.receiver ≡ max (spare_of self.old.receiver) bytes) }
+        ensures same { OnErr result (kept_by self.new.receiver ≡ kept_by self.old.receiver) }
+        ensures state { (r : ReceiverState) → Receives self.old.receiver r → Receives self.new.receiver r }
+        ensures spare { spare_of self.old.receiver ≤ spare_of self.new.receiver }
+        ensures limit { receiver_limit self.new.receiver ≡ receiver_limit self.old.receiver }
+        ensures lasts { OnOk result ((self.new.reserved ≡ bytes) × (self.new.lacks_room ≡ false)) }
+        ensures refused { OnErr result ((spare_of self.old.receiver < bytes) ⊎ (self.old.beside < bytes)) }
+        ensures kept { OnErr result (self.new.reserved ≡ self.old.reserved) }
+        ensures rest { (self.new.text ≡ self.old.text) × (self.new.most ≡ self.old.most) }
+    {
+        if self.beside < bytes {
+            make_room(&mut self.text, self.alloc, bytes)?;
+            self.beside = bytes;
+        }
+        self.receiver.reserve(bytes)?;
+        self.reserved = bytes;
+        self.lacks_room = false;
+        Ok(())
+    }
+
+    /// Reports a step. A text that it delivers is kept; the receiver has the room of the one before, and at least what
+    /// was reserved, unless memory runs out for it.
     // Within its callers the step is not copied.
     #[inline(always)]
     pub(crate) fn report(&mut self, step: Step, out: &mut LisStep)
@@ -170,6 +219,8 @@ impl ReceiverHandleState {
         ensures receiver { (r : ReceiverState) → Receives self.old.receiver r → Receives self.new.receiver r }
         ensures spare { spare_of self.old.receiver ≤ spare_of self.new.receiver }
         ensures limit { receiver_limit self.new.receiver ≡ receiver_limit self.old.receiver }
+        ensures lasts { HasReserved out.new.has_text self.new }
+        ensures rest { KeepsLimits self.old self.new }
     {
         let Step {
             reply,
@@ -186,6 +237,8 @@ impl ReceiverHandleState {
                 out.has_text = true;
                 let before = mem::replace(&mut self.text, text);
                 self.receiver.reuse(before);
+                self.beside = 0;
+                self.lacks_room = self.receiver.reserve(bounded(self.reserved)).is_err();
             }
         }
     }
@@ -194,16 +247,19 @@ impl ReceiverHandleState {
     /// Hears one byte, and reports the step.
     pub(crate) fn byte(&mut self, byte: u8, out: &mut LisStep)
         ensures step { (r : ReceiverState) → Receives self.old.receiver r → IsNotOutOfMemory out.new
-            → MakesStep (on_byte (receiver_limit self.old.receiver) byte r) self.old out.new self.new }
+            → MakesStep (on_byte_within (receiver_limit self.old.receiver) self.old.most byte r)
+            self.old out.new self.new }
         ensures refused { (r : ReceiverState) → Receives self.old.receiver r → IsOutOfMemory out.new
-            → ReportsRefusedFrame (on_byte (receiver_limit self.old.receiver) byte r)
+            → ReportsRefusedFrame (on_byte_within (receiver_limit self.old.receiver) self.old.most byte r)
             (record r { past = byte ∷ r.past }) self.old out.new self.new }
         ensures spare { (r : ReceiverState) → Receives self.old.receiver r
             → SpareAfter (spare_of self.old.receiver) (spare_of self.new.receiver)
-            (on_byte (receiver_limit self.old.receiver) byte r).taken }
+            (on_byte_within (receiver_limit self.old.receiver) self.old.most byte r).taken }
         ensures limit { receiver_limit self.new.receiver ≡ receiver_limit self.old.receiver }
+        ensures lasts { HasReserved out.new.has_text self.new }
+        ensures rest { KeepsLimits self.old self.new }
     {
-        let step = self.receiver.byte(byte);
+        let step = self.receiver.byte_within(self.most, byte);
         self.report(step, out);
     }
 
@@ -211,18 +267,21 @@ impl ReceiverHandleState {
     /// Hears bytes up to the first that means something, reports the step, and answers how many it heard.
     pub(crate) fn hear(&mut self, bytes: &[u8], out: &mut LisStep) -> usize
         ensures count { (r : ReceiverState) → Receives self.old.receiver r →
-            result ≡ (on_bytes (receiver_limit self.old.receiver) bytes.now r).count }
+            result ≡ (on_bytes_within (receiver_limit self.old.receiver) self.old.most bytes.now r).count }
         ensures step { (r : ReceiverState) → Receives self.old.receiver r → IsNotOutOfMemory out.new
-            → MakesStep (on_bytes (receiver_limit self.old.receiver) bytes.now r).step self.old out.new self.new }
+            → MakesStep (on_bytes_within (receiver_limit self.old.receiver) self.old.most bytes.now r).step
+            self.old out.new self.new }
         ensures refused { (r : ReceiverState) → Receives self.old.receiver r → IsOutOfMemory out.new
-            → ReportsRefusedFrame (on_bytes (receiver_limit self.old.receiver) bytes.now r).step
+            → ReportsRefusedFrame (on_bytes_within (receiver_limit self.old.receiver) self.old.most bytes.now r).step
             (with_heard (take result bytes.now) r) self.old out.new self.new }
         ensures spare { (r : ReceiverState) → Receives self.old.receiver r
             → SpareAfter (spare_of self.old.receiver) (spare_of self.new.receiver)
-            (on_bytes (receiver_limit self.old.receiver) bytes.now r).step.taken }
+            (on_bytes_within (receiver_limit self.old.receiver) self.old.most bytes.now r).step.taken }
         ensures limit { receiver_limit self.new.receiver ≡ receiver_limit self.old.receiver }
+        ensures lasts { HasReserved out.new.has_text self.new }
+        ensures rest { KeepsLimits self.old self.new }
     {
-        let Hearing { count, step } = self.receiver.bytes(bytes);
+        let Hearing { count, step } = self.receiver.bytes_within(self.most, bytes);
         self.report(step, out);
         count
     }
@@ -233,10 +292,30 @@ impl ReceiverHandleState {
             MakesStep (on_receiver_timer r) self.old out.new self.new }
         ensures spare { spare_of self.old.receiver ≤ spare_of self.new.receiver }
         ensures limit { receiver_limit self.new.receiver ≡ receiver_limit self.old.receiver }
+        ensures rest { KeepsLimits self.old self.new }
     {
         let step = self.receiver.timer();
         self.report(step, out);
     }
+}
+
+/// Makes room next to a text for so many bytes.
+pub(crate) fn make_room(text: &mut LinkText, alloc: Global, bytes: u64) -> Result<(), AllocError>
+    requires { bytes ≤ longest_text }
+    ensures { text.new ≡ text.old }
+{
+    let mut room = mem::replace(text, List::new(alloc)).into_vec();
+    let made = room.reserve_exact(bytes as usize);
+    *text = List::from_vec(room);
+    made
+}
+
+/// As many bytes, at most those of a text.
+pub(crate) fn bounded(bytes: u64) -> u64
+    ensures bound { result ≤ longest_text }
+    ensures same { bytes ≤ longest_text → result ≡ bytes }
+{
+    bytes.min(LONGEST_TEXT as u64)
 }
 
 /// Puts a copy of a text after others; where it is rejected they are as before.

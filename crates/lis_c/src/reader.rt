@@ -1,10 +1,11 @@
 //! The reader of records for programs in C: a stream in pieces, each record in its place (LIS02-A2).
 
-ghost use Rattle.std.specs.Prelude.{◌≡◌, ◌≢◌, ◌==◌, ◌≤◌, ◌<◌, Option, IfSome, length, position};
+ghost use Rattle.std.specs.Prelude.{◌≡◌, ◌≢◌, ◌==◌, ◌≤◌, ◌<◌, None, Option, IfSome, false, length, position};
 ghost use Rattle.lis_c.specs.Status.{TOO_SHORT, UNFINISHED};
 ghost use Rattle.lis_c.specs.declared.handle_state.ReaderHandleState.{ReaderHandleState};
 ghost use Rattle.lis_c.specs.New.{IsNewReader, type_align};
-ghost use Rattle.lis_c.specs.Reading.{AtEnd, IsSplitPart, IsSplitText, ReadsAndReports, ReadsPiece};
+ghost use Rattle.lis_c.specs.Reading.{AtEnd, IsSplitPart, IsSplitText, ReadsAndReports, ReadsPiece, is_second_header};
+ghost use Rattle.lis_c.specs.Reading.{new_reader};
 ghost use Rattle.lis_c.specs.Reading.{detail_of, nothing, piece_length, place_of, reason_code, reported_fault};
 ghost use Rattle.lis_c.specs.Reading.{reported_record};
 ghost use Rattle.lis_c.specs.contracts.handle_state.ReaderHandleState.{the_row as handle_state_row};
@@ -145,6 +146,34 @@ pub extern "C" fn lis_reader_text(s: &mut LisReader, out: &mut [u8], size: &mut 
     ensures same { s.new.state ≡ s.old.state }
 {
     s.borrow().last_text(out, size)
+}
+
+/// The reader is as at the start of a stream, so that it reads on at a header: the message that was open, what was held
+/// and the fault are dropped. True where the fault is a header inside a message: it is given again then.
+#[unsafe(no_mangle)]
+pub extern "C" fn lis_reader_resume(alloc: Global, s: &mut LisReader) -> bool
+    ensures again { IfSome s.old.state.reader.fault (λ fault. result ≡ is_second_header fault.reason) }
+    ensures unread { (left : Option Begun) → HasLeft s.old.state.reader left → result ≡ false }
+    ensures after { s.new.state.reader ≡ new_reader }
+    ensures left { HasLeft s.new.state.reader None }
+{
+    let handle_state = s.borrow();
+    let again = match handle_state.reader.finish() {
+        Ok(()) => false,
+        Err(fault) => is_second_header(fault.reason),
+    };
+    *handle_state = ReaderHandleState::new(alloc);
+    again
+}
+
+/// Whether a record can't be read because the message has its header.
+fn is_second_header(reason: Reason) -> bool
+    ensures { result ≡ is_second_header reason }
+{
+    match reason {
+        Reason::SecondHeader => true,
+        _ => false,
+    }
 }
 
 /// The end of the stream: `OK`, or `UNFINISHED` where a message isn't closed or a record isn't ended, or the fault that

@@ -1,15 +1,18 @@
 //! The receiver for programs in C.
 
-ghost use Rattle.std.specs.Prelude.{◌≡◌, ◌≢◌, ◌≤◌, ◌<◌, ◌∷◌, ◌++◌, [], drop, length, max, take};
+ghost use Rattle.std.specs.Prelude.{◌≡◌, ◌≢◌, ◌≤◌, ◌<◌, ◌⊎◌, ◌∷◌, ◌++◌, None, Some, drop, false, length, max};
+ghost use Rattle.std.specs.Prelude.{if◌then◌else◌, nat_lt, take};
 ghost use Rattle.lis_c.specs.declared.handle_state.ReceiverHandleState.{ReceiverHandleState};
 ghost use Rattle.lis_c.specs.Codes.{readiness_code};
-ghost use Rattle.lis_c.specs.Limits.{LimitStatus, NewReceiver, Receives, kept_by, receiver_limit, spare_of};
+ghost use Rattle.lis_c.specs.Limits.{LimitStatus, Receives, kept_by, receiver_limit, spare_of};
 ghost use Rattle.lis_c.specs.New.{IsNewReceiver, type_align};
-ghost use Rattle.lis_c.specs.Status.{BAD_NUMBER, OK, OUT_OF_MEMORY, ReserveStatus, copy_status};
+ghost use Rattle.lis_c.specs.Status.{BAD_NUMBER, OK, OUT_OF_MEMORY, ReserveStatus, TOO_LONG, copy_status};
 ghost use Rattle.lis_c.specs.Steps.{IsNotOutOfMemory, IsOutOfMemory, ReportsRefusedFrame, MakesStep};
+ghost use Rattle.lis_c.specs.Within.{HasReserved, KeepsLimits, NewReceiverState, on_byte_within, on_bytes_within};
 ghost use Rattle.lis_c.specs.contracts.handle_state.ReceiverHandleState.{the_row as handle_state_row};
+ghost use Rattle.lis_text.specs.LinkText.{longest_text};
 ghost use Rattle.lis_text.specs.declared.readiness.Readiness.{Readiness};
-ghost use Rattle.lis_link.specs.Receiver.{ReceiverState, on_byte, on_bytes, on_receiver_timer, receiver_restarted};
+ghost use Rattle.lis_link.specs.Receiver.{ReceiverState, on_receiver_timer, receiver_restarted};
 ghost use Rattle.lis_link.specs.Receiver.{held_length, with_heard, with_readiness, with_room};
 ghost use Rattle.lis_link.specs.Representation.{SpareAfter};
 ghost use Rattle.std.specs.Borrow.{sem};
@@ -21,7 +24,7 @@ use crate::out::{LisStep, copy_text};
 use crate::receiving::AnyReceiver;
 use crate::status;
 use lis_link::Readiness;
-use lis_text::{LONGEST_TEXT, List};
+use lis_text::LONGEST_TEXT;
 use std::alloc::Global;
 use std::marker::Model;
 use std::mem::{align_of, size_of};
@@ -87,7 +90,7 @@ pub unsafe extern "C" fn lis_receiver_init(alloc: Global, at: *mut u8)
 #[unsafe(no_mangle)]
 pub extern "C" fn lis_receiver_set_limit(alloc: Global, s: &mut LisReceiver, limit: usize) -> u8
     ensures status { LimitStatus result limit }
-    ensures set { result ≡ OK → NewReceiver limit s.new.state.receiver × (s.new.state.text ≡ []) }
+    ensures set { result ≡ OK → NewReceiverState limit s.new.state }
     ensures refused { result ≢ OK → s.new.state ≡ s.old.state }
 {
     let receiver = match limit {
@@ -98,9 +101,7 @@ pub extern "C" fn lis_receiver_set_limit(alloc: Global, s: &mut LisReceiver, lim
         },
         _ => return status::BAD_NUMBER,
     };
-    let handle_state = s.borrow();
-    handle_state.receiver = receiver;
-    handle_state.text = List::new(alloc);
+    *s.borrow() = ReceiverHandleState::over(alloc, receiver);
     status::OK
 }
 
@@ -109,14 +110,17 @@ pub extern "C" fn lis_receiver_set_limit(alloc: Global, s: &mut LisReceiver, lim
 #[unsafe(no_mangle)]
 pub extern "C" fn lis_receiver_byte(s: &mut LisReceiver, byte: u8, out: &mut LisStep)
     ensures step { (r : ReceiverState) → Receives s.old.state.receiver r → IsNotOutOfMemory out.new
-        → MakesStep (on_byte (receiver_limit s.old.state.receiver) byte r) s.old.state out.new s.new.state }
+        → MakesStep (on_byte_within (receiver_limit s.old.state.receiver) s.old.state.most byte r)
+        s.old.state out.new s.new.state }
     ensures refused { (r : ReceiverState) → Receives s.old.state.receiver r → IsOutOfMemory out.new
-        → ReportsRefusedFrame (on_byte (receiver_limit s.old.state.receiver) byte r)
+        → ReportsRefusedFrame (on_byte_within (receiver_limit s.old.state.receiver) s.old.state.most byte r)
         (record r { past = byte ∷ r.past }) s.old.state out.new s.new.state }
     ensures spare { (r : ReceiverState) → Receives s.old.state.receiver r
         → SpareAfter (spare_of s.old.state.receiver) (spare_of s.new.state.receiver)
-        (on_byte (receiver_limit s.old.state.receiver) byte r).taken }
+        (on_byte_within (receiver_limit s.old.state.receiver) s.old.state.most byte r).taken }
     ensures limit { receiver_limit s.new.state.receiver ≡ receiver_limit s.old.state.receiver }
+    ensures lasts { HasReserved out.new.has_text s.new.state }
+    ensures rest { KeepsLimits s.old.state s.new.state }
 {
     s.borrow().byte(byte, out);
 }
@@ -126,16 +130,19 @@ pub extern "C" fn lis_receiver_byte(s: &mut LisReceiver, byte: u8, out: &mut Lis
 #[unsafe(no_mangle)]
 pub extern "C" fn lis_receiver_hear(s: &mut LisReceiver, bytes: &[u8], out: &mut LisStep) -> usize
     ensures count { (r : ReceiverState) → Receives s.old.state.receiver r →
-        result ≡ (on_bytes (receiver_limit s.old.state.receiver) bytes.now r).count }
+        result ≡ (on_bytes_within (receiver_limit s.old.state.receiver) s.old.state.most bytes.now r).count }
     ensures step { (r : ReceiverState) → Receives s.old.state.receiver r → IsNotOutOfMemory out.new
-        → MakesStep (on_bytes (receiver_limit s.old.state.receiver) bytes.now r).step s.old.state out.new s.new.state }
+        → MakesStep (on_bytes_within (receiver_limit s.old.state.receiver) s.old.state.most bytes.now r).step
+        s.old.state out.new s.new.state }
     ensures refused { (r : ReceiverState) → Receives s.old.state.receiver r → IsOutOfMemory out.new
-        → ReportsRefusedFrame (on_bytes (receiver_limit s.old.state.receiver) bytes.now r).step
+        → ReportsRefusedFrame (on_bytes_within (receiver_limit s.old.state.receiver) s.old.state.most bytes.now r).step
         (with_heard (take result bytes.now) r) s.old.state out.new s.new.state }
     ensures spare { (r : ReceiverState) → Receives s.old.state.receiver r
         → SpareAfter (spare_of s.old.state.receiver) (spare_of s.new.state.receiver)
-        (on_bytes (receiver_limit s.old.state.receiver) bytes.now r).step.taken }
+        (on_bytes_within (receiver_limit s.old.state.receiver) s.old.state.most bytes.now r).step.taken }
     ensures limit { receiver_limit s.new.state.receiver ≡ receiver_limit s.old.state.receiver }
+    ensures lasts { HasReserved out.new.has_text s.new.state }
+    ensures rest { KeepsLimits s.old.state s.new.state }
 {
     s.borrow().hear(bytes, out)
 }
@@ -147,6 +154,7 @@ pub extern "C" fn lis_receiver_timer(s: &mut LisReceiver, out: &mut LisStep)
         MakesStep (on_receiver_timer r) s.old.state out.new s.new.state }
     ensures spare { spare_of s.old.state.receiver ≤ spare_of s.new.state.receiver }
     ensures limit { receiver_limit s.new.state.receiver ≡ receiver_limit s.old.state.receiver }
+    ensures rest { KeepsLimits s.old.state s.new.state }
 {
     s.borrow().timer(out);
 }
@@ -159,6 +167,7 @@ pub extern "C" fn lis_receiver_restart(s: &mut LisReceiver)
     ensures text { s.new.state.text ≡ s.old.state.text }
     ensures spare { spare_of s.old.state.receiver ≤ spare_of s.new.state.receiver }
     ensures limit { receiver_limit s.new.state.receiver ≡ receiver_limit s.old.state.receiver }
+    ensures rest { KeepsLimits s.old.state s.new.state }
 {
     s.borrow().receiver.restart();
 }
@@ -171,6 +180,7 @@ pub extern "C" fn lis_receiver_set_room(s: &mut LisReceiver, room: bool)
     ensures text { s.new.state.text ≡ s.old.state.text }
     ensures spare { spare_of s.new.state.receiver ≡ spare_of s.old.state.receiver }
     ensures limit { receiver_limit s.new.state.receiver ≡ receiver_limit s.old.state.receiver }
+    ensures rest { KeepsLimits s.old.state s.new.state }
 {
     s.borrow().receiver.set_room(room);
 }
@@ -186,6 +196,7 @@ pub extern "C" fn lis_receiver_set_ready(s: &mut LisReceiver, readiness: u8) -> 
     ensures text { s.new.state.text ≡ s.old.state.text }
     ensures spare { spare_of s.new.state.receiver ≡ spare_of s.old.state.receiver }
     ensures limit { receiver_limit s.new.state.receiver ≡ receiver_limit s.old.state.receiver }
+    ensures rest { KeepsLimits s.old.state s.new.state }
 {
     let readiness = match readiness {
         0 => Readiness::Ready,
@@ -197,27 +208,52 @@ pub extern "C" fn lis_receiver_set_ready(s: &mut LisReceiver, readiness: u8) -> 
     status::OK
 }
 
-/// Makes room for `bytes` more bytes of held text, so that taking them takes no memory: `OK`, `TOO_LONG` where no text
-/// has as many, or `OUT_OF_MEMORY`, and then there was less room. The state stays.
+/// Makes room for `bytes` more bytes of held text, so that taking them takes no memory, and for as many next to the
+/// text that was delivered last, so that there is room for so many again after each text: `OK`, `TOO_LONG` where no
+/// text has as many, or `OUT_OF_MEMORY`. The state stays.
 #[unsafe(no_mangle)]
 pub extern "C" fn lis_receiver_reserve(s: &mut LisReceiver, bytes: u64) -> u8
     ensures status { ReserveStatus result bytes }
     ensures spare { result ≡ OK → bytes ≤ spare_of s.new.state.receiver }
     ensures exact { result ≡ OK → spare_of s.new.state.receiver ≡ max (spare_of s.old.state.receiver) bytes }
     ensures kept { spare_of s.old.state.receiver ≤ spare_of s.new.state.receiver }
-    ensures refused { result ≡ OUT_OF_MEMORY → spare_of s.old.state.receiver < bytes }
     ensures same { result ≢ OK → kept_by s.new.state.receiver ≡ kept_by s.old.state.receiver }
     ensures state { (r : ReceiverState) → Receives s.old.state.receiver r → Receives s.new.state.receiver r }
     ensures text { s.new.state.text ≡ s.old.state.text }
     ensures limit { receiver_limit s.new.state.receiver ≡ receiver_limit s.old.state.receiver }
+    ensures lasts { result ≡ OK → (s.new.state.reserved ≡ bytes) × (s.new.state.lacks_room ≡ false) }
+    ensures refused { result ≡ OUT_OF_MEMORY →
+        (spare_of s.old.state.receiver < bytes) ⊎ (s.old.state.beside < bytes) }
+    ensures unlasting { result ≢ OK → s.new.state.reserved ≡ s.old.state.reserved }
+    ensures most { s.new.state.most ≡ s.old.state.most }
 {
     if bytes > LONGEST_TEXT as u64 {
         return status::TOO_LONG;
     }
-    match s.borrow().receiver.reserve(bytes) {
+    match s.borrow().reserve(bytes) {
         Ok(()) => status::OK,
         Err(_) => status::OUT_OF_MEMORY,
     }
+}
+
+/// Sets how many bytes a text may have: `OK`, or `TOO_LONG` where it is more than 1,048,576, and then nothing has
+/// changed. A frame with which its text would have more is answered NAK and not taken.
+#[unsafe(no_mangle)]
+pub extern "C" fn lis_receiver_set_text_limit(s: &mut LisReceiver, bytes: usize) -> u8
+    ensures status { result ≡ (if nat_lt longest_text bytes then TOO_LONG else OK) }
+    ensures set { bytes < longest_text → s.new.state ≡ record s.old.state { most = Some bytes } }
+    ensures longest { bytes ≡ longest_text → s.new.state ≡ record s.old.state { most = None } }
+    ensures refused { result ≢ OK → s.new.state ≡ s.old.state }
+{
+    if bytes > LONGEST_TEXT {
+        return status::TOO_LONG;
+    }
+    s.borrow().most = if bytes < LONGEST_TEXT {
+        Some(bytes)
+    } else {
+        None
+    };
+    status::OK
 }
 
 /// Whether the line is open: while it is, the caller runs the receiver's timer.

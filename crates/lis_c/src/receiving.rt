@@ -1,15 +1,20 @@
 //! A receiver of the usual limit on a frame's text, or of the long one.
 
-ghost use Rattle.std.specs.Prelude.{◌≡◌, ◌≢◌, ◌≤◌, ◌<◌, ◌∷◌, length, max, take, IfOk, OnErr, OnOk};
+ghost use Rattle.std.specs.Prelude.{◌≡◌, ◌≢◌, ◌≤◌, ◌<◌, ◌∷◌, length, max, take, IfOk, IsTrue, OnErr, OnOk, Some};
 ghost use Rattle.lis_c.specs.Limits.{NewReceiver, Receives, kept_by, receiver_limit, spare_of};
+ghost use Rattle.lis_c.specs.Within.{is_over, on_byte_within, on_bytes_within};
+ghost use Rattle.lis_c.specs.inside.Within.{IsHeardWithin};
+ghost use Rattle.lis_frame.specs.Stream.{signal_after};
 ghost use Rattle.lis_link.specs.declared.receiver.Note.TheVariants as Notes;
-ghost use Rattle.lis_link.specs.Receiver.{ReceiverState, held_length, on_byte, on_bytes, on_receiver_timer};
+ghost use Rattle.lis_link.specs.Receiver.{ReceiverState, answers, held_length, on_byte, on_bytes, on_receiver_timer};
 ghost use Rattle.lis_link.specs.Receiver.{receiver_restarted, with_heard, with_readiness, with_room};
 ghost use Rattle.lis_link.specs.Representation.{IsIn, IsStepMade, RefusesFrame, SpareAfter};
+ghost use Rattle.lis_text.specs.Control.{LF, NAK};
 ghost use Rattle.lis_text.specs.LinkText.{longest_text};
 
-use lis_link::{Hearing, Readiness, Receiver, ReceiverOf, Step};
-use lis_text::LinkText;
+use lis_frame::Heard;
+use lis_link::{Hearing, Note, Readiness, Receiver, ReceiverOf, Step};
+use lis_text::{LF, LinkText, NAK, STX};
 use std::alloc::{AllocError, Global};
 
 /// A receiver of either limit.
@@ -151,6 +156,104 @@ impl AnyReceiver {
         }
     }
 
+    #[tactic(auto, using(crate::proofs::WithinLaws::over_open, crate::proofs::WithinLaws::over_feed))]
+    /// Hears one byte as `byte` does; but the next frame of an open line with which its text would have more than
+    /// `most` bytes is answered NAK and not taken.
+    pub(crate) fn byte_within(&mut self, most: Option<usize>, byte: u8) -> Step
+        ensures step { (r : ReceiverState) → Receives self.old r → result.note ≢ Notes.OutOfMemory →
+            IsStepMade (receiver_limit self.new) (on_byte_within (receiver_limit self.old) most byte r) result
+            (kept_by self.new) }
+        ensures refused { (r : ReceiverState) → Receives self.old r → result.note ≡ Notes.OutOfMemory →
+            RefusesFrame (receiver_limit self.new) (spare_of self.old)
+            (on_byte_within (receiver_limit self.old) most byte r) (record r { past = byte ∷ r.past }) result
+            (kept_by self.new) }
+        ensures spare { (r : ReceiverState) → Receives self.old r → SpareAfter (spare_of self.old) (spare_of self.new)
+            (on_byte_within (receiver_limit self.old) most byte r).taken }
+        ensures limit { receiver_limit self.new ≡ receiver_limit self.old }
+    {
+        if self.is_over(most, byte) {
+            self.reject()
+        } else {
+            self.byte(byte)
+        }
+    }
+
+    /// Hears bytes as `bytes` does; but the next frame of an open line with which its text would have more than `most`
+    /// bytes is answered NAK and not taken.
+    pub(crate) fn bytes_within(&mut self, most: Option<usize>, bytes: &[u8]) -> Hearing
+        ensures count { (r : ReceiverState) → Receives self.old r →
+            result.count ≡ (on_bytes_within (receiver_limit self.old) most bytes.now r).count }
+        ensures step { (r : ReceiverState) → Receives self.old r → result.step.note ≢ Notes.OutOfMemory →
+            IsStepMade (receiver_limit self.new) (on_bytes_within (receiver_limit self.old) most bytes.now r).step
+            result.step (kept_by self.new) }
+        ensures refused { (r : ReceiverState) → Receives self.old r → result.step.note ≡ Notes.OutOfMemory →
+            RefusesFrame (receiver_limit self.new) (spare_of self.old)
+            (on_bytes_within (receiver_limit self.old) most bytes.now r).step
+            (with_heard (take result.count bytes.now) r) result.step (kept_by self.new) }
+        ensures spare { (r : ReceiverState) → Receives self.old r → SpareAfter (spare_of self.old)
+            (spare_of self.new) (on_bytes_within (receiver_limit self.old) most bytes.now r).step.taken }
+        ensures limit { receiver_limit self.new ≡ receiver_limit self.old }
+    {
+        match most {
+            None => self.bytes(bytes),
+            Some(most) => self.bytes_up_to(most, bytes),
+        }
+    }
+
+    /// Hears bytes with a limit on a text.
+    fn bytes_up_to(&mut self, most: usize, bytes: &[u8]) -> Hearing
+        ensures heard { (r : ReceiverState) → Receives self.old r → IsHeardWithin (receiver_limit self.new) most
+            bytes.now r (spare_of self.old) result (kept_by self.new) }
+        ensures limit { receiver_limit self.new ≡ receiver_limit self.old }
+    {
+        let mut count = 0;
+        while count < bytes.len() {
+            let step = self.byte_within(Some(most), bytes[count]);
+            count += 1;
+            match step.note {
+                Note::Quiet => {}
+                _ => return Hearing { count, step },
+            }
+        }
+        Hearing {
+            count,
+            step: Step {
+                reply: None,
+                message: None,
+                note: Note::Quiet,
+            },
+        }
+    }
+
+    /// Whether this byte ends the next frame of an open line, with which its text would have more than `most` bytes.
+    fn is_over(&self, most: Option<usize>, byte: u8) -> bool
+        ensures { (r : ReceiverState) → Receives self.now r →
+            result ≡ is_over most (signal_after (receiver_limit self.now) r.past byte) r }
+    {
+        let Some(most) = most else {
+            return false;
+        };
+        match self {
+            AnyReceiver::Usual(receiver) => exceeds(receiver, most, byte),
+            AnyReceiver::Long(receiver) => exceeds(receiver, most, byte),
+        }
+    }
+
+    /// Answers the frame that LF ends NAK, and takes nothing of it.
+    fn reject(&mut self) -> Step
+        ensures step { (r : ReceiverState) → Receives self.old r → IsTrue r.is_open →
+            IsStepMade (receiver_limit self.new)
+            (answers (Some NAK) Notes.TooLong (record r { past = LF ∷ r.past })) result (kept_by self.new) }
+        ensures note { result.note ≡ Notes.TooLong }
+        ensures spare { (r : ReceiverState) → Receives self.old r → spare_of self.old ≤ spare_of self.new }
+        ensures limit { receiver_limit self.new ≡ receiver_limit self.old }
+    {
+        match self {
+            AnyReceiver::Usual(receiver) => reject_frame(receiver),
+            AnyReceiver::Long(receiver) => reject_frame(receiver),
+        }
+    }
+
     /// Whether the line is open.
     pub(crate) fn is_open(&self) -> bool
         ensures { (r : ReceiverState) → Receives self.now r → result ≡ r.is_open }
@@ -189,4 +292,35 @@ fn restart_long(receiver: &mut ReceiverOf<63_993>)
     ensures spare { receiver.old.spare ≤ receiver.new.spare }
 {
     receiver.restart();
+}
+
+/// Whether this byte ends the next frame of an open line, with which its text would have more than so many bytes.
+fn exceeds<const N: usize>(receiver: &ReceiverOf<N>, most: usize, byte: u8) -> bool
+    ensures { (r : ReceiverState) → IsIn N receiver.now r →
+        result ≡ is_over (Some most) (signal_after N r.past byte) r }
+{
+    match receiver.scanner().peek(byte) {
+        Some(Heard::Good(frame)) => {
+            let is_next = u64::from(frame.number()) == (receiver.accepted() % 8 + 1) % 8;
+            receiver.is_open()
+                && (is_next && receiver.held() + frame.text().len() as u64 > most as u64)
+        }
+        _ => false,
+    }
+}
+
+/// The frame that is open is dropped, as if it were none: STX begins another one, which LF ends at once.
+fn reject_frame<const N: usize>(receiver: &mut ReceiverOf<N>) -> Step
+    ensures step { (r : ReceiverState) → IsIn N receiver.old r → IsTrue r.is_open →
+        IsStepMade N (answers (Some NAK) Notes.TooLong (record r { past = LF ∷ r.past })) result receiver.new }
+    ensures note { result.note ≡ Notes.TooLong }
+    ensures spare { (r : ReceiverState) → IsIn N receiver.old r → receiver.old.spare ≤ receiver.new.spare }
+{
+    let _begun = receiver.byte(STX);
+    let _ended = receiver.byte(LF);
+    Step {
+        reply: Some(NAK),
+        message: None,
+        note: Note::TooLong,
+    }
 }

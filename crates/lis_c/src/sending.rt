@@ -53,10 +53,7 @@ impl AnySender {
                 Ok(_) => Ok(()),
                 Err(refused) => Err(refused),
             },
-            AnySender::Long(sender) => match sender.start(texts) {
-                Ok(_) => Ok(()),
-                Err(refused) => Err(refused),
-            },
+            AnySender::Long(sender) => start_long(sender, texts),
         }
     }
 
@@ -138,6 +135,24 @@ impl AnySender {
             AnySender::Usual(sender) => sender.acknowledged(),
             AnySender::Long(sender) => sender.acknowledged(),
         }
+    }
+}
+
+/// The start for the long limit. It is apart, since what is emitted takes 64 kB of the stack.
+#[inline(never)]
+fn start_long(
+    sender: &mut SenderOver<63_993, OwnOrCallerTexts>,
+    texts: OwnOrCallerTexts,
+) -> Result<(), StartRefusedOf<OwnOrCallerTexts>>
+    ensures { MatchResult result
+        (λ unit. (start_fault sender.old (session_texts texts) ≡ None)
+        × (sender.new ≡ started 63993 (session_texts texts)))
+        (λ refused. (start_fault sender.old (session_texts texts) ≡ Some refused.fault)
+        × (refused.texts ≡ texts) × (sender.new ≡ sender.old)) }
+{
+    match sender.start(texts) {
+        Ok(_) => Ok(()),
+        Err(refused) => Err(refused),
     }
 }
 

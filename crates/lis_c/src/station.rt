@@ -1,15 +1,17 @@
 //! A station for programs in C: a sender and a receiver on one line.
 
-ghost use Rattle.std.specs.Prelude.{◌≡◌, ◌≢◌, ◌≤◌, ◌<◌, ◌∷◌, ◌++◌, [], drop, length, max, take};
+ghost use Rattle.std.specs.Prelude.{◌≡◌, ◌≢◌, ◌≤◌, ◌<◌, ◌⊎◌, ◌∷◌, ◌++◌, [], MatchResult, Some, drop, false, length};
+ghost use Rattle.std.specs.Prelude.{max, take};
 ghost use Rattle.lis_c.specs.declared.station_state.StationHandleState.{StationHandleState};
+ghost use Rattle.lis_c.specs.Borrowed.{borrowed_bytes};
 ghost use Rattle.lis_c.specs.Codes.{outcome_code, phase_code};
 ghost use Rattle.lis_c.specs.Emitted.{FrameCopied, HoldsBytes};
 ghost use Rattle.lis_c.specs.New.{IsNewStation, type_align};
-ghost use Rattle.lis_c.specs.Stations.{BeginStatus, Hears, IsNow, MakesAnswer, NewStation};
-ghost use Rattle.lis_c.specs.Stations.{RejectsForMemory, SecondsReported};
+ghost use Rattle.lis_c.specs.Stations.{BeginStatus, HasReserved, Hears, IsNow, MakesAnswer, NewStation};
+ghost use Rattle.lis_c.specs.Stations.{RejectsForMemory, SecondsReported, station_borrowed_status};
 ghost use Rattle.lis_c.specs.Stations.{StartsSession, role_code, seconds_code, state_of, station_kept, station_limit};
 ghost use Rattle.lis_c.specs.Stations.{station_spare, station_start_index, station_start_place, station_start_status};
-ghost use Rattle.lis_c.specs.Status.{AddTextStatus, OK, OUT_OF_MEMORY, ReserveStatus, copy_status};
+ghost use Rattle.lis_c.specs.Status.{AddTextStatus, FULL, OK, OUT_OF_MEMORY, ReserveStatus, copy_status};
 ghost use Rattle.lis_c.specs.Steps.{IsNotOutOfMemory, IsOutOfMemory};
 ghost use Rattle.lis_c.specs.contracts.station_state.StationHandleState.{the_row as handle_state_row};
 ghost use Rattle.lis_link.specs.Receiver.{ReceiverState, held_length, on_byte, on_bytes, with_heard};
@@ -25,6 +27,7 @@ ghost use Rattle.std.specs.Borrow.{sem};
 ghost use Rattle.std.specs.Mem.{type_size};
 ghost use Rattle.std.specs.Ptr.{room_at};
 
+use crate::borrowed::{CallerTexts, LisText};
 use crate::handle_state::add_text;
 use crate::out::{LisAnswer, LisBytes, LisPlace, copy_text, put};
 use crate::sender::{outcome_code, phase_code};
@@ -32,7 +35,7 @@ use crate::station_state::{StationHandleState, release_station};
 use crate::stationing::AnyStation;
 use crate::status::{self, start_index, start_place, start_status};
 use lis_station::{Role, StationFault};
-use lis_text::LONGEST_TEXT;
+use lis_text::{LONGEST_TEXT, MOST_TEXTS};
 use std::alloc::Global;
 use std::marker::Model;
 use std::mem::{align_of, size_of};
@@ -99,7 +102,8 @@ pub unsafe extern "C" fn lis_station_init(alloc: Global, at: *mut u8)
 pub extern "C" fn lis_station_begin(alloc: Global, s: &mut LisStation, role: u8, limit: usize) -> u8
     ensures status { BeginStatus result role limit }
     ensures begun { (known : Role) → role ≡ role_code known → result ≡ OK →
-        NewStation known limit s.new.state.station × (s.new.state.texts ≡ []) × (s.new.state.text ≡ []) }
+        NewStation known limit s.new.state.station × (s.new.state.texts ≡ []) × (s.new.state.text ≡ [])
+        × (s.new.state.reserved ≡ 0) }
     ensures refused { result ≢ OK → s.new.state ≡ s.old.state }
 {
     let role = match role {
@@ -161,18 +165,67 @@ pub extern "C" fn lis_station_start(
     ensures refused { (r : ReceiverState) → Hears s.old.state.station r → result ≢ OK →
         (out.new ≡ out.old) × (s.new.state ≡ s.old.state) }
 {
-    fault.index = 0;
-    fault.place = 0;
-    match s.borrow().start() {
+    report_start(s.borrow().start(), out, fault)
+}
+
+/// Asks for the line, to send texts that stay with the caller (LIS01-A2, 6.3), and takes no memory: `OK`, and ENQ goes
+/// on the link; else `FULL` where there are more than 65,536, or as `lis_station_start`. Where it isn't `OK` nothing
+/// has changed, and nothing is put to `out`. The texts that were put to the next session stay.
+///
+/// The array and the texts stay as they are, as for `lis_sender_start_lent`.
+#[unsafe(no_mangle)]
+pub extern "C" fn lis_station_start_lent(
+    s: &mut LisStation,
+    texts: &'static [LisText],
+    out: &mut LisBytes,
+    fault: &mut LisPlace,
+) -> u8
+    ensures status { (r : ReceiverState) → Hears s.old.state.station r → result ≡ station_borrowed_status texts.now
+        (station_fault (state_of s.old.state.station r) (borrowed_bytes texts.now)) }
+    ensures index { (r : ReceiverState) → Hears s.old.state.station r → result ≢ FULL → fault.new.index
+        ≡ station_start_index (station_fault (state_of s.old.state.station r) (borrowed_bytes texts.now)) }
+    ensures place { (r : ReceiverState) → Hears s.old.state.station r → result ≢ FULL → fault.new.place
+        ≡ station_start_place (station_fault (state_of s.old.state.station r) (borrowed_bytes texts.now)) }
+    ensures full { result ≡ FULL → (fault.new.index ≡ 0) × (fault.new.place ≡ 0) }
+    ensures emit { result ≡ OK → HoldsBytes out.new (ENQ ∷ []) }
+    ensures started { (r : ReceiverState) → Hears s.old.state.station r → result ≡ OK →
+        StartsSession (borrowed_bytes texts.now) s.old.state.station s.new.state.station
+        × (s.new.state ≡ record s.old.state { station = s.new.state.station }) }
+    ensures refused { (r : ReceiverState) → Hears s.old.state.station r → result ≢ OK →
+        (out.new ≡ out.old) × (s.new.state ≡ s.old.state) }
+{
+    if texts.len() > MOST_TEXTS {
+        fault.index = 0;
+        fault.place = 0;
+        return status::FULL;
+    }
+    report_start(
+        s.borrow().start_borrowed(CallerTexts::new(texts)),
+        out,
+        fault,
+    )
+}
+
+/// Says how a start went, and puts what goes on the link.
+fn report_start(start: Result<(), StationFault>, out: &mut LisBytes, place: &mut LisPlace) -> u8
+    ensures { MatchResult start
+        (λ unit. (result ≡ OK) × HoldsBytes out.new (ENQ ∷ []) × (place.new.index ≡ 0) × (place.new.place ≡ 0))
+        (λ fault. (result ≡ station_start_status (Some fault)) × (out.new ≡ out.old)
+        × (place.new.index ≡ station_start_index (Some fault))
+        × (place.new.place ≡ station_start_place (Some fault))) }
+{
+    place.index = 0;
+    place.place = 0;
+    match start {
         Ok(()) => {
             put(out, &[lis_text::ENQ]);
             status::OK
         }
         Err(StationFault::LineOpen) => status::LINE_OPEN,
-        Err(StationFault::Start(start)) => {
-            fault.index = start_index(start);
-            fault.place = start_place(start);
-            start_status(start)
+        Err(StationFault::Start(fault)) => {
+            place.index = start_index(fault);
+            place.place = start_place(fault);
+            start_status(fault)
         }
     }
 }
@@ -193,6 +246,8 @@ pub extern "C" fn lis_station_byte(s: &mut LisStation, byte: u8, out: &mut LisAn
         (on_station_byte (station_limit s.old.state.station) byte (state_of s.old.state.station r)).answer) }
     ensures limit { station_limit s.new.state.station ≡ station_limit s.old.state.station }
     ensures texts { s.new.state.texts ≡ s.old.state.texts }
+    ensures lasts { HasReserved out.new.step.has_text s.new.state }
+    ensures reserved { s.new.state.reserved ≡ s.old.state.reserved }
 {
     s.borrow().byte(byte, out);
 }
@@ -214,6 +269,8 @@ pub extern "C" fn lis_station_hear(s: &mut LisStation, bytes: &[u8], out: &mut L
         (on_station_bytes (station_limit s.old.state.station) bytes.now (state_of s.old.state.station r)).step.answer) }
     ensures limit { station_limit s.new.state.station ≡ station_limit s.old.state.station }
     ensures texts { s.new.state.texts ≡ s.old.state.texts }
+    ensures lasts { HasReserved out.new.step.has_text s.new.state }
+    ensures reserved { s.new.state.reserved ≡ s.old.state.reserved }
 {
     s.borrow().hear(bytes, out)
 }
@@ -227,6 +284,7 @@ pub extern "C" fn lis_station_timer(s: &mut LisStation, out: &mut LisAnswer)
     ensures spare { station_spare s.old.state.station ≤ station_spare s.new.state.station }
     ensures limit { station_limit s.new.state.station ≡ station_limit s.old.state.station }
     ensures texts { s.new.state.texts ≡ s.old.state.texts }
+    ensures reserved { s.new.state.reserved ≡ s.old.state.reserved }
 {
     s.borrow().timer(out);
 }
@@ -350,24 +408,27 @@ pub extern "C" fn lis_station_awaits_reply(s: &mut LisStation) -> bool
     s.borrow().station.awaits_reply()
 }
 
-/// Makes room for `bytes` more bytes of held text, as `lis_receiver_reserve`.
+/// Makes room for `bytes` more bytes of held text that lasts, as `lis_receiver_reserve`.
 #[unsafe(no_mangle)]
 pub extern "C" fn lis_station_reserve(s: &mut LisStation, bytes: u64) -> u8
     ensures status { ReserveStatus result bytes }
     ensures spare { result ≡ OK → bytes ≤ station_spare s.new.state.station }
     ensures exact { result ≡ OK → station_spare s.new.state.station ≡ max (station_spare s.old.state.station) bytes }
     ensures kept { station_spare s.old.state.station ≤ station_spare s.new.state.station }
-    ensures refused { result ≡ OUT_OF_MEMORY → station_spare s.old.state.station < bytes }
+    ensures refused { result ≡ OUT_OF_MEMORY →
+        (station_spare s.old.state.station < bytes) ⊎ (s.old.state.beside < bytes) }
     ensures same { result ≢ OK → station_kept s.new.state.station ≡ station_kept s.old.state.station }
     ensures state { (r : ReceiverState) → Hears s.old.state.station r →
         IsNow s.new.state.station (state_of s.old.state.station r) }
     ensures limit { station_limit s.new.state.station ≡ station_limit s.old.state.station }
-    ensures texts { s.new.state ≡ record s.old.state { station = s.new.state.station } }
+    ensures lasts { result ≡ OK → (s.new.state.reserved ≡ bytes) × (s.new.state.lacks_room ≡ false) }
+    ensures unlasting { result ≢ OK → s.new.state.reserved ≡ s.old.state.reserved }
+    ensures texts { (s.new.state.text ≡ s.old.state.text) × (s.new.state.texts ≡ s.old.state.texts) }
 {
     if bytes > LONGEST_TEXT as u64 {
         return status::TOO_LONG;
     }
-    match s.borrow().station.reserve(bytes) {
+    match s.borrow().reserve(bytes) {
         Ok(()) => status::OK,
         Err(_) => status::OUT_OF_MEMORY,
     }

@@ -1,8 +1,9 @@
 //! What is in a station's block.
 
-ghost use Rattle.std.specs.Prelude.{◌≡◌, ◌≤◌, ◌∷◌, [], take, None, Some, MatchResult};
+ghost use Rattle.std.specs.Prelude.{◌≡◌, ◌≤◌, ◌<◌, ◌⊎◌, ◌∷◌, [], false, max, take, None, Some, MatchResult};
+ghost use Rattle.std.specs.Prelude.{OnErr, OnOk};
 ghost use Rattle.lis_c.specs.Stations.{Hears, IsNow, MakesAnswer, NewStation, RejectsForMemory};
-ghost use Rattle.lis_c.specs.Stations.{StartsSession, state_of};
+ghost use Rattle.lis_c.specs.Stations.{HasReserved, StartsSession, state_of};
 ghost use Rattle.lis_c.specs.Stations.{station_kept, station_limit, station_spare};
 ghost use Rattle.lis_c.specs.Steps.{IsNotOutOfMemory, IsOutOfMemory};
 ghost use Rattle.lis_c.specs.inside.Stations.{ReportsAnswer};
@@ -11,23 +12,29 @@ ghost use Rattle.lis_link.specs.Representation.{SpareAfter};
 ghost use Rattle.lis_station.specs.declared.station.Role.TheVariants.{Computer};
 ghost use Rattle.lis_station.specs.Station.{on_station_byte, on_station_bytes, on_station_timer};
 ghost use Rattle.lis_station.specs.Station.{station_fault, taken_by};
+ghost use Rattle.lis_text.specs.LinkText.{longest_text};
 
-use crate::handle_state::{note_code, note_detail, note_place};
+use crate::borrowed::{CallerTexts, OwnOrCallerTexts};
+use crate::handle_state::{bounded, make_room, note_code, note_detail, note_place};
 use crate::out::{LisAnswer, LisStep};
 use crate::stationing::AnyStation;
 use lis_link::Step;
 use lis_station::{Role, StationFault, StationRefusedOf};
 use lis_text::{LinkText, List, Texts};
-use std::alloc::Global;
+use std::alloc::{AllocError, Global};
 use std::mem;
 
-/// A station, the texts of its next session, and the text that it delivered last.
+/// A station, the texts of its next session, and the text that it delivered last; of its room the same as of a
+/// receiver's.
 #[derive(Drop)]
 pub struct StationHandleState {
     pub alloc: Global,
     pub station: AnyStation,
     pub texts: Texts,
     pub text: LinkText,
+    pub reserved: u64,
+    pub beside: u64,
+    pub lacks_room: bool,
 }
 
 /// Releases all that a handle's state keeps.
@@ -35,21 +42,51 @@ pub(crate) fn release_station(_handle_state: StationHandleState) {}
 
 impl StationHandleState {
     pub(crate) fn new(alloc: Global) -> Self
-        ensures { NewStation Computer 240 result.station × (result.texts ≡ []) × (result.text ≡ []) }
+        ensures { NewStation Computer 240 result.station × (result.texts ≡ []) × (result.text ≡ [])
+            × (result.reserved ≡ 0) }
     {
         StationHandleState::over(alloc, AnyStation::usual(alloc, Role::Computer))
     }
 
-    /// A station with no text.
+    /// A station with no text, and nothing reserved.
     pub(crate) fn over(alloc: Global, station: AnyStation) -> Self
-        ensures { (result.station ≡ station) × (result.texts ≡ []) × (result.text ≡ []) }
+        ensures { (result.station ≡ station) × (result.texts ≡ []) × (result.text ≡ []) × (result.reserved ≡ 0) }
     {
         StationHandleState {
             alloc,
             station,
             texts: Texts::new(alloc),
             text: List::new(alloc),
+            reserved: 0,
+            beside: 0,
+            lacks_room: false,
         }
+    }
+
+    /// Makes room for `bytes` more bytes of held text, and as much next to the text that was delivered last, as
+    /// `ReceiverHandleState::reserve`.
+    pub(crate) fn reserve(&mut self, bytes: u64) -> Result<(), AllocError>
+        requires { bytes ≤ longest_text }
+        ensures ok { OnOk result (bytes ≤ station_spare self.new.station) }
+        ensures exact { OnOk result (station_spare self.new.station ≡ max (station_spare self.old.station) bytes) }
+        ensures same { OnErr result (station_kept self.new.station ≡ station_kept self.old.station) }
+        ensures state { (r : ReceiverState) → Hears self.old.station r →
+            IsNow self.new.station (state_of self.old.station r) }
+        ensures spare { station_spare self.old.station ≤ station_spare self.new.station }
+        ensures limit { station_limit self.new.station ≡ station_limit self.old.station }
+        ensures lasts { OnOk result ((self.new.reserved ≡ bytes) × (self.new.lacks_room ≡ false)) }
+        ensures refused { OnErr result ((station_spare self.old.station < bytes) ⊎ (self.old.beside < bytes)) }
+        ensures kept { OnErr result (self.new.reserved ≡ self.old.reserved) }
+        ensures rest { (self.new.text ≡ self.old.text) × (self.new.texts ≡ self.old.texts) }
+    {
+        if self.beside < bytes {
+            make_room(&mut self.text, self.alloc, bytes)?;
+            self.beside = bytes;
+        }
+        self.station.reserve(bytes)?;
+        self.reserved = bytes;
+        self.lacks_room = false;
+        Ok(())
     }
 
     /// Releases the texts of the next session.
@@ -69,13 +106,30 @@ impl StationHandleState {
             × (self.new ≡ self.old)) }
     {
         let texts = mem::replace(&mut self.texts, Texts::new(self.alloc));
-        match self.station.start(texts) {
+        match self.station.start(OwnOrCallerTexts::Copied(texts)) {
             Ok(()) => Ok(()),
             Err(refused) => {
                 let StationRefusedOf { texts, fault } = refused;
-                self.texts = texts;
+                if let OwnOrCallerTexts::Copied(texts) = texts {
+                    self.texts = texts;
+                }
                 Err(fault)
             }
+        }
+    }
+
+    /// Starts a session with texts that stay with the caller. Where it is rejected the handle's state is as before.
+    pub(crate) fn start_borrowed(&mut self, texts: CallerTexts) -> Result<(), StationFault>
+        ensures { (r : ReceiverState) → Hears self.old.station r → MatchResult result
+            (λ unit. (station_fault (state_of self.old.station r) texts ≡ None)
+            × StartsSession texts self.old.station self.new.station
+            × (self.new ≡ record self.old { station = self.new.station }))
+            (λ fault. (station_fault (state_of self.old.station r) texts ≡ Some fault)
+            × (self.new ≡ self.old)) }
+    {
+        match self.station.start(OwnOrCallerTexts::Borrowed(texts)) {
+            Ok(()) => Ok(()),
+            Err(refused) => Err(refused.fault),
         }
     }
 
@@ -90,6 +144,8 @@ impl StationHandleState {
         ensures spare { station_spare self.old.station ≤ station_spare self.new.station }
         ensures limit { station_limit self.new.station ≡ station_limit self.old.station }
         ensures texts { self.new.texts ≡ self.old.texts }
+        ensures lasts { HasReserved out.new.step.has_text self.new }
+        ensures reserved { self.new.reserved ≡ self.old.reserved }
     {
         let Some(
             Step {
@@ -120,6 +176,8 @@ impl StationHandleState {
                 out.step.has_text = true;
                 let before = mem::replace(&mut self.text, text);
                 self.station.reuse(before);
+                self.beside = 0;
+                self.lacks_room = self.station.reserve(bounded(self.reserved)).is_err();
             }
         }
     }
@@ -137,6 +195,8 @@ impl StationHandleState {
             (taken_by (on_station_byte (station_limit self.old.station) byte (state_of self.old.station r)).answer) }
         ensures limit { station_limit self.new.station ≡ station_limit self.old.station }
         ensures texts { self.new.texts ≡ self.old.texts }
+        ensures lasts { HasReserved out.new.step.has_text self.new }
+        ensures reserved { self.new.reserved ≡ self.old.reserved }
     {
         let step = self.station.byte(byte, &mut out.send);
         self.report(step, out);
@@ -157,6 +217,8 @@ impl StationHandleState {
             (on_station_bytes (station_limit self.old.station) bytes.now (state_of self.old.station r)).step.answer) }
         ensures limit { station_limit self.new.station ≡ station_limit self.old.station }
         ensures texts { self.new.texts ≡ self.old.texts }
+        ensures lasts { HasReserved out.new.step.has_text self.new }
+        ensures reserved { self.new.reserved ≡ self.old.reserved }
     {
         let (count, step) = self.station.bytes(bytes, &mut out.send);
         self.report(step, out);
@@ -171,6 +233,7 @@ impl StationHandleState {
         ensures spare { station_spare self.old.station ≤ station_spare self.new.station }
         ensures limit { station_limit self.new.station ≡ station_limit self.old.station }
         ensures texts { self.new.texts ≡ self.old.texts }
+        ensures reserved { self.new.reserved ≡ self.old.reserved }
     {
         let step = self.station.timer(&mut out.send);
         self.report(step, out);

@@ -2,13 +2,15 @@
 
 ghost use Rattle.std.specs.Prelude.{◌≡◌, ◌≤◌, ◌<◌, ◌+◌, ◌∷◌, max, take, length, None, Some, IfOk, MatchResult};
 ghost use Rattle.std.specs.Prelude.{OnErr, OnOk};
+ghost use Rattle.lis_c.specs.Borrowed.{session_texts};
 ghost use Rattle.lis_c.specs.Emitted.{FrameCopied};
 ghost use Rattle.lis_c.specs.Stations.{Hears, IsNow, NewStation, StartsSession, state_of, station_kept, station_limit};
 ghost use Rattle.lis_c.specs.Stations.{station_spare};
 ghost use Rattle.lis_c.specs.inside.Stations.{Answers, IsMemoryOut, PutsAnswer, RejectsFrame};
 ghost use Rattle.lis_link.specs.Receiver.{ReceiverState, held_length, on_byte, on_bytes, with_heard};
 ghost use Rattle.lis_link.specs.Representation.{IsIn, SpareAfter};
-ghost use Rattle.lis_link.specs.Sender.{awaited, sender_restarted};
+ghost use Rattle.lis_link.specs.Sender.{awaited, sender_restarted, started};
+ghost use Rattle.lis_station.specs.declared.station.Turn.TheVariants.{Free};
 ghost use Rattle.lis_station.specs.Representation.{IsStation, station_at};
 ghost use Rattle.lis_station.specs.Station.{awaits_reply, is_requested, line_closed, on_station_byte};
 ghost use Rattle.lis_station.specs.Station.{on_station_bytes, on_station_timer, readied, station_fault};
@@ -16,18 +18,19 @@ ghost use Rattle.lis_station.specs.Station.{station_restarted};
 ghost use Rattle.lis_station.specs.Station.{station_seconds, taken_by, turn_asked_for, turn_seconds};
 ghost use Rattle.lis_text.specs.LinkText.{longest_text};
 
+use crate::borrowed::OwnOrCallerTexts;
 use crate::out::{LisBytes, put, put_emit};
 use crate::sending::copy_awaited;
 use lis_link::{Outcome, Phase, Step};
-use lis_station::{AnswerOf, HearingOf, Role, Station, StationOf, StationRefusedOf};
-use lis_text::{LinkText, Texts};
+use lis_station::{AnswerOf, HearingOf, Role, StationOver, StationRefusedOf};
+use lis_text::LinkText;
 use std::alloc::{AllocError, Global};
 
 /// A station of either limit.
 #[derive(Drop)]
 pub enum AnyStation {
-    Usual(Station),
-    Long(Box<StationOf<63_993>>),
+    Usual(StationOver<240, OwnOrCallerTexts>),
+    Long(Box<StationOver<63_993, OwnOrCallerTexts>>),
 }
 
 impl AnyStation {
@@ -35,7 +38,7 @@ impl AnyStation {
     pub(crate) fn usual(alloc: Global, role: Role) -> Self
         ensures { NewStation role 240 result }
     {
-        AnyStation::Usual(Station::new(alloc, role))
+        AnyStation::Usual(StationOver::new(alloc, role))
     }
 
     /// A new station of the long limit.
@@ -43,15 +46,19 @@ impl AnyStation {
     pub(crate) fn long(alloc: Global, role: Role) -> Result<Self, AllocError>
         ensures { IfOk result (NewStation role 63993) }
     {
-        Ok(AnyStation::Long(Box::new(alloc, StationOf::new(alloc, role))?))
+        Ok(AnyStation::Long(Box::new(alloc, StationOver::new(alloc, role))?))
     }
 
     /// Starts a session with these texts: ENQ goes on the link. A rejected start gives the texts back, and the station
     /// is as before.
-    pub(crate) fn start(&mut self, texts: Texts) -> Result<(), StationRefusedOf<Texts>>
+    pub(crate) fn start(
+        &mut self,
+        texts: OwnOrCallerTexts,
+    ) -> Result<(), StationRefusedOf<OwnOrCallerTexts>>
         ensures { (r : ReceiverState) → Hears self.old r → MatchResult result
-            (λ unit. (station_fault (state_of self.old r) texts ≡ None) × StartsSession texts self.old self.new)
-            (λ refused. (station_fault (state_of self.old r) texts ≡ Some refused.fault)
+            (λ unit. (station_fault (state_of self.old r) (session_texts texts) ≡ None)
+            × StartsSession (session_texts texts) self.old self.new)
+            (λ refused. (station_fault (state_of self.old r) (session_texts texts) ≡ Some refused.fault)
             × (refused.texts ≡ texts) × (self.new ≡ self.old)) }
     {
         match self {
@@ -59,8 +66,8 @@ impl AnyStation {
                 Ok(_) => Ok(()),
                 Err(refused) => Err(refused),
             },
-            AnyStation::Long(station) => match station.start(texts) {
-                Ok(_) => Ok(()),
+            AnyStation::Long(station) => match start_long(station, texts) {
+                Ok(()) => Ok(()),
                 Err(refused) => Err(refused),
             },
         }
@@ -258,10 +265,10 @@ impl AnyStation {
     {
         match self {
             AnyStation::Usual(station) => {
-                copy_awaited::<240, 247, Texts>(station.sender(), out, size)
+                copy_awaited::<240, 247, OwnOrCallerTexts>(station.sender(), out, size)
             }
             AnyStation::Long(station) => {
-                copy_awaited::<63_993, 64_000, Texts>(station.sender(), out, size)
+                copy_awaited::<63_993, 64_000, OwnOrCallerTexts>(station.sender(), out, size)
             }
         }
     }
@@ -355,7 +362,7 @@ fn put_answer<const N: usize, const B: usize>(
 /// The byte for one limit. It is apart, since a long frame takes 64 kB of the stack.
 #[inline(never)]
 fn byte_of<const N: usize, const B: usize>(
-    station: &mut StationOf<N>,
+    station: &mut StationOver<N, OwnOrCallerTexts>,
     byte: u8,
     out: &mut LisBytes,
 ) -> Option<Step>
@@ -377,7 +384,7 @@ fn byte_of<const N: usize, const B: usize>(
 /// The bytes for one limit.
 #[inline(never)]
 fn bytes_of<const N: usize, const B: usize>(
-    station: &mut StationOf<N>,
+    station: &mut StationOver<N, OwnOrCallerTexts>,
     bytes: &[u8],
     out: &mut LisBytes,
 ) -> (usize, Option<Step>)
@@ -403,7 +410,7 @@ fn bytes_of<const N: usize, const B: usize>(
 /// The timer for one limit.
 #[inline(never)]
 fn timer_of<const N: usize, const B: usize>(
-    station: &mut StationOf<N>,
+    station: &mut StationOver<N, OwnOrCallerTexts>,
     out: &mut LisBytes,
 ) -> Option<Step>
     requires room { B ≡ N + 7 }
@@ -415,9 +422,27 @@ fn timer_of<const N: usize, const B: usize>(
     put_answer::<N, B>(station.timer(), out)
 }
 
+/// The start for the long limit, whose answer takes 64 kB of the stack.
+#[inline(never)]
+fn start_long(
+    station: &mut StationOver<63_993, OwnOrCallerTexts>,
+    texts: OwnOrCallerTexts,
+) -> Result<(), StationRefusedOf<OwnOrCallerTexts>>
+    ensures { (r : ReceiverState) → IsIn 63993 station.old.receiver r → MatchResult result
+        (λ unit. (station_fault (station_at station.old r) (session_texts texts) ≡ None)
+        × (station.new ≡ record station.old { sender = started 63993 (session_texts texts); turn = Free }))
+        (λ refused. (station_fault (station_at station.old r) (session_texts texts) ≡ Some refused.fault)
+        × (refused.texts ≡ texts) × (station.new ≡ station.old)) }
+{
+    match station.start(texts) {
+        Ok(_) => Ok(()),
+        Err(refused) => Err(refused),
+    }
+}
+
 /// Closing the line for the long limit, whose new scanner takes 64 kB of the stack for a moment.
 #[inline(never)]
-fn close_long(station: &mut StationOf<63_993>)
+fn close_long(station: &mut StationOver<63_993, OwnOrCallerTexts>)
     ensures state { (r : ReceiverState) → IsIn 63993 station.old.receiver r →
         IsStation 63993 station.new (line_closed (station_at station.old r)) }
     ensures spare { station.old.receiver.spare ≤ station.new.receiver.spare }
@@ -427,7 +452,7 @@ fn close_long(station: &mut StationOf<63_993>)
 
 /// The restart for the long limit.
 #[inline(never)]
-fn restart_long(station: &mut StationOf<63_993>)
+fn restart_long(station: &mut StationOver<63_993, OwnOrCallerTexts>)
     ensures state { (r : ReceiverState) → IsIn 63993 station.old.receiver r →
         IsStation 63993 station.new (station_restarted (station_at station.old r)) }
     ensures spare { station.old.receiver.spare ≤ station.new.receiver.spare }

@@ -129,7 +129,7 @@ class Note(enum.IntEnum):
     REFUSED = 7
     #: There is no room for a frame, as Receiver.set_room said.
     NO_ROOM = 8
-    #: The text would have over LIS_LIMIT_TEXT_BYTES.
+    #: The text would have over LIS_LIMIT_TEXT_BYTES, or over the receiver's limit.
     TEXT_TOO_LONG = 9
     TOO_LONG = TEXT_TOO_LONG
     #: 4,294,967,295 frames were accepted in this session.

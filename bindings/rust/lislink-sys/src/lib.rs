@@ -117,6 +117,8 @@ pub const LIS_BLOCK_ALIGN: u64 = 16;
 
 pub const LIS_PART_ESCAPED: u64 = 1;
 
+pub const LIS_CELL_ABSENT: u64 = 2;
+
 #[repr(C)]
 #[derive(Clone, Copy, Debug)]
 pub struct lis_bytes {
@@ -273,6 +275,23 @@ pub struct lis_entry {
 
 #[repr(C)]
 #[derive(Clone, Copy, Debug)]
+pub struct lis_column {
+    pub field: u32,
+    pub repeat: u32,
+    pub component: u32,
+}
+
+#[repr(C)]
+#[derive(Clone, Copy, Debug)]
+pub struct lis_cell {
+    pub offset: usize,
+    pub len: u32,
+    pub delimiters: lis_delimiters,
+    pub flags: u32,
+}
+
+#[repr(C)]
+#[derive(Clone, Copy, Debug)]
 pub struct lis_record_place {
     pub start: usize,
     pub parent: usize,
@@ -400,6 +419,7 @@ extern "C" {
     pub fn lis_receiver_set_room(s: *mut lis_receiver, room: bool);
     pub fn lis_receiver_set_ready(s: *mut lis_receiver, readiness: lis_ready) -> lis_status;
     pub fn lis_receiver_reserve(s: *mut lis_receiver, bytes: u64) -> lis_status;
+    pub fn lis_receiver_set_text_limit(s: *mut lis_receiver, bytes: usize) -> lis_status;
     pub fn lis_receiver_is_open(s: *const lis_receiver) -> bool;
     pub fn lis_receiver_timer_seconds(s: *const lis_receiver, seconds: *mut u32) -> bool;
     pub fn lis_receiver_accepted(s: *const lis_receiver) -> u64;
@@ -419,6 +439,13 @@ extern "C" {
     pub fn lis_station_clear(s: *mut lis_station);
     pub fn lis_station_start(
         s: *mut lis_station,
+        out: *mut lis_bytes,
+        fault: *mut lis_place,
+    ) -> lis_status;
+    pub fn lis_station_start_lent(
+        s: *mut lis_station,
+        texts: *const lis_text,
+        texts_len: usize,
         out: *mut lis_bytes,
         fault: *mut lis_place,
     ) -> lis_status;
@@ -458,6 +485,13 @@ extern "C" {
     pub fn lis_station_line_connected(line: *mut lis_station_line);
     pub fn lis_station_line_start(
         line: *mut lis_station_line,
+        out: *mut lis_bytes,
+        fault: *mut lis_place,
+    ) -> lis_status;
+    pub fn lis_station_line_start_lent(
+        line: *mut lis_station_line,
+        texts: *const lis_text,
+        texts_len: usize,
         out: *mut lis_bytes,
         fault: *mut lis_place,
     ) -> lis_status;
@@ -564,6 +598,19 @@ extern "C" {
         bytes_len: usize,
         entries: *mut lis_entry,
         entries_len: usize,
+        parts: *mut lis_part,
+        parts_len: usize,
+        count: *mut usize,
+    ) -> usize;
+    pub fn lis_reader_columns(
+        s: *mut lis_reader,
+        bytes: *const u8,
+        bytes_len: usize,
+        letter: u8,
+        columns: *const lis_column,
+        columns_len: usize,
+        cells: *mut lis_cell,
+        rows_len: usize,
         parts: *mut lis_part,
         parts_len: usize,
         count: *mut usize,

@@ -159,7 +159,7 @@ family! {
     Refused = LIS_NOTE_REFUSED,
     /// there is no room for a frame, as lis_receiver_set_room said.
     NoRoom = LIS_NOTE_NO_ROOM,
-    /// the text would have over LIS_LIMIT_TEXT_BYTES.
+    /// the text would have over LIS_LIMIT_TEXT_BYTES, or over the receiver's limit.
     TooLong = LIS_NOTE_TOO_LONG,
     /// 4,294,967,295 frames were accepted in this session.
     TooMany = LIS_NOTE_TOO_MANY,

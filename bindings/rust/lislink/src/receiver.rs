@@ -248,13 +248,25 @@ impl Receiver {
         Error::of(status)
     }
 
-    /// Makes room for so many more bytes of text.
+    /// Makes room for so many more bytes of text, and as much for the text after it: so once no text is longer, none
+    /// takes memory of the library.
     ///
     /// # Errors
     ///
     /// No text may have so many bytes, or there is no memory.
     pub fn reserve(&mut self, bytes: u64) -> Result<(), Error> {
         let status = unsafe { sys::lis_receiver_reserve(self.block.get(), bytes) };
+        Error::of(status)
+    }
+
+    /// Sets how many bytes a text may have, at most 1,048,576 as it is at first. A frame with which its text would
+    /// have more is answered NAK and not taken: [`Note::TooLong`].
+    ///
+    /// # Errors
+    ///
+    /// No text may have so many bytes.
+    pub fn set_text_limit(&mut self, bytes: usize) -> Result<(), Error> {
+        let status = unsafe { sys::lis_receiver_set_text_limit(self.block.get(), bytes) };
         Error::of(status)
     }
 

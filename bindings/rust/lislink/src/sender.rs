@@ -16,9 +16,17 @@ pub struct Text<'t>(sys::lis_text, PhantomData<&'t [u8]>);
 unsafe impl Send for Text<'_> {}
 unsafe impl Sync for Text<'_> {}
 
+impl<'t> Text<'t> {
+    /// A text that stays with its owner, also in a constant.
+    #[must_use]
+    pub const fn new(text: &'t [u8]) -> Self {
+        Text(sys::lis_text { bytes: text.as_ptr(), bytes_len: text.len() }, PhantomData)
+    }
+}
+
 impl<'t> From<&'t [u8]> for Text<'t> {
     fn from(text: &'t [u8]) -> Self {
-        Text(sys::lis_text { bytes: text.as_ptr(), bytes_len: text.len() }, PhantomData)
+        Text::new(text)
     }
 }
 
@@ -62,7 +70,8 @@ impl<'t> Sender<'t> {
         Sender { line, _block: block, limit, sent: Vec::new(), texts: PhantomData }
     }
 
-    /// A sender of frames whose texts have at most so many bytes.
+    /// A sender of frames whose texts have at most so many bytes. With the long limit its calls need a thread with a
+    /// stack of a megabyte.
     ///
     /// # Errors
     ///

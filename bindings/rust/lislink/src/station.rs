@@ -1,6 +1,6 @@
 //! The station: both ways of one line.
 use crate::receiver::{no_step, step_of};
-use crate::{block::Block, Bytes, Error, FrameLimit, Note, Outcome, Phase, Role, Step};
+use crate::{block::Block, Bytes, Error, FrameLimit, Note, Outcome, Phase, Role, Step, Text};
 use lislink_sys as sys;
 use std::time::Duration;
 
@@ -67,7 +67,7 @@ impl Drop for StationAnswer<'_> {
 }
 
 impl Station {
-    /// A station without a connection.
+    /// A station without a connection. With the long limit its calls need a thread with a stack of a megabyte.
     ///
     /// # Errors
     ///
@@ -112,6 +112,24 @@ impl Station {
     #[must_use]
     pub fn needs_new_line(&self) -> bool {
         self.spent || self.phase() != Phase::Neutral
+    }
+
+    /// As [`start`](Self::start), with texts that are there as long as the program: it takes no memory.
+    ///
+    /// # Errors
+    ///
+    /// Those of [`start`](Self::start), or there are more texts than a session takes.
+    pub fn start_lent(&mut self, texts: &'static [Text<'static>]) -> Result<Bytes, Error> {
+        if self.spent {
+            Error::of(sys::LIS_STATUS_OLD_LINE)?;
+        }
+        let (mut out, mut fault) = (Bytes::none(), sys::lis_place { index: 0, place: 0 });
+        let (station, first) = (self.block.get(), texts.as_ptr().cast());
+        let status = unsafe {
+            sys::lis_station_start_lent(station, first, texts.len(), out.get(), &mut fault)
+        };
+        Error::at_text(status, fault)?;
+        Ok(out)
     }
 
     fn add_all<T: AsRef<[u8]>>(&mut self, texts: impl IntoIterator<Item = T>) -> Result<(), Error> {
@@ -242,7 +260,7 @@ impl Station {
         unsafe { sys::lis_station_set_ready(self.block.get(), ready) };
     }
 
-    /// Makes room for so many more bytes of text.
+    /// Makes room for so many more bytes of text, and as much for the text after it.
     ///
     /// # Errors
     ///

@@ -317,6 +317,11 @@ fn a_receiver_says_what_it_heard() {
     let heard = receiver.hear_each(b"\x05\x05", |_| true, |_| true, |step| notes.push(step.note));
     assert_eq!((heard, notes), (Heard::All, vec![Note::NotReady, Note::Opened]));
     receiver.set_room(false);
+    assert_eq!(receiver.set_text_limit(1_048_577).err().map(|it| it.status), Some(Status::TooLong));
+    receiver.set_text_limit(5).unwrap();
+    let mut told = Vec::new();
+    let _ = receiver.hear_each(HEADER, |_| true, |_| true, |step| told.push(step.note));
+    assert_eq!(told, [Note::TooLong]);
     receiver.reserve(1_000_000).unwrap();
     assert_eq!(receiver.reserve(1_048_577).err().map(|it| it.status), Some(Status::TooLong));
     assert_eq!((receiver.accepted(), receiver.held()), (0, 0));
@@ -420,6 +425,10 @@ fn a_station_sends_and_receives() {
     assert_eq!(sent(&mut station, b"\x06\x06"), [HEADER, b"\x04"].concat());
     assert_eq!((station.outcome(), station.acknowledged()), (Outcome::Done, 1));
     assert!(!station.needs_new_line());
+    static LENT: [Text<'static>; 1] = [Text::new(b"H|\\^&\r")];
+    assert_eq!(&station.start_lent(&LENT).unwrap()[..], b"\x05");
+    assert_eq!(status(station.start_lent(&LENT)), Some(Status::InSession));
+    assert_eq!(sent(&mut station, b"\x06\x06"), [HEADER, b"\x04"].concat());
     station.set_ready(false);
     assert_eq!(sent(&mut station, b"\x05"), b"\x15");
     assert_eq!(station.reserve(1_048_577).err().map(|it| it.status), Some(Status::TooLong));
