@@ -8,7 +8,7 @@ from tests import kit
 kit.library()
 from lislink import (LONG_FRAME_TEXT, FrameFault, Kind, LinkError, MessageError, Note, Outcome, Phase,  # noqa: E402
                      Readiness, Reason, Reader, Receiver, Record, Role, Scanner, Sender, Station, Status, Writer,
-                     WrongThread, frame_bytes, message_places, messages, next_header, read_all, records)
+                     WrongThread, columns, frame_bytes, message_places, messages, next_header, read_all, records)
 
 FIRST = bytes.fromhex("0231487c5c5e260d0345350d0a")
 LONG = b"\x021" + b"a" * 63993 + b"\x03%02X\r\n" % ((ord("1") + 63993 * ord("a") + 3) % 256)
@@ -356,6 +356,27 @@ class Calls(kit.Test):
         self.gives(read_error([b"H|\\^&\rP|"]), (2, Reason.UNFINISHED, 0, 0))
         self.gives(read_error([b"H|\\^&\rP|" + b"1" * 65536]), (2, Reason.TOO_LONG, 0, 0))
         self.gives(read_error([]), None)
+
+    def test_columns(self):
+        """Some parts of all records of a letter are what `part` says of each, and no more of them is asked for."""
+        first = b"H|\\^&\rP|1\rO|1\rR|1|^^^GLU|5.4|mg&F&dL\rR|2|^^^NA\\a^b|139\rC|1\rL|1\r"
+        other = b"h*!+-*x\rp*1*a!b+c\rO*1\rr*1*+++K*4.1-X20-\rL*1\r"
+        text = (first + other) * 700
+        wanted = [(3, 0, 3), 4, (5,), (3, 1, 0), (3, 1), 1]
+        rows = [row for rows in messages(text) for row in rows if row.letter == "R"]
+        given = [[row.part(*(one if isinstance(one, tuple) else (one,))) for row in rows] for one in wanted]
+        self.gives(columns(text, "R", *wanted), given)
+        self.gives(columns(text, "r", 4)[0][:3], [b"5.4", b"139", b"4.1 "])
+        self.gives((columns(text, "P", (3, 1, 1))[0][:2], columns(text, "X", 2), columns(text, "R")),
+                   ([None, b"c"], [[]], []))
+        self.gives((columns(b"", "R", 3), columns(bytearray(first), "H", 3)), ([[]], [[None]]))
+        for broken, wrong in ((b"H|\\^&\rR|1\r", Reason.NO_PARENT), (b"H|\\^&\rP|1", Reason.UNFINISHED),
+                              (b"H|\\^&\rP|" + b"1" * 65536, Reason.TOO_LONG)):
+            self.gives(error_of(lambda: columns(broken, "R", 3))[1], wrong)
+        for words in ((1, "R"), (b"", "RR"), (b"", b"R"), (b"", "R", "3"), (b"", "R", True)):
+            self.assertRaises(TypeError, columns, *words)
+        for words in ((b"", "R", (3, 0, 3, 0)), (b"", "R", -1)):
+            self.assertRaises(ValueError, columns, *words)
 
     def test_resume(self):
         """After a message that broke off, and after one that can't be read, the others are read: in pieces of any size,

@@ -8,6 +8,7 @@
 from ._library import LibraryMissing
 from .capture import Capture, CaptureError, Line, read_capture, write_lines
 from .codes import FrameFault, Kind, Note, Outcome, Phase, Readiness, Reason, Role, Status
+from .columns import columns
 from .link import (
     BUSY,
     CONTENTION,
@@ -78,6 +79,7 @@ __all__ = [
     "View",
     "WrongThread",
     "__version__",
+    "columns",
     "frame_bytes",
     "message_places",
     "messages",

@@ -101,6 +101,10 @@ _CALLS: Dict[str, Any] = {
     "reader_part": (_BYTE, _POINTER, _SIZE, _SIZE, _SIZE, _POINTER, _SIZE, _POINTER),
     "reader_parts": (_BYTE, _POINTER, _POINTER, _SIZE, _POINTER),
     "reader_text": (_BYTE, _POINTER, _POINTER, _SIZE, _POINTER),
+    "reader_columns": (
+        *(_SIZE, _POINTER, _POINTER, _SIZE, _BYTE),
+        *(_POINTER, _SIZE, _POINTER, _SIZE, _POINTER, _SIZE, _POINTER),
+    ),
     "reader_finish": (_BYTE, _POINTER, _POINTER),
     "reader_resume": (_FLAG, _POINTER),
     "header_find": (_SIZE, _POINTER, _SIZE, _POINTER),
@@ -133,6 +137,7 @@ _CALLS: Dict[str, Any] = {
     "receiver_set_room": (None, _POINTER, _FLAG),
     "receiver_set_ready": (_BYTE, _POINTER, _BYTE),
     "receiver_reserve": (_BYTE, _POINTER, _COUNT),
+    "receiver_set_text_limit": (_BYTE, _POINTER, _SIZE),
     "receiver_is_open": (_FLAG, _POINTER),
     "receiver_accepted": (_COUNT, _POINTER),
     "receiver_held": (_COUNT, _POINTER),

@@ -304,7 +304,8 @@ class ReceivingEnd(Owner, Generic[Meaning]):
         raise NotImplementedError
 
     def reserve(self, count: int) -> None:
-        """Makes room for so many more bytes of text."""
+        """Makes room for so many more bytes of text, and as much for the text after it: so once no text is longer, none
+        takes memory of the library."""
         status = self._call("reserve", as_number(count, 0, (1 << 64) - 1, "the count"))
         if status:
             raise LinkError(status)
@@ -422,6 +423,13 @@ class Receiver(ReceivingEnd[Step]):
     A frame's text has at most `frame_limit` bytes, FRAME_TEXT or LONG_FRAME_TEXT."""
 
     _kind = "receiver"
+
+    def set_text_limit(self, count: int) -> None:
+        """Sets how many bytes a text may have, at most 1,048,576 as it is at first. A frame with which its text would
+        have more is answered NAK and not taken: Note.TOO_LONG. LinkError TOO_LONG for more."""
+        status = self._call("set_text_limit", as_number(count, 0, (1 << 64) - 1, "the count"))
+        if status:
+            raise LinkError(status)
 
     def __init__(self, *, frame_limit: int = FRAME_TEXT) -> None:
         super().__init__()
