@@ -3,6 +3,7 @@
 # make test     the gate: proves everything, tries the mutants of must-fail/, runs all tests
 # make check CRATE=lis_frame   proves one crate, tries its mutants of must-fail/, and runs the tests that use it
 # make library  proves and builds the library for C and Python into build/
+# make debug    builds it once more with a mark in front of each block, which names one that is used wrongly
 # make install  puts what was built under $(PREFIX): program, library, headers, Python package, manual pages
 # make uninstall  removes these again
 # make deb      makes a package of Debian of them, build/lislink_VERSION_amd64.deb
@@ -29,7 +30,7 @@ PROGRAM = $(BUILD)/lislink
 ARCHIVE = $(BUILD)/liblis_c.a
 VERSION = $(shell cat VERSION)
 
-.PHONY: build check demo test mutants harmless both soak plant bench bench-check library linked install uninstall deb docs fuzz
+.PHONY: build check debug demo test mutants harmless both soak plant bench bench-check library linked install uninstall deb docs fuzz
 
 build:
 	@tools/needed python rt room
@@ -104,6 +105,10 @@ linked:
 	$(CC) $(LDFLAGS) -shared -o $(BUILD)/liblislink.so.1 -Wl,-soname,liblislink.so.1 -Wl,-z,now \
 	  -Wl,--version-script=src/c/lislink.map -Wl,--whole-archive $(ARCHIVE) -Wl,--no-whole-archive $(PLAIN:%=$(BUILD)/%.o)
 	ln -sf liblislink.so.1 $(BUILD)/liblislink.so
+
+debug: $(BUILD)/liblislink.so.1
+	@tools/debug $(BUILD)
+	@echo 'The debug build is $(BUILD)/liblislink_debug.a and $(BUILD)/liblislink_debug.so.'
 
 # What was built is installed as it is: rt is needed only for what is missing.
 $(PROGRAM):
