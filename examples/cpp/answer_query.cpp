@@ -17,7 +17,7 @@
 #include <sys/time.h>
 #include <unistd.h>
 
-using clock_type = std::chrono::steady_clock;
+using clock_type = line_clock;
 using std::chrono::milliseconds;
 
 // A reply that goes out later could come after the analyzer's timer, which is 15 seconds.

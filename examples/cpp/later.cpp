@@ -20,7 +20,7 @@
 #include <sys/time.h>
 #include <unistd.h>
 
-using clock_type = std::chrono::steady_clock;
+using clock_type = line_clock;
 using handler = std::function<void(bool good)>;
 
 // A reply that goes out later could come after the analyzer's timer, which is 15 seconds.

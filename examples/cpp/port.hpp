@@ -1,14 +1,37 @@
-// How the samples reach a line over TCP: a port of this machine for one analyzer, or the port of a host.
+// How the samples reach a line over TCP: a port of this machine for one analyzer, or the port of a host. And the clock
+// that they use.
 #ifndef PORT_HPP
 #define PORT_HPP
 
 #include <arpa/inet.h>
+#include <chrono>
 #include <cstdio>
+#include <ctime>
 #include <netdb.h>
 #include <string>
 #include <string_view>
 #include <sys/socket.h>
 #include <unistd.h>
+
+// A clock that runs on while the machine is suspended, where there is one: what came before is late then.
+struct line_clock {
+    using duration = std::chrono::nanoseconds;
+    using rep = duration::rep;
+    using period = duration::period;
+    using time_point = std::chrono::time_point<line_clock>;
+    static constexpr bool is_steady = true;
+
+    static time_point now() noexcept {
+#ifdef CLOCK_BOOTTIME
+        constexpr clockid_t kind = CLOCK_BOOTTIME;
+#else
+        constexpr clockid_t kind = CLOCK_MONOTONIC;
+#endif
+        timespec it{};
+        clock_gettime(kind, &it);
+        return time_point(std::chrono::seconds(it.tv_sec) + std::chrono::nanoseconds(it.tv_nsec));
+    }
+};
 
 // The line of the first analyzer that connects to a port; port 0 is one that is free, and is printed. -1 if it fails.
 inline int accept_one(unsigned short port) {

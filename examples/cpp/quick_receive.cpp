@@ -9,7 +9,7 @@
 #include <cstdlib>
 #include <poll.h>
 
-using clock_type = std::chrono::steady_clock;
+using clock_type = line_clock;
 
 // Whether bytes come within a second, or the end of the line.
 static bool comes(int line) {

@@ -9,7 +9,7 @@
 #include <fstream>
 #include <poll.h>
 
-using clock_type = std::chrono::steady_clock;
+using clock_type = line_clock;
 
 // How often ENQ is sent to a computer that is busy.
 static constexpr int most_tries = 3;

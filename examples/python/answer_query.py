@@ -9,9 +9,9 @@ The line is given up, for a new connection, where a session of its own failed or
 import contextlib
 import socket
 import sys
-import time
 from typing import Optional
 
+from clock import now
 from keep import TextFile
 
 import lislink
@@ -65,19 +65,19 @@ class Computer:
 
     def run_timer(self) -> None:
         seconds = self.station.seconds
-        self.due = None if seconds is None else time.monotonic() + seconds
+        self.due = None if seconds is None else now() + seconds
 
     def settle(self) -> bool:
         """Looks how a session of its own ended; whether the line can be used on."""
         if self.is_sending and self.station.phase is lislink.Phase.NEUTRAL:
             self.is_sending = False
-            self.free_at = time.monotonic() + (self.station.turn_seconds or 0)
+            self.free_at = now() + (self.station.turn_seconds or 0)
             return self.station.outcome is lislink.Outcome.DONE
         return True
 
     def start(self) -> None:
         """Sends the orders, if there are any, the line is free, and the analyzer doesn't wait for its turn."""
-        its_turn = self.station.turn_seconds is not None and time.monotonic() < self.free_at
+        its_turn = self.station.turn_seconds is not None and now() < self.free_at
         if self.samples and not (self.is_sending or self.station.is_open or its_turn):
             self.line.sendall(self.station.start(orders(self.samples)))
             self.is_sending, self.samples = True, []
@@ -85,7 +85,7 @@ class Computer:
 
     def read(self) -> Optional[bytes]:
         """What came; None if nothing did for a while."""
-        left = PAUSE if self.due is None else min(PAUSE, self.due - time.monotonic())
+        left = PAUSE if self.due is None else min(PAUSE, self.due - now())
         self.line.settimeout(max(left, 0.001))
         try:
             return self.line.recv(4096)
@@ -94,19 +94,19 @@ class Computer:
 
     def run(self) -> None:
         """Hears and sends until the line is closed or given up."""
-        seen_empty = time.monotonic()           # bytes came after this
+        seen_empty = now()           # bytes came after this
         while self.settle():
             self.start()
-            before, data = time.monotonic(), self.read()
+            before, data = now(), self.read()
             if data is None:
                 seen_empty = before
-                if self.due is not None and time.monotonic() >= self.due:
+                if self.due is not None and now() >= self.due:
                     self.take(self.station.timer())
             elif not data:
                 return
             else:
                 for answer in self.station.hear(data):
-                    if time.monotonic() - seen_empty > LATE:
+                    if now() - seen_empty > LATE:
                         return
                     self.take(answer)
                 if len(data) < 4096:

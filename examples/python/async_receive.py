@@ -11,6 +11,7 @@ import asyncio
 import contextlib
 import sys
 
+from clock import now
 from keep import TextFile
 
 import lislink
@@ -21,10 +22,10 @@ PAUSE = 1  # second: a line that is idle is looked at so often
 
 async def receive(reader: asyncio.StreamReader, writer: asyncio.StreamWriter, store: TextFile) -> None:
     loop = asyncio.get_running_loop()
-    seen_empty = loop.time()                    # bytes came after this
+    seen_empty = now()                    # bytes came after this
     with lislink.Receiver() as receiver:
         while True:
-            before, is_late = loop.time(), False
+            before, is_late = now(), False
             try:
                 data = await asyncio.wait_for(reader.read(4096), PAUSE)
             except asyncio.TimeoutError:
@@ -35,7 +36,7 @@ async def receive(reader: asyncio.StreamReader, writer: asyncio.StreamWriter, st
             for step in receiver.hear(data):
                 if step.text is not None and not is_late:
                     await loop.run_in_executor(None, store.keep, step.text)
-                is_late = is_late or loop.time() - seen_empty > LATE
+                is_late = is_late or now() - seen_empty > LATE
                 if not is_late:
                     writer.write(step.reply)
                     await writer.drain()
