@@ -271,8 +271,11 @@ class Server(http.server.BaseHTTPRequestHandler):
     protocol_version = "HTTP/1.1"
 
     def do_POST(self):
-        """Takes a message."""
+        """Takes a message, if it is whole."""
         body = self.rfile.read(int(self.headers["Content-Length"]))
+        if len(body) < int(self.headers["Content-Length"]):  # who sent it is gone
+            self.close_connection = True
+            return
         key = self.headers["X-Request-ID"]
         self.server.taken.append((self.path, key, self.headers["Content-Type"], self.headers["X-Test"], body))
         status = self.server.answer(len(self.server.taken), key)
