@@ -757,27 +757,16 @@ typedef struct lis_column {
     uint32_t component;    /* which component of the repeat it is, from 0 */
 } lis_column;
 
-/* A component of a record, if the record has it. */
-typedef struct lis_cell {
-    size_t offset;                /* the place of its first byte in the piece; 0 if there is none */
-    uint32_t len;                 /* how many bytes it has */
-    lis_delimiters delimiters;    /* those of its message, for lis_part_decode */
-    uint32_t flags;               /* LIS_PART_ESCAPED, LIS_CELL_ABSENT or 0 */
-} lis_cell;
-
-/* A flag of a cell, next to that of a part. */
-enum lis_cell_flag {
-    LIS_CELL_ABSENT = 2    /* the record has no such component */
-};
-
-/* Reads records by lis_reader_next as lis_reader_records does, and puts these components of each one of a letter, in
- * upper case, into the next row of `cells`: column k of row i at cells[k * rows_len + i]. `count` is how many rows were
- * written; it reads on as long as there is room for one more. `parts` is room to work in: `parts_len` of
- * LIS_LIMIT_RECORD_BYTES is never too short. Returns how many bytes it read; of 0 the same is to be said as of
- * lis_reader_records. Plain C, in src/c/pieces.c. */
+/* Reads records by lis_reader_next as lis_reader_records does, and copies these components of each one of a letter, in
+ * upper case, to the front of `out`: row by row, each with a CR after it. They are as in the record, where no CR is.
+ * Before one that has escapes are the byte 127 and the four delimiters of its message, for lis_part_decode; in place of
+ * one that isn't there is the byte 255: no record has these two bytes. `size` is how many bytes were written, `count`
+ * how many rows. It reads on as long as `out` has room for one more. `parts` is room to work in: LIS_LIMIT_RECORD_BYTES
+ * of them are never too few, nor are as many bytes of `out` for each column, and 6 more. Returns how many bytes it
+ * read; of 0 the same is to be said as of lis_reader_records. Plain C, in src/c/pieces.c. */
 size_t lis_reader_columns(lis_reader *s, const uint8_t *bytes, size_t bytes_len, uint8_t letter,
-                          const lis_column *columns, size_t columns_len, lis_cell *cells, size_t rows_len,
-                          lis_part *parts, size_t parts_len, size_t *count);
+                          const lis_column *columns, size_t columns_len, lis_part *parts, size_t parts_len,
+                          uint8_t *out, size_t out_len, size_t *size, size_t *count);
 /* The end of the stream: LIS_STATUS_OK, or LIS_STATUS_UNFINISHED and `out` has the reason. `out` is always written, and
  * the reader stays as it is. */
 lis_status lis_reader_finish(const lis_reader *s, lis_found *out);

@@ -34,6 +34,9 @@ size_t lis_reader_records(lis_reader *s, const uint8_t *bytes, size_t bytes_len,
     return at;
 }
 
+/* What a row may have for a column next to the record's bytes. */
+enum { CELL = 6 };
+
 /* Whether a part comes before a column's in the text. */
 static bool is_before(const lis_part *part, const lis_column *column) {
     if (part->field != column->field) return part->field < column->field;
@@ -41,35 +44,53 @@ static bool is_before(const lis_part *part, const lis_column *column) {
     return part->component < column->component;
 }
 
-/* The cell of a column among a record's parts, whose text begins at `at`. */
-static lis_cell cell_of(const lis_column *column, size_t at, const lis_part *parts, const lis_table *table) {
-    lis_cell none = {0, 0, table->delimiters, LIS_CELL_ABSENT};
+/* Whether a record may have no room: in the table, or in the bytes that there are for each column. */
+static bool row_may_not_fit(const uint8_t *bytes, size_t len, size_t room, size_t each) {
+    return may_not_fit(bytes, len, each < CELL ? 0 : each - CELL < room ? each - CELL : room) || each < CELL;
+}
+
+/* Writes what a column has of a record; answers how many bytes it is. */
+static size_t put_cell(const lis_column *column, const uint8_t *text, const lis_part *parts, const lis_table *table,
+                       uint8_t *out) {
     const lis_part *end = parts + table->count;
+    size_t size = 0;
     while (parts < end && is_before(parts, column)) parts++;
     if (parts == end || parts->field != column->field || parts->repeat != column->repeat
-        || parts->component != column->component)
-        return none;
-    lis_cell found = {at + parts->offset, parts->len, table->delimiters, parts->flags};
-    return found;
+        || parts->component != column->component) {
+        out[size++] = 255;
+    } else {
+        if (parts->flags & LIS_PART_ESCAPED) {
+            out[size++] = 127;
+            memcpy(out + size, &table->delimiters, sizeof table->delimiters);
+            size += sizeof table->delimiters;
+        }
+        memcpy(out + size, text + parts->offset, parts->len);
+        size += parts->len;
+    }
+    out[size++] = '\r';
+    return size;
 }
 
 size_t lis_reader_columns(lis_reader *s, const uint8_t *bytes, size_t bytes_len, uint8_t letter,
-                          const lis_column *columns, size_t columns_len, lis_cell *cells, size_t rows_len,
-                          lis_part *parts, size_t parts_len, size_t *count) {
-    size_t at = 0;
-    *count = 0;
-    while (at < bytes_len && *count < rows_len) {
+                          const lis_column *columns, size_t columns_len, lis_part *parts, size_t parts_len,
+                          uint8_t *out, size_t out_len, size_t *size, size_t *count) {
+    size_t at = 0, used = 0, rows = 0;
+    while (at < bytes_len) {
         lis_found found;
         lis_table table;
-        bool wanted = (bytes[at] & ~0x20) == letter;
-        if (wanted && may_not_fit(bytes + at, bytes_len - at, parts_len)) break;
-        size_t read = lis_reader_next(s, bytes + at, bytes_len - at, &found, parts, wanted ? parts_len : 0, &table);
+        const uint8_t *text = bytes + at;
+        bool wanted = (text[0] & ~0x20) == letter;
+        size_t each = columns_len > 0 ? (out_len - used) / columns_len : SIZE_MAX;
+        if (wanted && row_may_not_fit(text, bytes_len - at, parts_len, each)) break;
+        size_t read = lis_reader_next(s, text, bytes_len - at, &found, parts, wanted ? parts_len : 0, &table);
         if (read == 0) break;
         for (size_t k = 0; wanted && k < columns_len; k++)
-            cells[k * rows_len + *count] = cell_of(&columns[k], at, parts, &table);
-        *count += wanted;
+            used += put_cell(&columns[k], text, parts, &table, out + used);
+        rows += wanted;
         at += read;
     }
+    *size = used;
+    *count = rows;
     return at;
 }
 

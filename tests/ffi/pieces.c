@@ -69,36 +69,55 @@ static size_t round_of(lis_reader *s, lis_reader *other, const uint8_t *stream, 
     return records;
 }
 
-/* The cells of the results of a stream mean what lis_record_part answers for each. */
+/* The record of a letter that begins at a place or after it. */
+static const uint8_t *next_of(uint8_t letter, const uint8_t *at, const uint8_t *end) {
+    while (at < end && *at != letter) at = (const uint8_t *)memchr(at, '\r', (size_t)(end - at)) + 1;
+    return at;
+}
+
+/* Whether a cell means what lis_record_part answers; returns where the next one begins. */
+static const uint8_t *compare_cell(const uint8_t *cell, const lis_column *column, const uint8_t *record, size_t len) {
+    static const lis_delimiters by = {'|', '\\', '^', '&'};
+    uint8_t alone[ROOM], plain[ROOM];
+    size_t size, plain_size;
+    const uint8_t *end = memchr(cell, '\r', ROOM);
+    lis_status status = lis_record_part(&by, record, len, column->field, column->repeat, column->component, alone, ROOM,
+                                        &size);
+    if ((status == LIS_STATUS_ABSENT) != (*cell == 255)) fail("absent");
+    if (status != LIS_STATUS_OK) return end + 1;
+    size_t marks = *cell == 127 ? 5 : 0;
+    if (marks > 0 && memcmp(cell + 1, &by, sizeof by) != 0) fail("delimiters");
+    if (lis_part_decode(&by, cell + marks, (size_t)(end - cell) - marks, plain, ROOM, &plain_size) != LIS_STATUS_OK
+        || plain_size != size || memcmp(plain, alone, size) != 0
+        || (marks > 0) != (memchr(cell + marks, '&', (size_t)(end - cell) - marks) != NULL))
+        fail("cell");
+    return end + 1;
+}
+
+/* The cells of a stream's results mean what lis_record_part answers for each, and no byte after them is written. */
 static size_t columns_of(lis_reader *s, const uint8_t *stream, size_t len) {
     static const lis_column wanted[] = {{4, 0, 0}, {3, 0, 3}, {5, 0, 0}, {3, 1, 0}, {3, 0, 3}, {1, 0, 0}, {99, 0, 0}};
     enum { COLUMNS = sizeof wanted / sizeof *wanted };
-    static const lis_delimiters by = {'|', '\\', '^', '&'};
-    lis_cell cells[COLUMNS * 3];
     lis_part parts[ROOM];
-    const uint8_t *next = stream;
-    size_t at = 0, rows = 0, count, size, plain_size;
-    do {
-        size_t read = lis_reader_columns(s, stream + at, len - at, 'R', wanted, COLUMNS, cells, 3, parts, ROOM, &count);
+    uint8_t out[ROOM];
+    const uint8_t *record = stream;
+    size_t at = 0, rows = 0, count, size;
+    while (at < len) {
+        size_t room = below(4) ? ROOM : 700 + below(200);
+        memset(out, 0xa5, sizeof out);
+        size_t read = lis_reader_columns(s, stream + at, len - at, 'R', wanted, COLUMNS, parts, ROOM, out, room, &size,
+                                         &count);
+        if (read == 0 || size > room || (size < ROOM && out[size] != 0xa5)) fail("columns");
+        const uint8_t *cell = out;
         for (size_t row = 0; row < count; row++, rows++) {
-            uint8_t alone[ROOM], plain[ROOM];
-            next = memchr(next + (rows > 0), 'R', (size_t)(stream + len - next - (rows > 0)));
-            while (next > stream && next[-1] != '\r') next = memchr(next + 1, 'R', (size_t)(stream + len - next - 1));
-            size_t long_as = (size_t)((const uint8_t *)memchr(next, '\r', (size_t)(stream + len - next)) - next);
-            for (size_t k = 0; k < COLUMNS; k++) {
-                const lis_cell *cell = &cells[k * 3 + row];
-                lis_status status = lis_record_part(&by, next, long_as, wanted[k].field, wanted[k].repeat,
-                                                    wanted[k].component, alone, ROOM, &size);
-                if ((status == LIS_STATUS_ABSENT) != ((cell->flags & LIS_CELL_ABSENT) != 0)) fail("absent");
-                if (status != LIS_STATUS_OK) continue;
-                if (lis_part_decode(&cell->delimiters, stream + at + cell->offset, cell->len, plain, ROOM, &plain_size)
-                        != LIS_STATUS_OK || plain_size != size || memcmp(plain, alone, size) != 0)
-                    fail("cell");
-            }
+            record = next_of('R', record, stream + len);
+            size_t long_as = (size_t)((const uint8_t *)memchr(record, '\r', (size_t)(stream + len - record)) - record);
+            for (size_t k = 0; k < COLUMNS; k++) cell = compare_cell(cell, &wanted[k], record, long_as);
+            record += long_as + 1;
         }
+        if (cell != out + size) fail("size");
         at += read;
-        if (read == 0) fail("nothing was read");
-    } while (at < len);
+    }
     return rows;
 }
 

@@ -103,7 +103,7 @@ _CALLS: Dict[str, Any] = {
     "reader_text": (_BYTE, _POINTER, _POINTER, _SIZE, _POINTER),
     "reader_columns": (
         *(_SIZE, _POINTER, _POINTER, _SIZE, _BYTE),
-        *(_POINTER, _SIZE, _POINTER, _SIZE, _POINTER, _SIZE, _POINTER),
+        *(_POINTER, _SIZE, _POINTER, _SIZE, _POINTER, _SIZE, _POINTER, _POINTER),
     ),
     "reader_finish": (_BYTE, _POINTER, _POINTER),
     "reader_resume": (_FLAG, _POINTER),

@@ -1,7 +1,6 @@
 """Some components of all records of a letter in a text, as lists: the quickest way to a few parts of many records. The
 proved library reads each record; the loop over them is one call for a few hundred."""
 import ctypes
-import struct
 from typing import List, Optional, Tuple, Union
 
 from . import _library
@@ -11,11 +10,10 @@ from .records import RECORD_BYTES, Reader
 
 #: A component: its field, or its field, repeat and component; these two are 0 if they are left out.
 Wanted = Union[int, Tuple[int, ...]]
-#: How many records a call puts into rows; and a cell as the library gives it: where its bytes begin, how many they are,
-#: the delimiters of its message, its flags.
-_ROWS = 1024
-_CELL = struct.Struct("@QI4sI4x")
-_PLAIN, _ESCAPED = 0, 1
+#: How many bytes a call writes at most, or more for a row of the longest record. What begins a component that isn't
+#: there, and one with escapes: the four delimiters of its message follow.
+_ROOM = 1 << 18
+_ABSENT, _ESCAPED = b"\xff", b"\x7f"
 _NUMBERS = (1 << 32) - 1
 
 
@@ -43,53 +41,44 @@ def _meant(data: bytes, delimiters: bytes) -> bytes:
     return room.raw[: size.value]
 
 
-def _value(data: bytes, at: int, size: int, delimiters: bytes, flags: int) -> Optional[bytes]:
-    """A component that has escapes or isn't there."""
-    return _meant(data[at : at + size], delimiters) if flags == _ESCAPED else None
-
-
-class _Room:
-    """Room for the cells of one call."""
-
-    def __init__(self, wanted: Tuple[Wanted, ...]) -> None:
-        numbers = [one for it in wanted for one in _number(it)]
-        self.width = len(wanted)
-        self.columns = (ctypes.c_uint32 * len(numbers))(*numbers)
-        self.cells = (ctypes.c_uint64 * (_CELL.size // 8 * _ROWS * max(self.width, 1)))()
-        self.parts = (ctypes.c_uint32 * (6 * RECORD_BYTES))()
-        self.view = memoryview(self.cells).cast("B")
-
-    def column(self, number: int, count: int, data: bytes, start: int) -> List[Optional[bytes]]:
-        """A column of so many rows, of a piece that begins at a place of the text."""
-        first = number * _ROWS * _CELL.size
-        cells = _CELL.iter_unpack(self.view[first : first + count * _CELL.size])
-        return [
-            data[start + at : start + at + size]
-            if flags == _PLAIN
-            else _value(data, start + at, size, delimiters, flags)
-            for at, size, delimiters, flags in cells
-        ]
+def _value(cell: bytes) -> Optional[bytes]:
+    """What a component means, as the library writes it."""
+    if cell == _ABSENT:
+        return None
+    return _meant(cell[5:], cell[1:5]) if cell.startswith(_ESCAPED) else cell
 
 
 class _Columns(Reader):
     """A reader of some components alone."""
 
-    def columns(self, data: bytes, letter: int, room: _Room) -> List[List[Optional[bytes]]]:
-        found: List[List[Optional[bytes]]] = [[] for _ in range(room.width)]
+    def columns(self, data: bytes, letter: int, wanted: Tuple[Wanted, ...]) -> List[List[Optional[bytes]]]:
+        """The columns of a whole text."""
+        numbers, width = [one for it in wanted for one in _number(it)], len(wanted)
+        room = max(_ROOM, width * (RECORD_BYTES + 6))
+        out, size, count = ctypes.create_string_buffer(room), ctypes.c_size_t(), ctypes.c_size_t()
+        given = ((ctypes.c_uint32 * len(numbers))(*numbers), width)
+        work = ((ctypes.c_uint32 * (6 * RECORD_BYTES))(), RECORD_BYTES)
+        taken = (letter, *given, *work, out, room, ctypes.byref(size), ctypes.byref(count))
+        found: List[List[Optional[bytes]]] = [[] for _ in wanted]
         self._add(data)
-        count = ctypes.c_size_t()
-        rows = (room.columns, room.width, room.cells, _ROWS, room.parts, RECORD_BYTES, ctypes.byref(count))
-        out = _library.Found()
         while self._at < len(data):
-            start = self._at
-            read = self._call("columns", address(data) + start, len(data) - start, letter, *rows)
-            for number, column in enumerate(found):
-                column += room.column(number, count.value, data, start)
-            self._at, self._taken = start + read, self._taken + read
+            read = self._call("columns", address(data) + self._at, len(data) - self._at, *taken)
+            self._put(ctypes.string_at(out, size.value), found)
+            self._at, self._taken = self._at + read, self._taken + read
             if read == 0:
-                self._is_ended(out)
+                self._is_ended(_library.Found())
         self.finish()
         return found
+
+    @staticmethod
+    def _put(text: bytes, found: List[List[Optional[bytes]]]) -> None:
+        """Puts rows to the columns, each part with a CR after it."""
+        cells: List[Optional[bytes]] = [*text.split(b"\r")]
+        cells.pop()
+        if _ABSENT in text or _ESCAPED in text:
+            cells = [_value(cell or b"") for cell in cells]
+        for number, column in enumerate(found):
+            column += cells[number :: len(found)]
 
 
 def columns(data: bytes, letter: str, *wanted: Wanted) -> List[List[Optional[bytes]]]:
@@ -99,6 +88,5 @@ def columns(data: bytes, letter: str, *wanted: Wanted) -> List[List[Optional[byt
     come next, or the text ends too early."""
     if not isinstance(letter, str) or len(letter) != 1 or ord(letter) > 255:
         raise TypeError("a record's letter is one character")
-    text, room = as_bytes(data), _Room(wanted)
     with _Columns() as reader:
-        return reader.columns(text, ord(letter.upper()), room)
+        return reader.columns(as_bytes(data), ord(letter.upper()), wanted)

@@ -117,8 +117,6 @@ pub const LIS_BLOCK_ALIGN: u64 = 16;
 
 pub const LIS_PART_ESCAPED: u64 = 1;
 
-pub const LIS_CELL_ABSENT: u64 = 2;
-
 #[repr(C)]
 #[derive(Clone, Copy, Debug)]
 pub struct lis_bytes {
@@ -279,15 +277,6 @@ pub struct lis_column {
     pub field: u32,
     pub repeat: u32,
     pub component: u32,
-}
-
-#[repr(C)]
-#[derive(Clone, Copy, Debug)]
-pub struct lis_cell {
-    pub offset: usize,
-    pub len: u32,
-    pub delimiters: lis_delimiters,
-    pub flags: u32,
 }
 
 #[repr(C)]
@@ -609,10 +598,11 @@ extern "C" {
         letter: u8,
         columns: *const lis_column,
         columns_len: usize,
-        cells: *mut lis_cell,
-        rows_len: usize,
         parts: *mut lis_part,
         parts_len: usize,
+        out: *mut u8,
+        out_len: usize,
+        size: *mut usize,
         count: *mut usize,
     ) -> usize;
     pub fn lis_reader_finish(s: *const lis_reader, out: *mut lis_found) -> lis_status;
