@@ -212,15 +212,14 @@ class Told:
 
     def results(self, order: Ordered) -> Iterator[Result]:
         """The results of an order."""
-        total = Counter(self._test(entry)[0] for entry in order.record.results)
-        turns: "Counter[str]" = Counter()
-        for entry in order.record.results:
-            code = self._test(entry)[0]
-            turns[code] += 1
-            yield self._result(entry, turns[code] if total[code] > 1 else 0)
+        found = [(entry, self._test(entry)) for entry in order.record.results]
+        total, turns = Counter(test[0] for _, test in found), Counter()  # type: Counter[str], Counter[str]
+        for entry, test in found:
+            turns[test[0]] += 1
+            yield self._result(entry, test, turns[test[0]] if total[test[0]] > 1 else 0)
 
-    def _result(self, entry: Entry, turn: int) -> Result:
-        _, field, coding, name = self._test(entry)
+    def _result(self, entry: Entry, test: Tuple[str, str, Coding, str], turn: int) -> Result:
+        _, field, coding, name = test
         repeats = 1 if entry.row.plain(7) is not None else len(entry.row.field(7))
         flags = [entry.text(7, at).strip() for at in range(repeats)]
         return Result(
@@ -351,6 +350,8 @@ def _whole(entry: Entry, field: int) -> str:
 
 def comments_of(entry: Entry) -> List[Comment]:
     """The comments on a record."""
+    if not entry.notes:
+        return []
     found = [Comment(one.text(3), field_text(one, 4)) for one in entry.notes if one.letter == "C"]
     return [one for one in found if one.text]
 
