@@ -117,7 +117,13 @@ class AsTold(HostTest):
 
     def test_oru(self):
         """As ORU."""
-        found = self.wrong(1, lambda one, reading: oru.oru_of(Told(Coded(one, reading))), told.of_oru)
+        kinds = [oru.wishes_of([f"obr={one}"]) for one in ("order", "test", "sample")]
+
+        def write(one, reading):
+            """With an OBR for each order, test or sample."""
+            return oru.oru_of(Told(Coded(one, reading)), kinds[len(one.body) % 3])
+
+        found = self.wrong(1, write, told.of_oru)
         self.same("as it should be", found, "")
 
     def test_fhir(self):
