@@ -1,9 +1,9 @@
 """A message as ORU^R01 of HL7 v2: one for each patient, and one for the controls, so that no result can be under
 another patient. The same message gives the same bytes each time."""
-import datetime
 import functools
 import hashlib
 import re
+import time
 from collections import Counter
 from typing import Dict, Iterator, List, Mapping, NamedTuple, Optional, Sequence, Tuple, Union
 
@@ -159,7 +159,7 @@ def _header(told: Told, place: int, wishes: Wishes) -> Dict[int, Field]:
     fields: Dict[int, Field] = {
         3: "lislab",
         4: one.line,
-        7: datetime.datetime.fromtimestamp(at).astimezone().strftime("%Y%m%d%H%M%S%z"),
+        7: _stamp(at),
         9: ["ORU", "R01", *([] if wishes.version == VERSIONS[0] else ["ORU_R01"])],
         10: control_id(one.key, place),
         11: mode if mode in ("D", "T") else "P",
@@ -168,6 +168,14 @@ def _header(told: Told, place: int, wishes: Wishes) -> Dict[int, Field]:
     }
     given = {number: value.split("^") for number, value in wishes.header.items()}
     return dict(sorted({**fields, **given}.items()))
+
+
+def _stamp(at: float) -> str:
+    """A time of the clock on the wall, with its zone."""
+    year, month, day, hour, minute, second, *_ = there = time.localtime(at)
+    hours, minutes = divmod(abs(there.tm_gmtoff) // 60, 60)
+    sign = "-" if there.tm_gmtoff < 0 else "+"
+    return f"{year:04}{month:02}{day:02}{hour:02}{minute:02}{second:02}{sign}{hours:02}{minutes:02}"
 
 
 def _patient(case: Case, wishes: Wishes) -> Iterator[str]:
