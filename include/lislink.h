@@ -275,7 +275,7 @@ void lis_sender_end(lis_sender s);
 /* Sets how long the text of a frame may be, LIS_LIMIT_FRAME_TEXT (as after _init) or LIS_LIMIT_LONG_FRAME_TEXT, and
  * makes the sender new, as after _init, but for the texts of the next session, which stay. LIS_STATUS_IN_SESSION while
  * a session goes on, LIS_STATUS_BAD_NUMBER for another limit: then nothing has changed. With the long limit a frame may
- * have more bytes than a lis_bytes has room for, and the calls need a stack of 640 kB: see lis_sender_frame. */
+ * have more bytes than a lis_bytes has room for, and the calls need a stack of 720 kB: see lis_sender_frame. */
 lis_status lis_sender_set_limit(lis_sender *s, size_t limit);
 /* Adds a copy of a text to the next session, also while one goes on. LIS_STATUS_TOO_LONG if it has over
  * LIS_LIMIT_TEXT_BYTES, LIS_STATUS_FULL, LIS_STATUS_OUT_OF_MEMORY: then nothing has changed. What the text holds is
@@ -304,7 +304,7 @@ void lis_sender_reply(lis_sender *s, uint8_t byte, lis_bytes *out);
  *
  * With the long limit a frame of over LIS_LIMIT_FRAME_BYTES bytes leaves `out` of lis_sender_reply empty: if
  * lis_sender_frame then returns LIS_STATUS_OK, that frame is to be sent. With that limit lis_sender_reply takes up to
- * 640 kB of the stack, lis_sender_frame 450 kB, and lis_sender_timer 200 kB. */
+ * 720 kB of the stack, lis_sender_frame 450 kB, lis_sender_timer 200 kB, and a start 65 kB. */
 lis_status lis_sender_frame(const lis_sender *s, uint8_t *out, size_t out_len, size_t *size);
 /* The phase's timer ran out: `out` is what is to be sent, and is always written. In LIS_PHASE_BUSY and
  * LIS_PHASE_CONTENTION it is ENQ again, however often: count, and give up by lis_sender_restart. Where a reply was
@@ -524,7 +524,8 @@ void lis_station_timer(lis_station *s, lis_answer *out);
  * after both asked, and a computer may ask at once. */
 bool lis_station_timer_seconds(const lis_station *s, uint32_t *seconds);
 /* With the long limit, after an answer of the sender with nothing in `send`: as lis_sender_frame. With that limit
- * lis_station_hear takes up to 900 kB of the stack, lis_station_byte 520 kB, and lis_station_frame 450 kB. */
+ * lis_station_hear takes up to 900 kB of the stack, lis_station_byte 720 kB, lis_station_frame 450 kB, and a start
+ * 65 kB. */
 lis_status lis_station_frame(const lis_station *s, uint8_t *out, size_t out_len, size_t *size);
 /* Gives up the station's own session, as lis_sender_restart. */
 void lis_station_give_up(lis_station *s);
