@@ -1,7 +1,7 @@
 """The published structure of FHIR R4 (4.0.1), as far as a Bundle of Patients, Specimens, ServiceRequests, Observations
-and DiagnosticReports uses it: the elements of each type, how often each may be, their types, to which resources a reference
-may lead, the required codes, the codes of small systems, and the invariants. It was written from memory, since the
-definitions could not be had on the machine, and over no code of this repository; nobody has compared it with them.
+and DiagnosticReports uses it: the elements of each type, how often each may be, their types, to which resources a
+reference may lead, the required codes, the codes of small systems, and the invariants. It was written from memory, since
+the definitions could not be had on the machine, and over no code of this repository; nobody has compared it with them.
 
 What it doesn't check: the codes of LOINC, SNOMED CT and UCUM; profiles; searches (what `ifNoneExist` and a conditional
 update find, and whether a server takes them); extensions and contained resources; types of resources and elements that
@@ -47,10 +47,10 @@ SYSTEMS = {
     "observation-category": "social-history vital-signs imaging laboratory procedure survey exam therapy activity",
     "data-absent-reason": """unknown asked-unknown temp-unknown not-asked asked-declined masked not-applicable
         unsupported as-text error not-a-number negative-infinity positive-infinity not-performed not-permitted""",
-    "v3-ObservationInterpretation": """CAR B D U W < > AC IE QCF TOX A AA HH LL H H> HU L L< LU HX LX I MS NCL NS R SYN-R
-        S SDD SYN-S VS EX E IND N NEG ND POS DET EXP UNE NR RR WR""",
-    "v2-0074": """AU BG BLB CG CH CP CT CTH CUS EC EN GE HM ICU IMG IMM LAB MB MCB MYC NMR NMS NRS OSL OT OTH OUS PAR PAT
-        PF PHR PHY PT RAD RC RT RUS RX SP SR TX URN VR VUS XRC""",
+    "v3-ObservationInterpretation": """CAR B D U W < > AC IE QCF TOX A AA HH LL H H> HU L L< LU HX LX I MS NCL NS R
+        SYN-R S SDD SYN-S VS EX E IND N NEG ND POS DET EXP UNE NR RR WR""",
+    "v2-0074": """AU BG BLB CG CH CP CT CTH CUS EC EN GE HM ICU IMG IMM LAB MB MCB MYC NMR NMS NRS OSL OT OTH OUS PAR
+        PAT PF PHR PHY PT RAD RC RT RUS RX SP SR TX URN VR VUS XRC""",
     "v2-0487": "SER PLAS UR BLD CSF BLDA BLDV BLDC",
 }
 #: To which resources the references of an element may lead.

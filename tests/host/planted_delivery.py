@@ -163,7 +163,9 @@ FAULTS = {
         "delivery/fhir.py", '"intent": "order",', '"intent": "ordered",'
     ),
     "test_fhir.Fhir.test_marks": ("delivery/fhir.py", "taken or told.iso(result.at)", "told.iso(result.at) or taken"),
-    "test_fhir.Fhir.test_nobody": ("delivery/fhir.py", "        if subject is None:\n", "        if not case.orders:\n"),
+    "test_fhir.Fhir.test_nobody": (
+        "delivery/fhir.py", "        if subject is None:\n", "        if not case.orders:\n"
+    ),
     "test_fhir.Fhir.test_samples": (
         "delivery/fhir.py", '"Q" if order.control else "", record.text(8)', "record.text(8)"
     ),

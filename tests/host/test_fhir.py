@@ -186,6 +186,8 @@ class Fhir(HostTest):
                           ("another time", {"more": "20261127"}), ("another number", {"sample": "S8"})):
             self.true(name, named(**how)[0][0]["identifier"][1] != tube["identifier"][1])
         self.same("a test is missing", (order["status"], order["code"]), ("active", {"text": "A B"}))
+        for kind, wanted in zip("XFCPIYZ", ("revoked", "completed", "completed", "active", "active", *["unknown"] * 2)):
+            self.same(f"of an order {kind}", named(more="|" * 18 + kind)[1][0]["status"], wanted)
         control = observations(bundle_of(stored(message("P|1", "O|1|S7|||||||||Q", "R|1|^^^A|1"))), "Specimen")[0]
         walk_in = observations(bundle_of(stored(message("P|1", "O|1|S7", "R|1|^^^A|1"))), "Specimen")[0]
         rows = [row for who in (4711, 4712) for row in (f"P|1|{who}", "O|1|S7", "R|1|^^^A|1")]

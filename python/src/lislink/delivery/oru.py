@@ -286,11 +286,14 @@ def _order(
     for place, result in enumerate(results, 1):
         yield from _result(told, place, result, taken)
     if (kind or order.control) and not is_old:
-        role = "Q" if order.control else ""
-        named = [order.sample, order.instrument_sample] if order.instrument_sample else [order.sample]
-        received = told.at(record.text(15))
-        kind = kind or ["", "control"]
-        yield segment("SPM", {1: "1", 2: named, 4: kind, 11: role, 17: taken, 18: received})
+        yield _sample(order, kind or ["", "control"], taken, told.at(record.text(15)))
+
+
+def _sample(order: Ordered, kind: List[str], taken: str, received: str) -> str:
+    """SPM."""
+    named = [order.sample, order.instrument_sample] if order.instrument_sample else [order.sample]
+    role = "Q" if order.control else ""
+    return segment("SPM", {1: "1", 2: named, 4: kind, 11: role, 17: taken, 18: received})
 
 
 def _service(order: Ordered, results: List[Result]) -> List[str]:
