@@ -1,7 +1,8 @@
 """The published structure of FHIR R4 (4.0.1), as far as a Bundle of Patients, Specimens, ServiceRequests, Observations
 and DiagnosticReports uses it: the elements of each type, how often each may be, their types, to which resources a
-reference may lead, the required codes, the codes of small systems, and the invariants. It was written from memory, since
-the definitions could not be had on the machine, and over no code of this repository; nobody has compared it with them.
+reference may lead, the required codes, the codes of small systems, and the invariants. It was written from memory,
+since the definitions could not be had on the machine, and over no code of this repository; nobody has compared it with
+them.
 
 What it doesn't check: the codes of LOINC, SNOMED CT and UCUM; profiles; searches (what `ifNoneExist` and a conditional
 update find, and whether a server takes them); extensions and contained resources; types of resources and elements that
