@@ -48,7 +48,7 @@ MENDING = ENDING = 3.0
 ACCEPTS, BACKLOG = 4, 100
 #: So many bytes of long messages are held until they end, to be mended if they aren't whole; and so many of long texts
 #: until they are complete.
-HELD, TEXTS = 32 << 20, 32 << 20
+HELD, TEXTS = 32 << 20, 16 << 20
 #: So many bytes of a connection are heard before it is asked whose turn it is.
 PIECE = 4096
 #: How long the thread that commits waits for its turn while a line is busy: it needs one after each statement.
