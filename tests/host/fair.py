@@ -1,6 +1,8 @@
 """How long good lines wait for their replies while others attack the host, and how much memory hostile lines take up.
-It measures and judges nothing: what a machine does besides is in each figure (`tests/host/more fair`)."""
+It measures and judges nothing (`tests/host/more fair`). What a machine does besides is in each time; next to it is how
+long the host worked until the reply, all its threads together, which is the same on a busy machine."""
 import errno
+import glob
 import itertools
 import json
 import os
@@ -41,12 +43,21 @@ def connected(port, address):
 
 # ---- good lines
 
-class Good:
-    """A line that sends a session now and then, and notes how long each reply took."""
+def worked(host):
+    """How long a process has worked, in seconds."""
+    total = 0
+    for path in glob.glob(f"/proc/{host}/task/*/schedstat"):
+        with open(path, encoding="ascii") as file:
+            total += int(file.read().split()[0])
+    return total / 1e9
 
-    def __init__(self, port, place):
+
+class Good:
+    """A line that sends a session now and then, and notes how long each reply took, and how long the host worked."""
+
+    def __init__(self, port, host, place):
         self.one, self.at, self.sent = connected(port, f"127.1.{place // 250}.{place % 250 + 1}"), 0, 0.0
-        self.next = time.perf_counter() + EVERY * place / GOOD
+        self.next, self.host, self.before = time.perf_counter() + EVERY * place / GOOD, host, 0.0
 
     def begin(self, now):
         """Begins a session."""
@@ -55,14 +66,14 @@ class Good:
 
     def send(self, now):
         """Sends the next unit."""
-        self.sent = now
+        self.sent, self.before = now, worked(self.host)
         self.one.send(UNITS[self.at])
 
     def hear(self, now, waits):
         """A reply came."""
         if self.one.recv(16) != ACK:
             raise SystemExit("a good line was not acknowledged")
-        waits.append(now - self.sent)
+        waits.append((now - self.sent, worked(self.host) - self.before))
         self.at += 1
         if self.at < len(UNITS):
             self.send(time.perf_counter())
@@ -71,9 +82,9 @@ class Good:
             self.at = 0
 
 
-def be_good(port, seconds):
+def be_good(port, host, seconds):
     """The good lines for some time: prints how long they waited for each reply, and who still waits."""
-    lines, ready, waits = [Good(port, place) for place in range(GOOD)], selectors.DefaultSelector(), []
+    lines, ready, waits = [Good(port, host, place) for place in range(GOOD)], selectors.DefaultSelector(), []
     for one in lines:
         ready.register(one.one, selectors.EVENT_READ, one)
     over = time.perf_counter() + seconds
@@ -84,7 +95,7 @@ def be_good(port, seconds):
         for one in lines:
             if one.next <= now < over and one.at == 0:
                 one.begin(now)
-    waits += [time.perf_counter() - one.sent for one in lines if one.at]
+    waits += [(time.perf_counter() - one.sent, worked(host) - one.before) for one in lines if one.at]
     print(json.dumps(waits))
 
 
@@ -138,14 +149,14 @@ def part_of(*words):
 ENV = {**os.environ, "PYTHONPATH": os.pathsep.join([hosts.ENV["PYTHONPATH"], hosts.ROOT])}
 
 
-def waited(port, name, peers):
+def waited(host, name, peers):
     """How long the good lines wait while so many addresses attack."""
     addresses = [f"127.2.0.{place + 1}" for place in range(peers)]
     shares = [some for some in (addresses[at::3] for at in range(3)) if some]
-    attackers = [part_of("attack", port, name, *some) for some in shares]
+    attackers = [part_of("attack", host.port, name, *some) for some in shares]
     time.sleep(1.0 if attackers else 0)
     try:
-        return json.loads(part_of("good", port, SECONDS).communicate()[0])
+        return json.loads(part_of("good", host.port, host.process.pid, SECONDS).communicate()[0])
     finally:
         for one in attackers:
             one.kill()
@@ -154,20 +165,23 @@ def waited(port, name, peers):
 
 def told(name, waits):
     """A line about replies, in milliseconds."""
-    waits = sorted(one * 1000 for one in waits)
-    at = lambda share: waits[min(len(waits) - 1, int(share * len(waits)))]  # noqa: E731
-    over = [sum(one > most for one in waits) for most in (100, 250)]
-    say(f"{name}: {len(waits)} replies, median {statistics.median(waits):.1f}, 99 % {at(0.99):.0f}, longest "
-        f"{waits[-1]:.0f} ms; {over[0]} over 100, {over[1]} over 250; load {os.getloadavg()[0]:.1f}")
+    parts = []
+    for what, some in zip(("after", "the host worked"), zip(*waits)):
+        some = sorted(one * 1000 for one in some)
+        most = some[min(len(some) - 1, int(0.99 * len(some)))]
+        parts.append(f"{what} {statistics.median(some):.1f} ms (median), {most:.0f} (99 %), {some[-1]:.0f} (longest)")
+    over = [sum(one > most for one, _ in waits) for most in (0.1, 0.25)]
+    say(f"{name}: {len(waits)} replies {', '.join(parts)}; {over[0]} over 100, {over[1]} over 250; load "
+        f"{os.getloadavg()[0]:.1f}")
 
 
 def under_attack(folder, names):
     """Replies to good lines without an attack and under each."""
     host = Host(os.path.join(folder, "fair.db"), "--lines", "512", each=None, scale=1.0)
-    told("no attack", waited(host.port, "", 0))
+    told("no attack", waited(host, "", 0))
     for name in names:
         for peers in PEERS:
-            told(f"{name}, {peers} of {EACH} connections", waited(host.port, name, peers))
+            told(f"{name}, {peers} of {EACH} connections", waited(host, name, peers))
             time.sleep(2)
     say(f"the host's memory: {host.memory() // 1024} MB; its status: {host.stop()}")
 
@@ -213,7 +227,7 @@ def run(words):
 if __name__ == "__main__":
     kind, port, *others = sys.argv[1:]
     if kind == "good":
-        be_good(int(port), float(others[0]))
+        be_good(int(port), int(others[0]), float(others[1]))
     else:
         os.nice(5)
         ATTACKS[others[0]](int(port), others[1:])

@@ -453,6 +453,9 @@ FAULTS = {
     "test_turns.Turns.test_who_works_now_and_then": Edit(
         "host/turns.py", "max(self._turns.had, self._had) + now", "self._turns.had + now"
     ),
+    "test_turns.Turns.test_connections_of_a_line": Edit(
+        "watch/pulse.py", "if time.monotonic() - pulse.good_at < PATIENCE * pulse.scale:", "if pulse.good_at < 0:"
+    ),
     "test_turns.Turns.test_room_for_texts": Edit("host/line.py", "self._has_room(has is not None)", "self._has_room(True)"),
     "test_status.Status.test_running": Edit(
         "host/status.py", "return not store.held_to_the_end and ", "return "

@@ -8,7 +8,8 @@ from collections import Counter
 from lislink import frame_bytes
 from lislink.host import serve, turns as turn
 from lislink.host.commits import Committer
-from lislink.link import LONG_FRAME_TEXT
+from lislink.link import LONG_FRAME_TEXT, Note, Step
+from lislink.watch.pulse import Probe, Pulse
 from tests.host.hosts import Host, HostTest, wait_for
 from tests.host.test_lines import ACK, ENQ, NAK, TEXTS, Client
 
@@ -122,6 +123,21 @@ class Turns(HostTest):
         self.same("it waits for", set(waits), {0})
         self.true("each as much", max(done.values()) - min(done.values()) <= 20, done)
         self.true("a little of each turn", 0 < sum(done.values()) <= 4 * turn.AT_ONCE * loops[0], (done, loops))
+
+    def test_connections_of_a_line(self):
+        """A session takes no more work on a line with many connections than on one with few."""
+        step = lambda note: Step(b"", None, note, 0, 0)  # noqa: E731
+        asked = []
+        for count in (1, 300):
+            one, looks = Pulse(240, 1.0), []
+            probes = [Probe(one, None, lambda *_: None) for _ in range(count)]
+            with unittest.mock.patch.object(Probe, "silent", lambda probe: looks.append(probe)):
+                for _ in range(50):
+                    for note in (Note.OPENED, Note.ACCEPTED, Note.ENDED):
+                        probes[0].hears(b"x")
+                        probes[0].step(0, step(note))
+            asked.append(len(looks))
+        self.true("looks at connections", asked[1] - asked[0] < 300, asked)
 
     def test_room_for_texts(self):
         """Long texts that aren't complete have some room together: for a frame that finds none there is NAK, also in the

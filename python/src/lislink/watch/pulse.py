@@ -349,6 +349,8 @@ class Probe:
     def _first_frame(self) -> None:
         """A frame of a session is good: what was bad so far without one is over, also on other connections."""
         pulse = self._pulse
+        if time.monotonic() - pulse.good_at < PATIENCE * pulse.scale:
+            return  # nothing that is bad began before the last one and so long ago
         for probe in pulse.probes:
             if "silent" not in pulse.troubles:
                 pulse.remember(probe.silent())
