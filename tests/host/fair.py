@@ -57,7 +57,7 @@ class Good:
 
     def __init__(self, port, host, place):
         self.one, self.at, self.sent = connected(port, f"127.1.{place // 250}.{place % 250 + 1}"), 0, 0.0
-        self.next, self.host, self.before = time.perf_counter() + EVERY * place / GOOD, host, 0.0
+        self.next, self.host, self.before = 0.0, host, 0.0
 
     def begin(self, now):
         """Begins a session."""
@@ -71,8 +71,9 @@ class Good:
 
     def hear(self, now, waits):
         """A reply came."""
-        if self.one.recv(16) != ACK:
-            raise SystemExit("a good line was not acknowledged")
+        got = self.one.recv(16)
+        if got != ACK:
+            raise SystemExit(f"a good line was not acknowledged: {got}")
         waits.append((now - self.sent, worked(self.host) - self.before))
         self.at += 1
         if self.at < len(UNITS):
@@ -87,6 +88,9 @@ def be_good(port, host, seconds):
     lines, ready, waits = [Good(port, host, place) for place in range(GOOD)], selectors.DefaultSelector(), []
     for one in lines:
         ready.register(one.one, selectors.EVENT_READ, one)
+    sys.stdin.readline()  # the attack has begun
+    for place, one in enumerate(lines):
+        one.next = time.perf_counter() + EVERY * place / GOOD
     over = time.perf_counter() + seconds
     while time.perf_counter() < over + 2:
         for key, _ in ready.select(0.002):
@@ -143,7 +147,7 @@ ATTACKS = {
 def part_of(*words):
     """A process of this file, with less of the processor than the host."""
     return subprocess.Popen([sys.executable, "-m", "tests.host.fair", *map(str, words)], cwd=hosts.ROOT, env=ENV,
-                            stdout=subprocess.PIPE, text=True)
+                            stdin=subprocess.PIPE, stdout=subprocess.PIPE, text=True)
 
 
 ENV = {**os.environ, "PYTHONPATH": os.pathsep.join([hosts.ENV["PYTHONPATH"], hosts.ROOT])}
@@ -153,10 +157,12 @@ def waited(host, name, peers):
     """How long the good lines wait while so many addresses attack."""
     addresses = [f"127.2.0.{place + 1}" for place in range(peers)]
     shares = [some for some in (addresses[at::3] for at in range(3)) if some]
+    good = part_of("good", host.port, host.process.pid, SECONDS)
+    time.sleep(2.0)
     attackers = [part_of("attack", host.port, name, *some) for some in shares]
-    time.sleep(1.0 if attackers else 0)
+    time.sleep(2.0 if attackers else 0)
     try:
-        return json.loads(part_of("good", host.port, host.process.pid, SECONDS).communicate()[0])
+        return json.loads(good.communicate("go\n")[0])
     finally:
         for one in attackers:
             one.kill()

@@ -451,7 +451,7 @@ FAULTS = {
         "        if not self._share:\n            self._pause",
     ),
     "test_turns.Turns.test_who_works_now_and_then": Edit(
-        "host/turns.py", "max(self._turns.had, self._had) + now", "self._turns.had + now"
+        "host/turns.py", "max(self._turns.had - CREDIT, self._had) + now", "self._turns.had - CREDIT + now"
     ),
     "test_turns.Turns.test_connections_of_a_line": Edit(
         "watch/pulse.py", "if time.monotonic() - pulse.good_at < PATIENCE * pulse.scale:", "if pulse.good_at < 0:"

@@ -17,7 +17,7 @@ FAULTS = {
         "orders/book.py", "held = f\"holder = ? AND", "held = f\"holder <> ? AND"
     ),
     "test_order_files.Files.test_dates": ("orders/book.py", "over <= self.until", "over < self.until"),
-    "test_orders.SpoolBooks.test_states": ("orders/book.py", "mine += bool(holder and at == own and not is_left)", "mine += bool(holder)"),
+    "test_orders.SpoolBooks.test_states": ("orders/book.py", "mine += at == own", "mine += 1"),
     "test_order_files.Files.test_more": ("orders/order.py", "[rack, position] if position else rack", "[position, rack]"),
     "test_order_files.Files.test_ranges": ("orders/book.py", "int(self.first) <= int(sample)", "self.first <= sample"),
     "test_orders.SpoolBooks.test_two_hosts": (
@@ -96,7 +96,7 @@ FAULTS = {
     "test_queries.Queries.test_a_store_that_gives_no_answer": (
         "host/outbox.py", "return Batch(failure())", "return Batch(self._nothing(site, queries))"
     ),
-    "test_queries.Queries.test_two_analyzers": ("host/outbox.py", "if any(found) or site.none", "if any(wanted) or site.none"),
+    "test_queries.Queries.test_two_analyzers": ("host/outbox.py", "if not found.others or not left:", "if found or not left:"),
     "test_queries.Queries.test_an_answer_waits": (
         "host/outbox.py", "self._kept[site.place] = batch, time.monotonic()", "self._lots.clear()"
     ),

@@ -41,11 +41,11 @@ class Books:
         numbers = [placed.number for placed in one.add([Order(f"S{at}", ("K",)) for at in range(1, 6)])]
         self.same("numbers", numbers, [1, 2, 3, 4, 5])
         self.same("none asked", one.take("fire x", "1", "fire", 9, []), [])
-        self.same("asked", one.ask("fire x", "1", "fire", [Wanted(["S1"]), Wanted(["S3"])]), (2, 0))
+        self.same("asked", one.ask("fire x", "1", "fire", [Wanted(["S1"]), Wanted(["S3"])]), (2, 0, 0))
         self.same("taken", [placed.number for placed in one.take("fire x", "1", "fire", 9, [])], [1, 3])
         self.same("taken once", one.take("fire x", "1", "fire", 9, []), [])
-        self.same("on its way", one.ask("fire x", "1", "fire", [Wanted(["S1"])]), (0, 1))
-        self.same("elsewhere", one.ask("fire y", "2", "fire", [Wanted(["S1"])]), (0, 0))
+        self.same("on its way", one.ask("fire x", "1", "fire", [Wanted(["S1"])]), (0, 1, 0))
+        self.same("elsewhere", one.ask("fire y", "2", "fire", [Wanted(["S1"])]), (0, 0, 0))
         self.same("not while it is sent", one.cancel(1), False)
         one.sent("fire", [1])
         self.same("the last try", one.tried("fire", [3], "why", 1, 0), [3])
@@ -220,11 +220,11 @@ class Books:
         self.same("sent", [(placed.state, placed.reason) for placed in one.listed()], [("sent", PERHAPS)])
         two.add([Order("S2", ("K",))])
         wanted = [Wanted(("S2",))]
-        self.same("asked", two.ask("fire x", "7", "fire", wanted), (1, 0))
+        self.same("asked", two.ask("fire x", "7", "fire", wanted), (1, 0, 0))
         self.same("in hand", [placed.number for placed in two.take("fire x", "7", "fire", 9, [])], [2])
-        self.same("not by another one", one.ask("fire y", "1", "fire", wanted), (0, 0))
+        self.same("not by another one", one.ask("fire y", "1", "fire", wanted), (0, 0, 0))
         now[0] += 31
-        self.same("by another one in the end", one.ask("fire y", "1", "fire", wanted), (1, 0))
+        self.same("by another one in the end", one.ask("fire y", "1", "fire", wanted), (1, 0, 0))
         self.same("it has it", [(placed.number, placed.reason) for placed in one.take("fire y", "1", "fire", 9, [])],
                   [(2, PERHAPS)])
 
@@ -234,11 +234,17 @@ class Books:
         one = open_book(self.new(), "one")
         self.addCleanup(one.close)
         one.add([Order("S1", ("K",))])
-        self.same("asked", one.ask("fire x", "1", "fire", [Wanted(("S1",))]), (1, 0))
+        self.same("asked", one.ask("fire x", "1", "fire", [Wanted(("S1",))]), (1, 0, 0))
         one.leave("1")
         self.same("taken", len(one.take("fire x", "2", "fire", 9, [])), 1)
-        self.same("asked again", one.ask("fire x", "2", "fire", [Wanted(("S1",))]), (0, 1))
-        self.same("elsewhere", one.ask("fire y", "3", "fire", [Wanted(("S1",))]), (0, 0))
+        self.same("asked again", one.ask("fire x", "2", "fire", [Wanted(("S1",))]), (0, 1, 0))
+        self.same("elsewhere", one.ask("fire y", "3", "fire", [Wanted(("S1",))]), (0, 0, 0))
+        one.add([Order("S2", ("K",))])
+        both = [Wanted(("S1",)), Wanted(("S2",))]
+        self.same("over a third one from there", one.ask("fire x", "3", "fire", both), (0, 0, 1))
+        self.same("none is marked", one.take("fire x", "3", "fire", 9, []), [])
+        self.same("not waited for", one.ask("fire x", "3", "fire", both, 0.0, False), (1, 0, 1))
+        self.same("part of it", [placed.number for placed in one.take("fire x", "3", "fire", 9, [])], [2])
 
 
 class SqliteBooks(Books, HostTest):

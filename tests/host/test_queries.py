@@ -215,13 +215,17 @@ class Queries(HostTest):
         self.same("its order", samples_of(one.take()), ["S123"])
 
     def test_two_analyzers(self):
-        """Two analyzers ask for one sample: each gets an answer."""
+        """Two analyzers ask for one sample: each gets an answer. One from the same address may be the first one, whose
+        connection is gone without a word: it gets no such answer before that session is over."""
         _, port = self.started()
         one, two = Plain(port, SLOW), Plain(port, SLOW)
+        three = Plain(port, SLOW, line=socket.create_connection(("127.0.0.1", port), 10, ("127.0.0.9", 0)))
         one.send(asked(b"^S123"))
         self.same("the first one's answer begins", one.byte(30), ENQ)
+        three.send(asked(b"^S123"))
+        self.same("from elsewhere", [row[:5] for row in three.take()], [b"H|\\^&", b"L|1|I"])
         two.send(asked(b"^S123"))
-        self.same("the second one's", [row[:5] for row in two.take()], [b"H|\\^&", b"L|1|I"])
+        self.same("from there, once the first one's is over", samples_of(two.take(200)), ["S123"])
 
     def test_an_answer_waits(self):
         """The line goes before the answer: it comes over the next one, also that there is no order."""

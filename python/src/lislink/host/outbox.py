@@ -22,9 +22,9 @@ from .tasks import Tasks
 #: tries so far.
 MOST, ASKED, LOOK, COMMAND, ANSWER, AT_ONCE = 20, 10_000, 1.0, 5.0, 1 << 20, 4
 WAITS = (5.0, 15.0, 60.0, 300.0)
-#: How often a query is looked up while the store gives no answer, a look apart; an answer that couldn't be sent waits so
-#: many seconds for its analyzer to connect anew.
-LOOKS, KEPT = 3, 600.0
+#: How often a query is looked up while the store gives no answer, a look apart, and while its orders are being sent over
+#: another connection from there; an answer that couldn't be sent waits so many seconds for its analyzer to connect anew.
+LOOKS, OTHERS, KEPT = 3, 30, 600.0
 #: Work of a thread, and what becomes of it.
 Work = Tuple["Future[Any]", Callable[[], Any]]
 
@@ -248,22 +248,27 @@ class Outbox:
             return Batch(failure()) if site.none != "silence" else None
         if found.found:
             self._queries[site.place] = queries
-        if any(found) or site.none == "silence":
+        if found.found or found.mine or site.none == "silence":
             return None
-        return Batch(self._nothing(site, queries))
+        return Batch(failure() if found.others else self._nothing(site, queries))
 
     async def _look_up(self, site: Site, wanted: Sequence[Wanted]) -> Optional[Asked]:
-        """The orders that are marked as asked for; None if the store doesn't say."""
+        """The orders that are marked as asked for; None if the store doesn't say. What is on its way to the same place is
+        waited for: it is sent, or it waits again."""
         assert self._book is not None
-        for left in range(LOOKS, 0, -1):
+        failed = 0
+        for left in range(OTHERS, -1, -1):
             try:
-                words = (site.place, site.seat, site.line, wanted, site.asks.again)
+                words = (site.place, site.seat, site.line, wanted, site.asks.again, left > 0)
                 found: Asked = await self._run(self._book.ask, *words)
-                return found
+                if not found.others or not left:
+                    return found
             except StoreError as error:
+                failed += 1
                 self._say(f"{site.line}: a query can't be looked up: {error}")
-            if left > 1:
-                await asyncio.sleep(LOOK * max(self._scale, 0.05))
+                if failed == LOOKS:
+                    break
+            await asyncio.sleep(LOOK * max(self._scale, 0.05))
         return None
 
     async def take_back(self, site: Site, batches: Sequence[Batch]) -> None:

@@ -70,10 +70,12 @@ class Placed(NamedTuple):
 
 
 class Asked(NamedTuple):
-    """How many orders a query has marked, and how many are being sent already over the connection that asks."""
+    """How many orders a query has marked, and how many are being sent already: over the connection that asks, and over
+    others from the same place."""
 
     found: int
     mine: int
+    others: int = 0
 
 
 class Failed(NamedTuple):
@@ -274,31 +276,40 @@ class OrderBook:
 
     # ---- what a host does
 
-    def ask(self, place: str, seat: str, line: str, wanted: Sequence[Wanted], again: float = 0.0) -> Asked:
+    def ask(
+        self, place: str, seat: str, line: str, wanted: Sequence[Wanted], again: float = 0.0, waits: bool = True
+    ) -> Asked:
         """Marks orders as asked for at a place, over the connection that has this seat. They are to be sent there now.
         They are those that wait, and those that were sent on the line not longer ago than so many seconds and lack a
-        result; none that is being sent, but by a host that is gone for a while."""
-        now, mine, own = self._clock(), 0, self._seat(seat)
+        result; none that is being sent, but by a host that is gone for a while. If some are being sent to the same place,
+        over a connection that may be gone without a word, none is marked, unless nobody waits for these."""
+        now, mine, others, own = self._clock(), 0, 0, self._seat(seat)
         free: Dict[int, str] = {}
         with self._store.changing():
             gone = self._gone(now)
             for one in wanted:
                 where, values = one.condition()
                 rows = self._store.run(
-                    f"SELECT number, sample, collected, holder, seat, changed FROM orders WHERE (state = '{WAITING}' OR"
+                    "SELECT number, sample, collected, holder, seat, changed, asked FROM orders WHERE"
+                    f" (state = '{WAITING}' OR"
                     f" (state = '{SENT}' AND done = 0 AND sent_on = ? AND changed >= ?)) AND line IN ('', ?)"
                     f" AND {where}",
                     (line, now - again, line, *values),
                 ).fetchall()
-                for number, sample, collected, holder, at, changed in rows:
-                    if one.holds(sample, collected):
-                        is_left = holder in gone and changed < now - LEFT_AFTER
-                        mine += bool(holder and at == own and not is_left)
-                        free.update({number: holder} if is_left or not holder else {})
-            waits = f"state = '{WAITING}', asked = ?, seat = ?, next_try = 0"
-            self._set(waits, (place, own), list(free), f"state IN ('{WAITING}', '{SENT}')")
+                for number, sample, collected, holder, at, changed, asked in rows:
+                    if not one.holds(sample, collected):
+                        continue
+                    if not holder or (holder in gone and changed < now - LEFT_AFTER):
+                        free[number] = holder
+                    else:
+                        mine += at == own
+                        others += at != own and asked == place
+            if others and waits:
+                return Asked(0, mine, others)
+            marks = f"state = '{WAITING}', asked = ?, seat = ?, next_try = 0"
+            self._set(marks, (place, own), list(free), f"state IN ('{WAITING}', '{SENT}')")
             self._set("holder = '', reason = ?", (PERHAPS,), [number for number, holder in free.items() if holder])
-        return Asked(len(free), mine)
+        return Asked(len(free), mine, others)
 
     def _seat(self, seat: str) -> str:
         return f"{self._host}/{seat}"
