@@ -1,0 +1,42 @@
+-- A receiver that hears more carefully than the standard's profile: one damaged byte of a frame may be an ENQ or an STX,
+-- and acknowledges nothing then (LIS01-A2, 6.3 to 6.6).
+use Rattle.std.specs.Prelude.{ℕ, Bool, true, false, List, [], ◌∷◌, Option, None, Some, if◌then◌else◌, ◌==◌, ◌&&◌, ◌||◌}
+use Rattle.lis_text.specs.Control.{STX, EOT, ENQ}
+use Rattle.lis_frame.specs.Stream.{open_body}
+use Rattle.lis_link.specs.declared.receiver.Note.TheVariants.{Quiet, Ended}
+use Rattle.lis_link.specs.Receiver.{ReceiverState, ReceiverStep, ReceiverHearing, answers, on_byte, heard_on}
+
+-- while the line is open ENQ ends the session as EOT does, with no reply: who begins anew is answered at the next ENQ
+abbrev pub ends_session : ReceiverState → ℕ → Bool
+ends_session r b = r.is_open && (b == ENQ || b == EOT)
+
+abbrev pub session_ended : ReceiverState → ReceiverStep
+session_ended r = answers None Ended (record r { is_open = false; past = [] })
+
+-- data link escape: no frame may hold it
+abbrev pub DLE : ℕ
+DLE = 16
+
+-- an STX inside an unfinished frame begins none: it is heard as DLE, so that the frame is rejected
+abbrev pub heard_as : Option (List ℕ) → ℕ → ℕ
+heard_as None b = b
+heard_as (Some body) b = if b == STX then DLE else b
+
+-- all else is as the profile has it
+abbrev pub careful_by : Bool → ℕ → ℕ → ReceiverState → ReceiverStep
+careful_by true limit b r = session_ended r
+careful_by false limit b r = on_byte limit (heard_as (open_body r.past) b) r
+
+abbrev pub on_byte_carefully : ℕ → ℕ → ReceiverState → ReceiverStep
+on_byte_carefully limit b r = careful_by (ends_session r b) limit b r
+
+-- bytes are heard up to the first that is not quiet, and all of them where each is quiet
+abbrev pub on_bytes_carefully : ℕ → List ℕ → ReceiverState → ReceiverHearing
+on_bytes_carefully limit [] r = record { count = 0; step = answers None Quiet r }
+on_bytes_carefully limit (b ∷ bytes) r =
+    heard_on 1 (on_byte_carefully limit b r).note (on_byte_carefully limit b r)
+    (on_bytes_carefully limit bytes (on_byte_carefully limit b r).after)
+
+-- the state in which a byte was heard, and nothing else has changed
+abbrev pub heard_only : ReceiverStep → ReceiverState → ReceiverState
+heard_only step r = record r { past = step.after.past }

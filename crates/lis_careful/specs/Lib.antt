@@ -1,0 +1,6 @@
+-- What is heard carefully, by a receiver and on a link; and the statements of the laws.
+pub mod Careful
+pub mod World
+pub mod OneByte
+pub mod Laws
+pub mod inside

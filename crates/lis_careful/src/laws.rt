@@ -1,0 +1,29 @@
+//! The laws of careful hearing, each the contract of a function that does nothing.
+
+ghost use Rattle.lis_frame.specs.Limit.{IsLimit};
+ghost use Rattle.lis_careful.specs.Laws.{AlwaysSafeCarefully, AreHistories};
+ghost use Rattle.lis_careful.specs.OneByte.{OneByteIsNoticed, OneByteMayMatter};
+
+/// Whatever happens on a link whose receiver hears carefully could have happened on a link whose receiver is the
+/// profile's: where ENQ or EOT ends a session in silence, the unit was lost and the receiver restarted; where a frame
+/// begins inside an unfinished one, it came damaged. So each session is safe, over every list of events. At every limit
+/// on a frame's text.
+pub fn safe_carefully_of<const N: usize>()
+    requires { IsLimit N }
+    ensures history { AreHistories N }
+    ensures safe { AlwaysSafeCarefully N }
+{}
+
+/// A frame comes on an open line, between frames, with one byte changed, whichever and to whatever byte. A careful
+/// receiver hears nothing of it, the end of the session, one bad frame, or that very frame, with a digit of its checksum
+/// in the other case: so it acknowledges nothing, or that frame. At every limit on a frame's text.
+pub fn one_byte_is_noticed_of<const N: usize>()
+    requires { IsLimit N }
+    ensures { OneByteIsNoticed N }
+{}
+
+/// Each of its two rules is needed. As the profile has it, a receiver acknowledges a frame that it doesn't take where one
+/// byte became ENQ, and takes another one where one became STX and the rest fits the sum; so it does by either rule alone.
+pub fn one_byte_may_matter()
+    ensures { OneByteMayMatter }
+{}

@@ -1,0 +1,148 @@
+//! A receiver that hears carefully: an ENQ that damage made of another byte acknowledges nothing.
+
+ghost use Rattle.std.specs.Prelude.{◌≡◌, ◌≢◌, ◌≤◌, ◌<◌, ◌-◌, length, take, drop};
+ghost use Rattle.lis_frame.specs.Stream.{open_body};
+ghost use Rattle.lis_link.specs.declared.receiver.Note.TheVariants as Notes;
+ghost use Rattle.lis_link.specs.Receiver.{ReceiverState};
+ghost use Rattle.lis_link.specs.Representation.{IsIn, IsStepMade, RefusesFrame, SpareAfter, KeepsRoom, room_of};
+ghost use Rattle.lis_careful.specs.Careful.{ends_session, heard_as, on_byte_carefully, on_bytes_carefully, heard_only};
+ghost use Rattle.lis_careful.specs.inside.Hearing.{AreUnspecial, HearsFrontCarefully, begins_within, is_altered};
+
+use lis_link::{Hearing, Note, ReceiverOf, Step};
+use lis_text::{ENQ, EOT, LF, STX};
+use memchr::memchr3;
+
+/// Data link escape, which no frame may hold.
+pub(crate) const DLE: u8 = 0x10;
+
+/// A receiver hears one byte as `ReceiverOf::byte` has it, but that one damaged byte of a frame acknowledges nothing:
+/// while the line is open ENQ ends the session as EOT does, with no reply, and an STX inside an unfinished frame begins
+/// none, so that the frame is rejected at its LF.
+///
+/// Memory may run out as for `ReceiverOf::byte`; but for the byte heard the state is then as before.
+pub fn hear_byte<const N: usize>(receiver: &mut ReceiverOf<N>, byte: u8) -> Step
+    ensures step { (r : ReceiverState) → IsIn N receiver.old r → result.note ≢ Notes.OutOfMemory →
+        IsStepMade N (on_byte_carefully N byte r) result receiver.new }
+    ensures refused { (r : ReceiverState) → IsIn N receiver.old r → result.note ≡ Notes.OutOfMemory →
+        RefusesFrame N receiver.old.spare (on_byte_carefully N byte r) (heard_only (on_byte_carefully N byte r) r)
+        result receiver.new }
+    ensures spare { (r : ReceiverState) → IsIn N receiver.old r
+        → SpareAfter receiver.old.spare receiver.new.spare (on_byte_carefully N byte r).taken }
+    ensures room { KeepsRoom result.note result.message (room_of receiver.old) (room_of receiver.new) }
+{
+    if closes(receiver, byte) {
+        return receiver.byte(EOT);
+    }
+    let heard = heard_as(receiver, byte);
+    receiver.byte(heard)
+}
+
+/// A receiver hears bytes as `ReceiverOf::bytes` has it, each as `hear_byte` hears it: those up to the first that is not
+/// quiet, or all of them where each is quiet.
+///
+/// Memory may run out as for `ReceiverOf::byte`; but for the bytes heard the state is then as before.
+pub fn hear_bytes<const N: usize>(receiver: &mut ReceiverOf<N>, bytes: &[u8]) -> Hearing
+    ensures count { (r : ReceiverState) → IsIn N receiver.old r →
+        result.count ≡ (on_bytes_carefully N bytes.now r).count }
+    ensures step { (r : ReceiverState) → IsIn N receiver.old r → result.step.note ≢ Notes.OutOfMemory →
+        IsStepMade N (on_bytes_carefully N bytes.now r).step result.step receiver.new }
+    ensures refused { (r : ReceiverState) → IsIn N receiver.old r → result.step.note ≡ Notes.OutOfMemory →
+        RefusesFrame N receiver.old.spare (on_bytes_carefully N bytes.now r).step
+        (heard_only (on_bytes_carefully N bytes.now r).step r) result.step receiver.new }
+    ensures spare { (r : ReceiverState) → IsIn N receiver.old r →
+        SpareAfter receiver.old.spare receiver.new.spare (on_bytes_carefully N bytes.now r).step.taken }
+    ensures room { KeepsRoom result.step.note result.step.message (room_of receiver.old) (room_of receiver.new) }
+
+    // What is reported without a state: some bytes are heard, and all of them where the step is quiet.
+    ensures bound { result.count ≤ length bytes.now }
+    ensures some { 0 < length bytes.now → 0 < result.count }
+    ensures all { result.step.note ≡ Notes.Quiet → result.count ≡ length bytes.now }
+{
+    let mut count = 0;
+    while count < bytes.len() {
+        let Hearing { count: more, step } = hear_front(receiver, &bytes[count..]);
+        count += more;
+        match step.note {
+            Note::Quiet => {}
+            _ => return Hearing { count, step },
+        }
+    }
+    Hearing {
+        count,
+        step: Step {
+            reply: None,
+            message: None,
+            note: Note::Quiet,
+        },
+    }
+}
+
+/// Hears the front of bytes: the first byte, or all that the receiver hears at once of those up to the next one that
+/// may be heard as another.
+fn hear_front<const N: usize>(receiver: &mut ReceiverOf<N>, bytes: &[u8]) -> Hearing
+    requires { 0 < length bytes.now }
+    ensures some { 0 < result.count }
+    ensures bound { result.count ≤ length bytes.now }
+    ensures front { (r : ReceiverState) → IsIn N receiver.old r →
+        HearsFrontCarefully N bytes.now r receiver.old.spare result receiver.new }
+    ensures room { KeepsRoom result.step.note result.step.message (room_of receiver.old) (room_of receiver.new) }
+{
+    let byte = bytes[0];
+    if is_altered(receiver, byte) {
+        return Hearing {
+            count: 1,
+            step: hear_byte(receiver, byte),
+        };
+    }
+    let (front, _) = bytes.split_at(plain_length(bytes));
+    receiver.bytes(front)
+}
+
+/// How many bytes are before the next STX, ENQ or EOT after the first byte.
+fn plain_length(bytes: &[u8]) -> usize
+    requires { 0 < length bytes.now }
+    ensures some { 0 < result }
+    ensures bound { result ≤ length bytes.now }
+    ensures plain { AreUnspecial (take (result - 1) (drop 1 bytes.now)) }
+{
+    let (_, rest) = bytes.split_at(1);
+    match memchr3(STX, ENQ, EOT, rest) {
+        Some(place) => place + 1,
+        None => bytes.len(),
+    }
+}
+
+/// Whether this byte is heard as another one, or leaves less of the stream.
+fn is_altered<const N: usize>(receiver: &ReceiverOf<N>, byte: u8) -> bool
+    ensures { (r : ReceiverState) → IsIn N receiver.now r → result ≡ is_altered r byte }
+{
+    closes(receiver, byte) || begins_within(receiver, byte)
+}
+
+/// Whether this byte ends the session.
+pub(crate) fn closes<const N: usize>(receiver: &ReceiverOf<N>, byte: u8) -> bool
+    ensures { (r : ReceiverState) → IsIn N receiver.now r → result ≡ ends_session r byte }
+{
+    receiver.is_open() && (byte == ENQ || byte == EOT)
+}
+
+/// What this byte is heard as, if it doesn't end the session.
+pub(crate) fn heard_as<const N: usize>(receiver: &ReceiverOf<N>, byte: u8) -> u8
+    ensures { (r : ReceiverState) → IsIn N receiver.now r → result ≡ heard_as (open_body r.past) byte }
+{
+    if begins_within(receiver, byte) {
+        DLE
+    } else {
+        byte
+    }
+}
+
+/// Whether this byte is an STX within a frame: where LF comes next, a frame body ends.
+fn begins_within<const N: usize>(receiver: &ReceiverOf<N>, byte: u8) -> bool
+    ensures { (r : ReceiverState) → IsIn N receiver.now r → result ≡ begins_within (open_body r.past) byte }
+{
+    match byte {
+        STX => receiver.scanner().peek(LF).is_some(),
+        _ => false,
+    }
+}
