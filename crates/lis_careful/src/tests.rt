@@ -8,28 +8,29 @@ use std::process::Abort;
 /// Frame 1 with the text `H`.
 const FRAME: [u8; 8] = *b"\x021H\x037C\r\n";
 
-/// How many replies to these bytes after an ENQ are ACK.
-fn acknowledged(rt: &(impl Abort + AllocGlobal), bytes: &[u8]) -> u32 {
+/// Whether a reply to one of these bytes after an ENQ is ACK.
+fn is_acknowledged(rt: &(impl Abort + AllocGlobal), bytes: &[u8]) -> bool {
     let mut receiver = Receiver::new(rt.alloc());
     drop(hear_byte(&mut receiver, 0x05));
-    let mut count = 0;
+    let mut is_acknowledged = false;
     for byte in bytes {
-        if hear_byte(&mut receiver, *byte).reply == Some(0x06) {
-            count += 1;
-        }
+        let reply = hear_byte(&mut receiver, *byte).reply;
+        is_acknowledged = is_acknowledged || reply == Some(0x06);
     }
     drop(receiver);
-    count
+    is_acknowledged
 }
 
 #[test]
 fn one_damaged_byte_acknowledges_nothing(rt: HostRuntime) {
-    let mut total = 0;
+    let mut total: u32 = 0;
     for place in 0..FRAME.len() {
         for byte in 0..=255 {
             let mut damaged = FRAME;
             damaged[place] = byte;
-            total += acknowledged(&rt, &damaged);
+            if is_acknowledged(&rt, &damaged) {
+                total = total.saturating_add(1);
+            }
         }
     }
     // The frame as it is, at each place, and with `c` for `C`.
