@@ -1,7 +1,8 @@
 -- A frame that comes where one is unfinished is heard as one bad frame, and any other as it is.
-use Rattle.std.proofs.Common.{◌≡◌, ℕ, ◌+◌, Bool, true, false, List, [], ◌∷◌, ◌++◌, Option, None, Some, refl, ap, sym, ◌∙◌}
+use Rattle.std.proofs.Common.{◌≡◌, ℕ, ◌+◌, Bool, true, false, List, [], ◌∷◌, ◌++◌, Option, None, Some, refl, ap, sym}
+use Rattle.std.proofs.Common.{◌∙◌}
 use Rattle.std.proofs.Common.{subst, arith, append_assoc, append-nil, cond, map}
-use Rattle.std.specs.Prelude.{nat_le, not, ◌==◌, ◌||◌, ◌&&◌}
+use Rattle.std.specs.Prelude.{nat_le, ◌==◌, ◌||◌, ◌&&◌}
 use Rattle.std.specs.List.{position_from}
 use Rattle.std.specs.Option.{option_map}
 use Rattle.std.proofs.lemmas.Bool.Decides.{nat_tests}
@@ -10,7 +11,7 @@ use Rattle.lis_text.specs.Text.{is_forbidden}
 use Rattle.lis_frame.specs.declared.frame.FrameFault.{FrameFault}
 use Rattle.lis_frame.specs.declared.scanner.SignalOf.{SignalOf}
 use Rattle.lis_frame.specs.declared.scanner.SignalOf.TheVariants.{Bad}
-use Rattle.lis_frame.specs.Frame.{FrameContent, IsContent, IsFrame, number_byte, end_byte, digit_value}
+use Rattle.lis_frame.specs.Frame.{FrameContent, IsFrame, number_byte, end_byte, digit_value}
 use Rattle.lis_frame.specs.FrameBody.{body_fault, content_of}
 use Rattle.lis_frame.specs.Stream.{is_mark, look_back, open_body, read_body, signal_after, signals_after, stream_with}
 use Rattle.lis_frame.specs.Stream.{with_signal}
@@ -21,7 +22,7 @@ use Rattle.lis_careful.specs.Careful.{DLE, ends_session, heard_as, careful_by, o
 use Rattle.lis_careful.proofs.Receiving.{unspecial_step, on_byte-past, itself, none_ends}
 use Rattle.lis_careful.proofs.Receiving.{first_false, second_false}
 use Rattle.lis_careful.specs.inside.Hearing.{AreUnspecial, is_special}
-use Rattle.lis_careful.specs.World.{CarefulSignal, gives, careful_signal_by, careful_signal, careful_signals}
+use Rattle.lis_careful.specs.World.{gives, careful_signal_by, careful_signal, careful_signals}
 use Rattle.lis_careful.specs.World.{with_heard_first}
 
 -- bytes that fail a test, and those of a frame after its STX fail each test that no allowed byte passes

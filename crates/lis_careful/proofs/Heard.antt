@@ -1,15 +1,16 @@
 -- Bytes that are heard carefully are other bytes that are heard as they are.
-use Rattle.std.proofs.Common.{◌≡◌, ℕ, Bool, true, false, List, [], ◌∷◌, ◌++◌, Option, None, Some, refl, ap, sym, ◌∙◌, subst}
+use Rattle.std.proofs.Common.{◌≡◌, ℕ, Bool, true, false, List, [], ◌∷◌, Option, None, Some, refl, ap, sym, ◌∙◌}
+use Rattle.std.proofs.Common.{subst}
 use Rattle.std.specs.Option.{option_map}
 use Rattle.lis_frame.specs.declared.scanner.SignalOf.{SignalOf}
 use Rattle.lis_frame.specs.Stream.{open_body, signal_after, signals_after, with_signal}
 use Rattle.lis_link.specs.Receiver.{ReceiverState, ReceiverStep, heard, on_byte, with_heard}
-use Rattle.lis_careful.specs.Careful.{ends_session, heard_as, careful_by, on_byte_carefully}
+use Rattle.lis_careful.specs.Careful.{ends_session, heard_as, careful_by}
 use Rattle.lis_careful.proofs.Receiving.{on_byte-past, unspecial_step}
 use Rattle.lis_careful.specs.inside.Hearing.{AreUnspecial}
 use Rattle.lis_world.specs.World.{ComputerState, booked, hears}
 use Rattle.lis_world.proofs.Heard.{booked_after}
-use Rattle.lis_careful.specs.World.{CarefulSignal, ends, gives, careful_signal_by, careful_signal, with_heard_first}
+use Rattle.lis_careful.specs.World.{CarefulSignal, ends, gives, careful_signal_by, with_heard_first}
 use Rattle.lis_careful.specs.World.{careful_signals, hears_carefully}
 
 -- no session is ended; and the signals then

@@ -2,15 +2,13 @@
 use Rattle.std.proofs.Common.{◌≡◌, ℕ, ◌⊎◌, inl, inr, Bool, true, false, List, [], ◌∷◌, ◌++◌, Option, None, Some, refl}
 use Rattle.std.proofs.Common.{ap, sym, ◌∙◌, subst}
 use Rattle.std.specs.List.{fold}
-use Rattle.std.proofs.lemmas.Bool.{cond_both}
 use Rattle.lis_text.specs.Control.{STX, EOT, ENQ, LF}
 use Rattle.lis_text.specs.declared.readiness.Readiness.{Readiness}
 use Rattle.lis_text.specs.declared.readiness.Readiness.TheVariants as Readinesses
 use Rattle.lis_frame.specs.declared.frame.FrameFault.{FrameFault}
-use Rattle.lis_frame.specs.declared.scanner.SignalOf.{SignalOf}
 use Rattle.lis_frame.specs.declared.scanner.SignalOf.TheVariants.{Bad}
 use Rattle.lis_frame.specs.Limit.{IsLimit}
-use Rattle.lis_frame.specs.Frame.{FrameContent, IsContent, IsFrame, frame_bytes}
+use Rattle.lis_frame.specs.Frame.{FrameContent, IsContent, frame_bytes}
 use Rattle.lis_frame.specs.Stream.{open_body, signals_after, stream_with}
 use Rattle.lis_frame.proofs.FrameLaws.{IsFrame-frame_bytes}
 use Rattle.lis_link.specs.Receiver.{ReceiverState, receiver_restarted, with_readiness, heard_by, on_byte}
@@ -32,7 +30,7 @@ use Rattle.lis_world.proofs.Invariant.{Leads, Holds}
 use Rattle.lis_world.proofs.Delivery.{leads_of, next_frame}
 use Rattle.lis_world.proofs.Room.{room_after}
 use Rattle.lis_world.proofs.Safety.{event_holds, new_holds, always_safe}
-use Rattle.lis_careful.specs.World.{CarefulSignal, ends, gives, careful_signal_by, careful_signal, with_heard_first}
+use Rattle.lis_careful.specs.World.{CarefulSignal, ends, gives}
 use Rattle.lis_careful.specs.World.{careful_signals, hears_carefully, is_noticed_carefully, delivered_carefully}
 use Rattle.lis_careful.specs.World.{damaged_carefully, after_event_carefully}
 use Rattle.lis_careful.specs.Laws.{AreHistories, AlwaysSafeCarefully}
@@ -45,8 +43,8 @@ readies Readinesses.Ready = Ready
 readies Readinesses.Busy = Busy
 readies Readinesses.Contending = Contending
 
--- what comes to a careful receiver is one of these to a receiver as the profile has it: nothing, the same event, damage in
--- the place of the unit, or damage after a restart
+-- what a careful receiver hears in the place of a unit is one of these for a receiver as the profile has it: nothing,
+-- the same event, damage, or damage after a restart
 pub data Instead : Type 0 where
   not_at_all : Instead
   as_it_is : Instead

@@ -1,33 +1,35 @@
 -- Why one damaged byte of a frame is noticed.
-use Rattle.std.proofs.Common.{◌≡◌, ◌≢◌, ℕ, zero, suc, ◌+◌, ◌*◌, ◌%◌, ◌≤◌, ◌<◌, ◌⊎◌, inl, inr, Bool, true, false, List, []}
-use Rattle.std.proofs.Common.{◌∷◌, ◌++◌, Option, None, Some, refl, ap, sym, ◌∙◌, subst, arith, append_assoc, append-nil, map}
+use Rattle.std.proofs.Common.{◌≡◌, ◌≢◌, ℕ, ◌+◌, ◌%◌, ◌≤◌, Bool, true, false, List}
+use Rattle.std.proofs.Common.{[]}
+use Rattle.std.proofs.Common.{◌∷◌, ◌++◌, Option, None, Some, refl, ap, sym, ◌∙◌, subst, arith, append_assoc}
+use Rattle.std.proofs.Common.{append-nil, map}
 use Rattle.std.specs.Prelude.{◌==◌, ◌||◌, ◌&&◌}
 use Rattle.std.specs.List.{sum}
 use Rattle.std.specs.Option.{option_map}
-use Rattle.std.proofs.lemmas.Bool.{eqb-false}
 use Rattle.std.proofs.lemmas.Bool.Decides.{nat_tests}
 use Rattle.std.proofs.lemmas.List.Sums.{sum_by-cons, sum_by-append}
 use Rattle.lis_text.specs.Control.{STX, ETX, ETB, EOT, ENQ, LF, CR}
 use Rattle.lis_text.specs.Text.{is_forbidden}
 use Rattle.lis_frame.specs.declared.frame.FrameFault.{FrameFault}
-use Rattle.lis_frame.specs.declared.scanner.SignalOf.{SignalOf}
 use Rattle.lis_frame.specs.declared.scanner.SignalOf.TheVariants.{Good, Bad}
-use Rattle.lis_frame.specs.Frame.{FrameContent, IsContent, IsFrame, IsDigits, number_byte, end_byte, checksum, digit_value}
+use Rattle.lis_frame.specs.Frame.{FrameContent, IsContent, IsFrame, IsDigits, number_byte, end_byte, checksum}
+use Rattle.lis_frame.specs.Frame.{digit_value}
 use Rattle.lis_frame.specs.FrameBody.{body_fault, content_of}
 use Rattle.lis_frame.specs.Stream.{is_mark, open_body, read_body, signal_of_fault, signal_after, signals_after}
 use Rattle.lis_frame.specs.Stream.{ended_body, stream_with, with_signal}
 use Rattle.lis_frame.proofs.FrameLaws.{found}
 use Rattle.lis_link.specs.Receiver.{ReceiverState, heard, on_byte, with_heard}
-use Rattle.lis_link.specs.declared.receiver.Note.TheVariants.{Quiet}
-use Rattle.lis_careful.specs.Careful.{DLE, ends_session, heard_as, careful_by, on_byte_carefully}
-use Rattle.lis_careful.specs.World.{CarefulSignal, ends, gives, careful_signal, careful_signal_by, careful_signals}
+use Rattle.lis_careful.specs.Careful.{DLE, ends_session, heard_as, careful_by}
+use Rattle.lis_careful.specs.World.{ends, gives, careful_signal_by, careful_signals}
 use Rattle.lis_careful.specs.World.{with_heard_first}
 use Rattle.lis_careful.specs.OneByte.{IsHeardAs, nothing, session_end, bad_frame, itself, OneByteIsNoticed}
-use Rattle.lis_careful.specs.inside.Hearing.{AreUnspecial, is_special}
+use Rattle.lis_careful.specs.inside.Hearing.{is_special}
 use Rattle.lis_careful.proofs.Receiving.{none_ends, first_false, second_false}
 use Rattle.lis_careful.proofs.Heard.{closed}
-use Rattle.lis_careful.proofs.Frames.{NonePass, none_pass-append, none_pass-frame, none_pass-text, inner_silent, inner_of, encoding_of, open-next}
-use Rattle.lis_careful.proofs.Frames.{open-inner, signals-inner, signals-ended, signals-unspecial, has_fault, inner_same}
+use Rattle.lis_careful.proofs.Frames.{NonePass, none_pass-append, none_pass-frame, none_pass-text, inner_silent}
+use Rattle.lis_careful.proofs.Frames.{inner_of, encoding_of, open-next}
+use Rattle.lis_careful.proofs.Frames.{open-inner, signals-inner, signals-ended, signals-unspecial, has_fault}
+use Rattle.lis_careful.proofs.Frames.{inner_same}
 use Rattle.lis_careful.proofs.Frames.{are_unspecial, no_mark, end_no_mark, unspecial, end_unspecial, start_within}
 
 -- ---- what the two lists of bytes have in common
@@ -180,7 +182,8 @@ module _ (limit : ℕ) (one two : FrameContent) (f : List ℕ) (w v : ℕ) (diff
       b.digits.is_high high in
       let low_value = same_value a.low b.low a.digits.low_value b.digits.low_value a.digits.is_low b.digits.is_low
       low in
-      let sums : checksum one ≡ checksum two = omega (arith, a.digits.value_is, b.digits.value_is, high_value, low_value) in
+      let sums : checksum one ≡ checksum two =
+      omega (arith, a.digits.value_is, b.digits.value_is, high_value, low_value) in
       let one_sum : checksum one ≡ (sum f + (w + sum right.middle)) % 256 =
       sum_covered one ∙ ap (λ xs. sum xs % 256) left.covered_is
       ∙ ap (λ n. n % 256) (sum_split f left.middle w) ∙ ap (λ m. (sum f + (w + sum m)) % 256) middles in
@@ -208,7 +211,7 @@ module _ (limit : ℕ) (one two : FrameContent) (f : List ℕ) (w v : ℕ) (diff
       same_frame one two (left ∙ sym right)
   same_but_digit (x ∷ y ∷ z ∷ more) a b = absurd (both_covered x y z more a b)
 
--- ---- a frame that an early LF ends is none
+-- ---- there is no frame before an early LF
 
 abbrev is_end : ℕ → Bool
 is_end b = b == ETX || b == ETB
@@ -440,7 +443,8 @@ module _ (limit was is : ℕ) (bytes : List ℕ) (frame : FrameContent) (is_fram
     (small : was ≤ 255) (small' : is ≤ 255) (r : ReceiverState) (is_open : r.is_open ≡ true)
     (within : open_body r.past ≡ Some f) where
   marks : NonePass is_mark (f ++ was ∷ b)
-  marks = subst (NonePass is_mark) (sym inner_is) (none_pass-frame is_mark no_mark end_no_mark limit bytes frame is_frame)
+  marks = subst (NonePass is_mark) (sym inner_is)
+      (none_pass-frame is_mark no_mark end_no_mark limit bytes frame is_frame)
 
   specials : NonePass is_special (f ++ was ∷ b)
   specials = subst (NonePass is_special) (sym inner_is)

@@ -1,6 +1,7 @@
 -- Frames of which one changed byte is not noticed by a receiver as the profile has it.
-use Rattle.std.proofs.Common.{◌≡◌, ◌≢◌, ℕ, ◌≤◌, true, List, [], ◌∷◌, ◌++◌, Option, None, Some, refl, ap, sym, ◌∙◌, arith, get_or}
-use Rattle.lis_frame.specs.Frame.{FrameContent, IsContent, IsFrame}
+use Rattle.std.proofs.Common.{◌≡◌, ℕ, true, [], ◌∷◌, ◌++◌, refl, ap, sym, ◌∙◌}
+use Rattle.std.proofs.Common.{arith, get_or}
+use Rattle.lis_frame.specs.Frame.{FrameContent, IsFrame}
 use Rattle.lis_frame.specs.FrameBody.{body_fault}
 use Rattle.lis_frame.specs.Stream.{open_body, signal_after}
 use Rattle.lis_link.specs.Receiver.{ReceiverState, ReceiverStep, on_byte}

@@ -1,5 +1,5 @@
--- A receiver that hears more carefully than the standard's profile: one damaged byte of a frame may be an ENQ or an STX,
--- and acknowledges nothing then (LIS01-A2, 6.3 to 6.6).
+-- A receiver that hears more carefully than the standard's profile asks: a damaged byte of a frame acknowledges
+-- nothing, also where it became ENQ or STX (LIS01-A2, 6.3 to 6.6).
 use Rattle.std.specs.Prelude.{ℕ, Bool, true, false, List, [], ◌∷◌, Option, None, Some, if◌then◌else◌, ◌==◌, ◌&&◌, ◌||◌}
 use Rattle.lis_text.specs.Control.{STX, EOT, ENQ}
 use Rattle.lis_frame.specs.Stream.{open_body}

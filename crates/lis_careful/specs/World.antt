@@ -64,7 +64,7 @@ damaged_carefully limit bytes (front ∷ units) w =
     settled units (hears_carefully limit front.session bytes (computer_state_of w)) w
     else w
 
--- what comes to the receiver is heard carefully, and any other event does what it does
+-- the receiver hears carefully, and any other event does what it does
 abbrev pub comes_carefully : ℕ → Event → World → World → World
 comes_carefully limit Deliver w other = delivered_carefully limit w.units w
 comes_carefully limit DeliverNoRoom w other = room_at true (delivered_carefully limit w.units (room_at false w))

@@ -14,16 +14,17 @@ pub fn safe_carefully_of<const N: usize>()
     ensures safe { AlwaysSafeCarefully N }
 {}
 
-/// A frame comes on an open line, between frames, with one byte changed, whichever and to whatever byte. A careful
-/// receiver hears nothing of it, the end of the session, one bad frame, or that very frame, with a digit of its checksum
-/// in the other case: so it acknowledges nothing, or that frame. At every limit on a frame's text.
+/// A frame comes on an open line, between frames, with one byte changed, whichever and to whatever byte. Of that a
+/// careful receiver hears nothing, the end of the session, one bad frame, or that very frame, with a digit of its
+/// checksum in the other case: so it acknowledges nothing, or that frame. At every limit on a frame's text.
 pub fn one_byte_is_noticed_of<const N: usize>()
     requires { IsLimit N }
     ensures { OneByteIsNoticed N }
 {}
 
-/// Each of its two rules is needed. As the profile has it, a receiver acknowledges a frame that it doesn't take where one
-/// byte became ENQ, and takes another one where one became STX and the rest fits the sum; so it does by either rule alone.
+/// Each of its two rules is needed. As the profile has it, a receiver acknowledges a frame that it doesn't take, where
+/// one byte became ENQ, and takes another one, where one became STX and the rest fits the sum. With either rule alone
+/// it still does one of the two.
 pub fn one_byte_may_matter()
     ensures { OneByteMayMatter }
 {}

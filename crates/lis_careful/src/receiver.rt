@@ -37,8 +37,8 @@ pub fn hear_byte<const N: usize>(receiver: &mut ReceiverOf<N>, byte: u8) -> Step
     receiver.byte(heard)
 }
 
-/// A receiver hears bytes as `ReceiverOf::bytes` has it, each as `hear_byte` hears it: those up to the first that is not
-/// quiet, or all of them where each is quiet.
+/// A receiver hears bytes as `ReceiverOf::bytes` has it, each as `hear_byte` hears it: those up to the first that is
+/// not quiet, or all of them where each is quiet.
 ///
 /// Memory may run out as for `ReceiverOf::byte`; but for the bytes heard the state is then as before.
 pub fn hear_bytes<const N: usize>(receiver: &mut ReceiverOf<N>, bytes: &[u8]) -> Hearing

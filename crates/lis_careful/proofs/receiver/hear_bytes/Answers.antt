@@ -2,7 +2,7 @@ use Rattle.std.proofs.Common.{arith, refl, length-drop, ◌∙◌}
 use Rattle.std.proofs.lemmas.List.{take_rest}
 use Rattle.lis_link.specs.Receiver.{ReceiverState}
 use Rattle.lis_link.specs.Representation.{IsIn}
-use Rattle.lis_careful.proofs.Receiving.{hears_none, hears_more_carefully, hears_last_carefully, hears_all_carefully}
+use Rattle.lis_careful.proofs.Receiving.{hears_none, hears_more_carefully, hears_last_carefully}
 use Rattle.lis_careful.proofs.receiver.hear_bytes.Goals as goal
 
 pub loop-count-init : goal.loop-count-init
@@ -45,7 +45,8 @@ loop-count-preserved g c =
           let hearing = i.hearing r is_in in
           let front = rw (take_rest c.args.bytes.now c.loop-count.count) at
           (c.hear_front-more.ensures.front _ hearing.state) in
-          hears_more_carefully g.row.N c.args.bytes.now r c.args.receiver.now.spare c.loop-count.count c.loop-count.receiver
+          hears_more_carefully g.row.N c.args.bytes.now r c.args.receiver.now.spare c.loop-count.count
+          c.loop-count.receiver
           c.hear_front-more.result c.hear_front-more.new.receiver
           hearing front c.in-Quiet.is;
     }

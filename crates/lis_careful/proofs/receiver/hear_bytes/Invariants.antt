@@ -8,7 +8,8 @@ abbrev pub invariant-loop-count : goal.invariant-loop-count
 invariant-loop-count g l = record {
   bound : l.count ≤ length l.bytes;
   room : room_of l.receiver ≡ room_of l.fn.receiver;
-  hearing : (r : ReceiverState) → IsIn g.row.N l.fn.receiver r → IsHearingCarefully g.row.N l.bytes r l.fn.receiver.spare
+  hearing : (r : ReceiverState) → IsIn g.row.N l.fn.receiver r
+      → IsHearingCarefully g.row.N l.bytes r l.fn.receiver.spare
       l.count l.receiver;
 }
 

@@ -1,4 +1,4 @@
-use Rattle.std.proofs.Common.{◌≡◌, ◌+◌, ◌-◌, length, take, drop, length-drop, subst, arith}
+use Rattle.std.proofs.Common.{◌≡◌, ◌+◌, ◌-◌, length, take, length-drop, subst, arith}
 use Rattle.lis_careful.specs.inside.Hearing.{AreUnspecial}
 use Rattle.lis_careful.proofs.Receiving.{plain_before}
 use Rattle.lis_careful.proofs.receiver.plain_length.Goals as goal
