@@ -1,8 +1,6 @@
 """How long good lines wait for their replies while others attack the host, and how much memory hostile lines take up.
-It measures and judges nothing (`tests/host/more fair`). What a machine does besides is in each time; next to it is how
-long the host worked until the reply, all its threads together, which is the same on a busy machine."""
+It measures and judges nothing: what a machine does besides is in each figure (`tests/host/more fair`)."""
 import errno
-import glob
 import itertools
 import json
 import os
@@ -43,21 +41,12 @@ def connected(port, address):
 
 # ---- good lines
 
-def worked(host):
-    """How long a process has worked, in seconds."""
-    total = 0
-    for path in glob.glob(f"/proc/{host}/task/*/schedstat"):
-        with open(path, encoding="ascii") as file:
-            total += int(file.read().split()[0])
-    return total / 1e9
-
-
 class Good:
-    """A line that sends a session now and then, and notes how long each reply took, and how long the host worked."""
+    """A line that sends a session now and then, and notes how long each reply took."""
 
-    def __init__(self, port, host, place):
+    def __init__(self, port, place):
         self.one, self.at, self.sent = connected(port, f"127.1.{place // 250}.{place % 250 + 1}"), 0, 0.0
-        self.next, self.host, self.before = 0.0, host, 0.0
+        self.next = 0.0
 
     def begin(self, now):
         """Begins a session."""
@@ -66,7 +55,7 @@ class Good:
 
     def send(self, now):
         """Sends the next unit."""
-        self.sent, self.before = now, worked(self.host)
+        self.sent = now
         self.one.send(UNITS[self.at])
 
     def hear(self, now, waits):
@@ -74,7 +63,7 @@ class Good:
         got = self.one.recv(16)
         if got != ACK:
             raise SystemExit(f"a good line was not acknowledged: {got}")
-        waits.append((now - self.sent, worked(self.host) - self.before))
+        waits.append(now - self.sent)
         self.at += 1
         if self.at < len(UNITS):
             self.send(time.perf_counter())
@@ -83,9 +72,9 @@ class Good:
             self.at = 0
 
 
-def be_good(port, host, seconds):
+def be_good(port, seconds):
     """The good lines for some time: prints how long they waited for each reply, and who still waits."""
-    lines, ready, waits = [Good(port, host, place) for place in range(GOOD)], selectors.DefaultSelector(), []
+    lines, ready, waits = [Good(port, place) for place in range(GOOD)], selectors.DefaultSelector(), []
     for one in lines:
         ready.register(one.one, selectors.EVENT_READ, one)
     sys.stdin.readline()  # the attack has begun
@@ -99,7 +88,7 @@ def be_good(port, host, seconds):
         for one in lines:
             if one.next <= now < over and one.at == 0:
                 one.begin(now)
-    waits += [(time.perf_counter() - one.sent, worked(host) - one.before) for one in lines if one.at]
+    waits += [time.perf_counter() - one.sent for one in lines if one.at]
     print(json.dumps(waits))
 
 
@@ -157,7 +146,7 @@ def waited(host, name, peers):
     """How long the good lines wait while so many addresses attack."""
     addresses = [f"127.2.0.{place + 1}" for place in range(peers)]
     shares = [some for some in (addresses[at::3] for at in range(3)) if some]
-    good = part_of("good", host.port, host.process.pid, SECONDS)
+    good = part_of("good", host.port, SECONDS)
     time.sleep(2.0)
     attackers = [part_of("attack", host.port, name, *some) for some in shares]
     time.sleep(2.0 if attackers else 0)
@@ -171,14 +160,11 @@ def waited(host, name, peers):
 
 def told(name, waits):
     """A line about replies, in milliseconds."""
-    parts = []
-    for what, some in zip(("after", "the host worked"), zip(*waits)):
-        some = sorted(one * 1000 for one in some)
-        most = some[min(len(some) - 1, int(0.99 * len(some)))]
-        parts.append(f"{what} {statistics.median(some):.1f} ms (median), {most:.0f} (99 %), {some[-1]:.0f} (longest)")
-    over = [sum(one > most for one, _ in waits) for most in (0.1, 0.25)]
-    say(f"{name}: {len(waits)} replies {', '.join(parts)}; {over[0]} over 100, {over[1]} over 250; load "
-        f"{os.getloadavg()[0]:.1f}")
+    waits = sorted(one * 1000 for one in waits)
+    most = waits[min(len(waits) - 1, int(0.99 * len(waits)))]
+    over = [sum(one > limit for one in waits) for limit in (100, 250)]
+    say(f"{name}: {len(waits)} replies after {statistics.median(waits):.1f} ms (median), {most:.0f} (99 %), "
+        f"{waits[-1]:.0f} (longest); {over[0]} over 100, {over[1]} over 250; load {os.getloadavg()[0]:.1f}")
 
 
 def under_attack(folder, names):
@@ -233,7 +219,7 @@ def run(words):
 if __name__ == "__main__":
     kind, port, *others = sys.argv[1:]
     if kind == "good":
-        be_good(int(port), int(others[0]), float(others[1]))
+        be_good(int(port), float(others[0]))
     else:
         os.nice(5)
         ATTACKS[others[0]](int(port), others[1:])
