@@ -254,8 +254,8 @@ fn a_record_in_pieces_has_its_text_and_parts() {
     }
 }
 
-#[test]
-fn all_parts_of_a_long_record_take_milliseconds() {
+/// How long all parts of a record of 65,536 bytes take.
+fn time_of_a_long_record() -> Duration {
     let mut reader = Reader::new();
     let text = [b"P".as_slice(), &[b'|'; 65535]].concat();
     assert_eq!(reader.feed(b"H|\\^&\r").count(), 1);
@@ -264,7 +264,13 @@ fn all_parts_of_a_long_record_take_milliseconds() {
     let record = reader.feed(b"\r").next().unwrap().unwrap();
     assert_eq!((record.text(), record.parts().len()), (&text[..], 65535));
     assert!(record.parts().last().is_some_and(|it| it.field == 65536 && it.raw.is_empty()));
-    assert!(begun.elapsed() < Duration::from_millis(250));
+    begun.elapsed()
+}
+
+/// One after another from the record's beginning they would take seconds. A machine that is busy gets several tries.
+#[test]
+fn all_parts_of_a_long_record_take_milliseconds() {
+    assert!((0..50).any(|_| time_of_a_long_record() < Duration::from_millis(250)));
 }
 
 #[test]
