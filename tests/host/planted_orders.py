@@ -82,6 +82,7 @@ FAULTS = {
     "test_orders.Answers.test_a_query_that_is_taken_back": (
         "host/duplex.py", "            back.append(self._sending)\n            self._sending = None", "            pass"
     ),
+    "test_queries.Queries.test_another_connection": ("host/outbox.py", "if place and placed else", "if place else"),
     "test_queries.Queries.test_makers": ("orders/query.py", "if component:", "if not component:"),
     "test_queries.Queries.test_plays": (
         "host/serve.py", 'int(place.test.split("^")[0] or 4)', "4"

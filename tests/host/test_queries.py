@@ -1,4 +1,5 @@
 """Queries as analyzers ask them: whose sample, answers as a whole and again, and what goes wrong on the way."""
+import asyncio
 import json
 import os
 import re
@@ -6,8 +7,11 @@ import socket
 import sqlite3
 import time
 
+from lislink.host.outbox import Outbox, Site
 from lislink.orders.book import open_book
 from lislink.orders.order import Order
+from lislink.orders.query import query_of
+from lislink.records import messages
 from lislink.watch.unix import ask
 from tests.host import hosts
 from tests.host.hosts import Host, HostTest, lislab, wait_for
@@ -277,6 +281,28 @@ class Queries(HostTest):
         one.send(asked(b"^S1"))
         self.same("the command's", samples_of(one.take(400)), ["roche"])
         self.same("the store's", samples_of(Plain(ports["other"], SLOW).take(400)), ["S1"])
+
+    def test_another_connection(self):
+        """Of two connections from one place the one that has no orders of its own says nothing of the other's."""
+        store = self.path("seats.db")
+        book = open_book(store)
+        book.add([Order("S1", ("K",))])
+        book.close()
+        row = next(messages([b"".join(asked(b"S1"))]))[1]
+
+        async def taken():
+            outbox = Outbox(lambda: open_book(store), [], 1, SLOW, print)
+            await outbox.start()
+            one, other = (Site("asks", "x", "latin-1", False, "L-I", seat) for seat in "12")
+            first = await outbox.answer(one, [query_of(row, "latin-1")], b"")
+            found = [first, await outbox.take(other), await outbox.take(one)]
+            await outbox.stop()
+            return found
+
+        first, others, own = asyncio.run(taken())
+        self.same("in the store", first, None)
+        self.same("the other's", others, None)
+        self.same("its own", samples_of(own.texts), ["S1"])
 
     def test_hl7(self):
         """`order add` names HL7 when it is given some, and what takes orders."""

@@ -317,7 +317,8 @@ class Outbox:
             placed = await self._taken(site, place)
             if placed is None:
                 return None
-            queries = self._queries.pop(site.place, None) if place else None
+            # None of what was asked for is taken: it is another connection's, or somebody has it for now.
+            queries = self._queries.pop(site.place, None) if place and placed else None
             good = [one for one in placed if self._can_be_written(site, one)]
             if not good and queries is not None and site.none != "silence":
                 return Batch(self._nothing(site, queries))
