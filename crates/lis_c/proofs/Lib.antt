@@ -1,3 +1,4 @@
+pub mod CarefulLaws
 pub mod EmitLaws
 pub mod FeedLaws
 pub mod HandleLaws

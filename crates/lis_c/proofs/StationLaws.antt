@@ -1,5 +1,5 @@
 -- A station's answer, put into the caller's structs.
-use Rattle.std.proofs.Common.{◌≡◌, ◌≤◌, ℕ, List, [], ◌∷◌, Option, None, Some, ap, sym, ◌∙◌, subst, arith}
+use Rattle.std.proofs.Common.{◌≡◌, ◌≤◌, ℕ, List, [], ◌∷◌, Option, None, Some, refl, ap, sym, ◌∙◌, subst, arith}
 use Rattle.std.specs.Option.{option_to_list}
 use Rattle.lis_text.specs.Control.{NAK}
 use Rattle.lis_link.specs.Kept.{Kept}
@@ -9,10 +9,10 @@ use Rattle.lis_link.specs.Receiver.{ReceiverState, ReceiverStep}
 use Rattle.lis_link.specs.Representation.{IsIn, IsStepMade, RefusesFrame}
 use Rattle.lis_station.specs.declared.station.AnswerOf.{AnswerOf}
 use Rattle.lis_station.specs.declared.station.AnswerOf.TheVariants.{Emits, Hears}
-use Rattle.lis_station.specs.Representation.{AnswersAs, IsAnswer, IsOutOfMemory, IsRefused, KeptStation}
+use Rattle.lis_station.specs.Representation.{AnswersAs, IsAnswer, IsOutOfMemory, IsRefused, KeptStation, station_at}
 use Rattle.lis_station.specs.Station.{StationAnswer, StationState, StationStep, sends, hears}
 use Rattle.lis_c.proofs.StepLaws as steps
-use Rattle.lis_c.specs.Codes.{note_detail, note_place, reply_code}
+use Rattle.lis_c.specs.Codes.{note_code, note_detail, note_place, reply_code}
 use Rattle.lis_c.specs.Emitted.{HoldsBytes, HoldsEmitted}
 use Rattle.lis_c.specs.Stations.{AnswerReported, IsNow, MakesAnswer, RejectsForMemory, StepReported, state_of}
 use Rattle.lis_c.specs.Stations.{station_kept, station_limit, station_spare}
@@ -113,6 +113,58 @@ module _ (old new : StationHandleState) (after : AnyStation) (sent : LisBytes) (
   now result r it is =
       it.state r (subst (λ (n : ℕ). IsIn n (station_kept after).receiver r) (sym it.limit_is) is)
 
+  -- the step was made
+  reported_of : (answer : StationAnswer (station_limit old.station)) (result : Option Step)
+      → PutsStep (station_limit old.station) answer result sent (station_kept old.station).receiver
+      (station_kept after).receiver
+      → Reported result → (result ≡ None → new.station ≡ after) → station_limit new.station ≡ station_limit after
+      → AnswerReported (station_limit old.station) answer old out new
+  reported_of (sends step) None (puts, same) it stays limit = (
+    it.reports.0,
+    subst (λ (b : LisBytes). HoldsEmitted (station_limit old.station) b (emitted_bytes step.emit)) (sym it.sends_is) puts,
+    it.reports.1,
+    it.reports.2,
+    ap (λ (s : AnyStation). (station_kept s).receiver) (stays refl) ∙ same,
+  )
+  reported_of (sends step) (Some result) puts it stays limit = absurd puts
+  reported_of (hears step) None puts it stays limit = absurd puts
+  reported_of (hears step) (Some result) (puts, was) it stays limit =
+      let reports = it.reports.1 in (
+        it.reports.0,
+        subst (λ (b : LisBytes). HoldsBytes b (option_to_list step.reply)) (sym it.sends_is)
+            (subst (λ (reply : Option ℕ). HoldsBytes sent (option_to_list reply)) was.answer.reply_is puts),
+        record {
+          reply_is = reports.reply_is ∙ ap reply_code was.answer.reply_is;
+          note_is = reports.note_is ∙ ap note_code was.answer.note_is;
+          detail_is = reports.detail_is ∙ ap note_detail was.answer.note_is;
+          place_is = reports.place_is ∙ ap note_place was.answer.note_is;
+          text_is = subst (λ message. HoldsText message out.step.has_text old.text new.text) was.answer.message_is
+              reports.text_is;
+        },
+        subst (λ (n : ℕ). IsIn n (station_kept new.station).receiver step.after) (limit ∙ it.limit_is)
+            (now (Some result) step.after it was.state).receiver_is,
+      )
+
+  station_of : (answer : StationAnswer (station_limit old.station)) (result : Option Step) (r : ReceiverState)
+      → PutsStep (station_limit old.station) answer result sent (station_kept old.station).receiver
+      (station_kept after).receiver
+      → Reported result → (result ≡ None → new.station ≡ after)
+      → station_at (station_kept new.station) r ≡ station_at (station_kept after) r
+  station_of (sends step) None r puts it stays = ap (λ (s : AnyStation). station_at (station_kept s) r) (stays refl)
+  station_of (sends step) (Some result) r puts it stays = absurd puts
+  station_of (hears step) None r puts it stays = absurd puts
+  station_of (hears step) (Some result) r (puts, was) it stays =
+      ap (λ (s : StationState). record s { receiver = r }) (now (Some result) step.after it was.state).station_is
+
+  makes_reported : (step : StationStep (station_limit old.station)) (result : Option Step)
+      → Answers step result sent (station_kept old.station) (station_kept after)
+      → Reported result → (result ≡ None → new.station ≡ after) → station_limit new.station ≡ station_limit after
+      → MakesAnswer step old out new
+  makes_reported step result is it stays limit = record {
+    reported = reported_of step.answer result is.puts it stays limit;
+    station_is = station_of step.answer result step.after.receiver is.puts it stays ∙ is.station_is;
+  }
+
   rejects_reported : (step : ReceiverStep) (r : ReceiverState) (result : Option Step)
       → RejectsFrame (station_limit old.station) step r result sent (station_kept old.station) (station_kept after)
       → Reported result → of_receiver.IsOutOfMemory out.step → RejectsForMemory step r old out new
@@ -148,3 +200,17 @@ pub reports_rejected : (old new : StationHandleState) (after : AnyStation) (sent
 reports_rejected old new after sent out step r result rejects it same =
     let is_out = memory result old.text new.text out it.reports same in
     rejects_reported old new after sent out step r result (rejects is_out) it same
+
+not_memory : (result : Option Step) (before text : List ℕ) (out : LisAnswer) → ReportsAnswer result before out text
+    → (out.step.note ≡ 11 → ⊥) → IsMemoryOut result → ⊥
+not_memory None before text out reported not is = is
+not_memory (Some step) before text out reported not is = not (reported.1.note_is ∙ ap note_code is)
+
+pub reports_made : (old new : StationHandleState) (after : AnyStation) (sent : LisBytes) (out : LisAnswer)
+    (step : StationStep (station_limit old.station)) (result : Option Step)
+    → ((IsMemoryOut result → ⊥) → Answers step result sent (station_kept old.station) (station_kept after))
+    → Reported old new after sent out result → (result ≡ None → new.station ≡ after)
+    → station_limit new.station ≡ station_limit after → IsNotOutOfMemory out.step → MakesAnswer step old out new
+reports_made old new after sent out step result makes it stays limit fine =
+    makes_reported old new after sent out step result
+    (makes (not_memory result old.text new.text out it.reports fine)) it stays limit

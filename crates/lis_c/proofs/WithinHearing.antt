@@ -44,7 +44,7 @@ heard_on-loud count Quiet step following loud = absurd (loud refl)
 heard_on-loud count _ step following loud = refl
 
 -- the byte at a place is the first of those from there on
-at_place : (bytes : List ℕ) (count : ℕ) → count < length bytes →
+pub at_place : (bytes : List ℕ) (count : ℕ) → count < length bytes →
     drop count bytes ≡ get_or bytes count 0 ∷ drop (count + 1) bytes
 at_place [] count within = absurd (omega (within, arith))
 at_place (b ∷ bytes) zero within = refl

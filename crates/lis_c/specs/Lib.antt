@@ -3,6 +3,7 @@ pub mod Codes
 pub mod Emitted
 pub mod Feeding
 pub mod Borrowed
+pub mod Careful
 pub mod Limits
 pub mod Long
 pub mod New

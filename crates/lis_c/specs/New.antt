@@ -1,5 +1,5 @@
 -- What a new block holds, and what its address is a multiple of.
-use Rattle.std.specs.Prelude.{◌≡◌, ℕ, [], None}
+use Rattle.std.specs.Prelude.{◌≡◌, ℕ, false, [], None}
 use Rattle.std.specs.Borrow.{full_share}
 use Rattle.std.specs.Ptr.{Ptr, lies_at}
 use base.Fml.{Fml, fex}
@@ -33,14 +33,15 @@ abbrev pub IsNewSender : Ptr → Fml
 IsNewSender = IsNew sender_handle_state.the_row (λ d. (sender_limit d.sender ≡ 240)
     × (sender_state d.sender ≡ new_sender) × (d.texts ≡ []))
 
--- a handle's state with a new receiver of the usual limit, which has reserved nothing, and no limit and no text
+-- a handle's state with a new receiver of the usual limit, which has reserved nothing, and no limit and no text; it
+-- doesn't hear carefully
 abbrev pub IsNewReceiver : Ptr → Fml
-IsNewReceiver = IsNew receiver_handle_state.the_row (λ d. NewReceiverState 240 d)
+IsNewReceiver = IsNew receiver_handle_state.the_row (λ d. NewReceiverState 240 d × (d.careful ≡ false))
 
--- a handle's state with a new station of a computer and of the usual limit, and no text
+-- a handle's state with a new station of a computer and of the usual limit, and no text, that doesn't hear carefully
 abbrev pub IsNewStation : Ptr → Fml
 IsNewStation = IsNew station_handle_state.the_row (λ d. NewStation Computer 240 d.station × (d.texts ≡ [])
-    × (d.text ≡ []) × (d.reserved ≡ 0))
+    × (d.text ≡ []) × (d.reserved ≡ 0) × (d.noise ≡ 0) × (d.careful ≡ false))
 
 -- a handle's state with a reader at the start of a stream
 abbrev pub IsNewReader : Ptr → Fml

@@ -36,13 +36,14 @@ on_bytes_within limit (Some most) (b ∷ bytes) r =
 abbrev pub HasNoLimit : ReceiverHandleState → Type 0
 HasNoLimit state = (state.most ≡ None) × (state.reserved ≡ 0)
 
--- a new receiver, which has delivered no text
+-- a new receiver, which has delivered no text and heard no noise
 abbrev pub NewReceiverState : ℕ → ReceiverHandleState → Type 0
-NewReceiverState limit state = NewReceiver limit state.receiver × (state.text ≡ []) × HasNoLimit state
+NewReceiverState limit state =
+    NewReceiver limit state.receiver × (state.text ≡ []) × HasNoLimit state × (state.noise ≡ 0)
 
--- both stay
+-- both stay, and whether the receiver hears carefully
 abbrev pub KeepsLimits : ReceiverHandleState → ReceiverHandleState → Type 0
-KeepsLimits old new = (new.most ≡ old.most) × (new.reserved ≡ old.reserved)
+KeepsLimits old new = (new.most ≡ old.most) × (new.reserved ≡ old.reserved) × (new.careful ≡ old.careful)
 
 -- after a text there is the room that was reserved, unless memory ran out for it
 abbrev pub HasReserved : Bool → ReceiverHandleState → Type 0

@@ -1,4 +1,5 @@
 -- What proofs and private functions speak of. No public contract cites it.
+pub mod Careful
 pub mod Feeding
 pub mod Reports
 pub mod Signals

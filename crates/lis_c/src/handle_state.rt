@@ -2,16 +2,15 @@
 
 ghost use Rattle.std.specs.Prelude.{◌≡◌, ◌≢◌, ◌≤◌, ◌<◌, ◌⊎◌, ◌++◌, ◌∷◌, [], false, length, max, None, Some};
 ghost use Rattle.std.specs.Prelude.{MatchResult, OnErr, OnOk, take};
+ghost use Rattle.lis_c.specs.Careful.{counted, heard_set, noise_set, noises_set, on_byte_set, on_bytes_set};
 ghost use Rattle.lis_c.specs.Codes.{note_code, note_detail, note_place};
 ghost use Rattle.lis_c.specs.Status.{AddTextStatus, OK};
 ghost use Rattle.lis_c.specs.Steps.{IsNotOutOfMemory, IsOutOfMemory, MakesStep, ReportsRefusedFrame};
 ghost use Rattle.lis_c.specs.inside.Steps.{ReportsStep};
 ghost use Rattle.lis_c.specs.Limits.{NewScanner, Receives, kept_by, receiver_limit, sender_limit, sender_state};
 ghost use Rattle.lis_c.specs.Limits.{spare_of, with_state};
-ghost use Rattle.lis_c.specs.Within.{HasNoLimit, HasReserved, KeepsLimits, NewReceiverState, on_byte_within};
-ghost use Rattle.lis_c.specs.Within.{on_bytes_within};
+ghost use Rattle.lis_c.specs.Within.{HasNoLimit, HasReserved, KeepsLimits, NewReceiverState};
 ghost use Rattle.lis_link.specs.Receiver.{ReceiverState, on_receiver_timer};
-ghost use Rattle.lis_link.specs.Receiver.{with_heard};
 ghost use Rattle.lis_link.specs.Sender.{new_sender, start_fault, started};
 ghost use Rattle.lis_link.specs.Representation.{SpareAfter};
 ghost use Rattle.lis_c.specs.Reading.{new_reader};
@@ -23,7 +22,8 @@ use crate::receiving::AnyReceiver;
 use crate::scanning::AnyScanner;
 use crate::sending::AnySender;
 use crate::status;
-use lis_link::{Hearing, Note, StartFault, StartRefusedOf, Step};
+use lis_careful::CarefulHearing;
+use lis_link::{Note, StartFault, StartRefusedOf, Step};
 use lis_message::RecordReader;
 use lis_text::{LONGEST_TEXT, LinkText, List, MOST_TEXTS, Texts};
 use std::alloc::{AllocError, Global};
@@ -45,7 +45,7 @@ pub struct SenderHandleState {
 
 /// A receiver, the text that it delivered last, and the most bytes of a text, if its caller has a limit. After a text
 /// it has again the room that was reserved, of which there are so many bytes next to that text; or it lacks room
-/// because memory ran out.
+/// because memory ran out. Whether it hears carefully, and how much noise it has heard since it was made.
 #[derive(Drop)]
 pub struct ReceiverHandleState {
     pub alloc: Global,
@@ -55,6 +55,8 @@ pub struct ReceiverHandleState {
     pub reserved: u64,
     pub beside: u64,
     pub lacks_room: bool,
+    pub careful: bool,
+    pub noise: u64,
 }
 
 /// A reader of records.
@@ -165,14 +167,15 @@ impl SenderHandleState {
 
 impl ReceiverHandleState {
     pub(crate) fn new(alloc: Global) -> Self
-        ensures { NewReceiverState 240 result }
+        ensures { NewReceiverState 240 result × (result.careful ≡ false) }
     {
         ReceiverHandleState::over(alloc, AnyReceiver::usual(alloc))
     }
 
     /// A receiver with no text, no limit on one, and nothing reserved.
     pub(crate) fn over(alloc: Global, receiver: AnyReceiver) -> Self
-        ensures { (result.receiver ≡ receiver) × (result.text ≡ []) × HasNoLimit result }
+        ensures { (result.receiver ≡ receiver) × (result.text ≡ []) × HasNoLimit result × (result.noise ≡ 0)
+            × (result.careful ≡ false) }
     {
         ReceiverHandleState {
             alloc,
@@ -182,6 +185,8 @@ impl ReceiverHandleState {
             reserved: 0,
             beside: 0,
             lacks_room: false,
+            careful: false,
+            noise: 0,
         }
     }
 
@@ -198,7 +203,8 @@ impl ReceiverHandleState {
         ensures lasts { OnOk result ((self.new.reserved ≡ bytes) × (self.new.lacks_room ≡ false)) }
         ensures refused { OnErr result ((spare_of self.old.receiver < bytes) ⊎ (self.old.beside < bytes)) }
         ensures kept { OnErr result (self.new.reserved ≡ self.old.reserved) }
-        ensures rest { (self.new.text ≡ self.old.text) × (self.new.most ≡ self.old.most) }
+        ensures rest { (self.new.text ≡ self.old.text) × (self.new.most ≡ self.old.most)
+            × (self.new.careful ≡ self.old.careful) × (self.new.noise ≡ self.old.noise) }
     {
         if self.beside < bytes {
             make_room(&mut self.text, self.alloc, bytes)?;
@@ -221,6 +227,7 @@ impl ReceiverHandleState {
         ensures limit { receiver_limit self.new.receiver ≡ receiver_limit self.old.receiver }
         ensures lasts { HasReserved out.new.has_text self.new }
         ensures rest { KeepsLimits self.old self.new }
+        ensures noise { self.new.noise ≡ self.old.noise }
     {
         let Step {
             reply,
@@ -247,42 +254,55 @@ impl ReceiverHandleState {
     /// Hears one byte, and reports the step.
     pub(crate) fn byte(&mut self, byte: u8, out: &mut LisStep)
         ensures step { (r : ReceiverState) → Receives self.old.receiver r → IsNotOutOfMemory out.new
-            → MakesStep (on_byte_within (receiver_limit self.old.receiver) self.old.most byte r)
+            → MakesStep (on_byte_set self.old.careful (receiver_limit self.old.receiver) self.old.most byte r)
             self.old out.new self.new }
         ensures refused { (r : ReceiverState) → Receives self.old.receiver r → IsOutOfMemory out.new
-            → ReportsRefusedFrame (on_byte_within (receiver_limit self.old.receiver) self.old.most byte r)
-            (record r { past = byte ∷ r.past }) self.old out.new self.new }
+            → ReportsRefusedFrame (on_byte_set self.old.careful (receiver_limit self.old.receiver) self.old.most byte r)
+            (heard_set self.old.careful (on_byte_set self.old.careful (receiver_limit self.old.receiver) self.old.most
+            byte r) (byte ∷ []) r) self.old out.new self.new }
         ensures spare { (r : ReceiverState) → Receives self.old.receiver r
             → SpareAfter (spare_of self.old.receiver) (spare_of self.new.receiver)
-            (on_byte_within (receiver_limit self.old.receiver) self.old.most byte r).taken }
+            (on_byte_set self.old.careful (receiver_limit self.old.receiver) self.old.most byte r).taken }
         ensures limit { receiver_limit self.new.receiver ≡ receiver_limit self.old.receiver }
         ensures lasts { HasReserved out.new.has_text self.new }
         ensures rest { KeepsLimits self.old self.new }
+        ensures noise { (r : ReceiverState) → Receives self.old.receiver r →
+            self.new.noise ≡ counted self.old.noise (noise_set self.old.careful r byte) }
     {
-        let step = self.receiver.byte_within(self.most, byte);
+        let noise = self.receiver.noise_set(self.careful, byte);
+        let step = self.receiver.byte_set(self.careful, self.most, byte);
         self.report(step, out);
+        self.noise = self.noise.saturating_add(noise as u64);
     }
 
     #[tactic(auto, using(crate::proofs::StepLaws::refused, crate::proofs::StepLaws::with_more))]
     /// Hears bytes up to the first that means something, reports the step, and answers how many it heard.
     pub(crate) fn hear(&mut self, bytes: &[u8], out: &mut LisStep) -> usize
         ensures count { (r : ReceiverState) → Receives self.old.receiver r →
-            result ≡ (on_bytes_within (receiver_limit self.old.receiver) self.old.most bytes.now r).count }
+            result ≡ (on_bytes_set self.old.careful (receiver_limit self.old.receiver) self.old.most bytes.now
+            r).count }
         ensures step { (r : ReceiverState) → Receives self.old.receiver r → IsNotOutOfMemory out.new
-            → MakesStep (on_bytes_within (receiver_limit self.old.receiver) self.old.most bytes.now r).step
-            self.old out.new self.new }
+            → MakesStep (on_bytes_set self.old.careful (receiver_limit self.old.receiver) self.old.most bytes.now
+            r).step self.old out.new self.new }
         ensures refused { (r : ReceiverState) → Receives self.old.receiver r → IsOutOfMemory out.new
-            → ReportsRefusedFrame (on_bytes_within (receiver_limit self.old.receiver) self.old.most bytes.now r).step
-            (with_heard (take result bytes.now) r) self.old out.new self.new }
+            → ReportsRefusedFrame (on_bytes_set self.old.careful (receiver_limit self.old.receiver) self.old.most
+            bytes.now r).step
+            (heard_set self.old.careful (on_bytes_set self.old.careful (receiver_limit self.old.receiver) self.old.most
+            bytes.now r).step (take result bytes.now) r) self.old out.new self.new }
         ensures spare { (r : ReceiverState) → Receives self.old.receiver r
             → SpareAfter (spare_of self.old.receiver) (spare_of self.new.receiver)
-            (on_bytes_within (receiver_limit self.old.receiver) self.old.most bytes.now r).step.taken }
+            (on_bytes_set self.old.careful (receiver_limit self.old.receiver) self.old.most bytes.now r).step.taken }
         ensures limit { receiver_limit self.new.receiver ≡ receiver_limit self.old.receiver }
         ensures lasts { HasReserved out.new.has_text self.new }
         ensures rest { KeepsLimits self.old self.new }
+        ensures noise { (r : ReceiverState) → Receives self.old.receiver r → self.new.noise ≡ counted self.old.noise
+            (noises_set self.old.careful (receiver_limit self.old.receiver) self.old.most bytes.now r) }
     {
-        let Hearing { count, step } = self.receiver.bytes_within(self.most, bytes);
+        let CarefulHearing { count, noise, step } = self
+            .receiver
+            .bytes_set(self.careful, self.most, bytes);
         self.report(step, out);
+        self.noise = self.noise.saturating_add(noise as u64);
         count
     }
 
@@ -293,6 +313,7 @@ impl ReceiverHandleState {
         ensures spare { spare_of self.old.receiver ≤ spare_of self.new.receiver }
         ensures limit { receiver_limit self.new.receiver ≡ receiver_limit self.old.receiver }
         ensures rest { KeepsLimits self.old self.new }
+        ensures noise { self.new.noise ≡ self.old.noise }
     {
         let step = self.receiver.timer();
         self.report(step, out);

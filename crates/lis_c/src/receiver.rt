@@ -1,19 +1,20 @@
 //! The receiver for programs in C.
 
-ghost use Rattle.std.specs.Prelude.{◌≡◌, ◌≢◌, ◌≤◌, ◌<◌, ◌⊎◌, ◌∷◌, ◌++◌, None, Some, drop, false, length, max};
-ghost use Rattle.std.specs.Prelude.{if◌then◌else◌, nat_lt, take};
+ghost use Rattle.std.specs.Prelude.{◌≡◌, ◌≢◌, ◌≤◌, ◌<◌, ◌⊎◌, ◌∷◌, ◌++◌, [], None, Some, drop, false, length};
+ghost use Rattle.std.specs.Prelude.{if◌then◌else◌, max, nat_lt, take};
 ghost use Rattle.lis_c.specs.declared.handle_state.ReceiverHandleState.{ReceiverHandleState};
+ghost use Rattle.lis_c.specs.Careful.{counted, heard_set, noise_set, noises_set, on_byte_set, on_bytes_set};
 ghost use Rattle.lis_c.specs.Codes.{readiness_code};
 ghost use Rattle.lis_c.specs.Limits.{LimitStatus, Receives, kept_by, receiver_limit, spare_of};
 ghost use Rattle.lis_c.specs.New.{IsNewReceiver, type_align};
 ghost use Rattle.lis_c.specs.Status.{BAD_NUMBER, OK, OUT_OF_MEMORY, ReserveStatus, TOO_LONG, copy_status};
 ghost use Rattle.lis_c.specs.Steps.{IsNotOutOfMemory, IsOutOfMemory, ReportsRefusedFrame, MakesStep};
-ghost use Rattle.lis_c.specs.Within.{HasReserved, KeepsLimits, NewReceiverState, on_byte_within, on_bytes_within};
+ghost use Rattle.lis_c.specs.Within.{HasReserved, KeepsLimits, NewReceiverState};
 ghost use Rattle.lis_c.specs.contracts.handle_state.ReceiverHandleState.{the_row as handle_state_row};
 ghost use Rattle.lis_text.specs.LinkText.{longest_text};
 ghost use Rattle.lis_text.specs.declared.readiness.Readiness.{Readiness};
 ghost use Rattle.lis_link.specs.Receiver.{ReceiverState, on_receiver_timer, receiver_restarted};
-ghost use Rattle.lis_link.specs.Receiver.{held_length, with_heard, with_readiness, with_room};
+ghost use Rattle.lis_link.specs.Receiver.{held_length, with_readiness, with_room};
 ghost use Rattle.lis_link.specs.Representation.{SpareAfter};
 ghost use Rattle.std.specs.Borrow.{sem};
 ghost use Rattle.std.specs.Mem.{type_size};
@@ -85,12 +86,13 @@ pub unsafe extern "C" fn lis_receiver_init(alloc: Global, at: *mut u8)
 }
 
 /// Sets how long the text of a frame may be, 240 bytes or 63,993, and makes the receiver new: neutral and ready,
-/// without a text. `OK`; `BAD_NUMBER` if it is another limit; `OUT_OF_MEMORY`. Nothing has changed unless it is `OK`.
-/// Only the long limit takes memory.
+/// without a text; it hears carefully if it did. `OK`; `BAD_NUMBER` if it is another limit; `OUT_OF_MEMORY`. Nothing
+/// has changed unless it is `OK`. Only the long limit takes memory.
 #[unsafe(no_mangle)]
 pub extern "C" fn lis_receiver_set_limit(alloc: Global, s: &mut LisReceiver, limit: usize) -> u8
     ensures status { LimitStatus result limit }
     ensures set { result ≡ OK → NewReceiverState limit s.new.state }
+    ensures careful { s.new.state.careful ≡ s.old.state.careful }
     ensures refused { result ≢ OK → s.new.state ≡ s.old.state }
 {
     let receiver = match limit {
@@ -101,7 +103,10 @@ pub extern "C" fn lis_receiver_set_limit(alloc: Global, s: &mut LisReceiver, lim
         },
         _ => return status::BAD_NUMBER,
     };
-    *s.borrow() = ReceiverHandleState::over(alloc, receiver);
+    let handle_state = s.borrow();
+    let careful = handle_state.careful;
+    *handle_state = ReceiverHandleState::over(alloc, receiver);
+    handle_state.careful = careful;
     status::OK
 }
 
@@ -110,17 +115,21 @@ pub extern "C" fn lis_receiver_set_limit(alloc: Global, s: &mut LisReceiver, lim
 #[unsafe(no_mangle)]
 pub extern "C" fn lis_receiver_byte(s: &mut LisReceiver, byte: u8, out: &mut LisStep)
     ensures step { (r : ReceiverState) → Receives s.old.state.receiver r → IsNotOutOfMemory out.new
-        → MakesStep (on_byte_within (receiver_limit s.old.state.receiver) s.old.state.most byte r)
+        → MakesStep (on_byte_set s.old.state.careful (receiver_limit s.old.state.receiver) s.old.state.most byte r)
         s.old.state out.new s.new.state }
     ensures refused { (r : ReceiverState) → Receives s.old.state.receiver r → IsOutOfMemory out.new
-        → ReportsRefusedFrame (on_byte_within (receiver_limit s.old.state.receiver) s.old.state.most byte r)
-        (record r { past = byte ∷ r.past }) s.old.state out.new s.new.state }
+        → ReportsRefusedFrame (on_byte_set s.old.state.careful (receiver_limit s.old.state.receiver) s.old.state.most
+        byte r)
+        (heard_set s.old.state.careful (on_byte_set s.old.state.careful (receiver_limit s.old.state.receiver)
+        s.old.state.most byte r) (byte ∷ []) r) s.old.state out.new s.new.state }
     ensures spare { (r : ReceiverState) → Receives s.old.state.receiver r
         → SpareAfter (spare_of s.old.state.receiver) (spare_of s.new.state.receiver)
-        (on_byte_within (receiver_limit s.old.state.receiver) s.old.state.most byte r).taken }
+        (on_byte_set s.old.state.careful (receiver_limit s.old.state.receiver) s.old.state.most byte r).taken }
     ensures limit { receiver_limit s.new.state.receiver ≡ receiver_limit s.old.state.receiver }
     ensures lasts { HasReserved out.new.has_text s.new.state }
     ensures rest { KeepsLimits s.old.state s.new.state }
+    ensures noise { (r : ReceiverState) → Receives s.old.state.receiver r →
+        s.new.state.noise ≡ counted s.old.state.noise (noise_set s.old.state.careful r byte) }
 {
     s.borrow().byte(byte, out);
 }
@@ -130,19 +139,26 @@ pub extern "C" fn lis_receiver_byte(s: &mut LisReceiver, byte: u8, out: &mut Lis
 #[unsafe(no_mangle)]
 pub extern "C" fn lis_receiver_hear(s: &mut LisReceiver, bytes: &[u8], out: &mut LisStep) -> usize
     ensures count { (r : ReceiverState) → Receives s.old.state.receiver r →
-        result ≡ (on_bytes_within (receiver_limit s.old.state.receiver) s.old.state.most bytes.now r).count }
+        result ≡ (on_bytes_set s.old.state.careful (receiver_limit s.old.state.receiver) s.old.state.most bytes.now
+        r).count }
     ensures step { (r : ReceiverState) → Receives s.old.state.receiver r → IsNotOutOfMemory out.new
-        → MakesStep (on_bytes_within (receiver_limit s.old.state.receiver) s.old.state.most bytes.now r).step
-        s.old.state out.new s.new.state }
+        → MakesStep (on_bytes_set s.old.state.careful (receiver_limit s.old.state.receiver) s.old.state.most bytes.now
+        r).step s.old.state out.new s.new.state }
     ensures refused { (r : ReceiverState) → Receives s.old.state.receiver r → IsOutOfMemory out.new
-        → ReportsRefusedFrame (on_bytes_within (receiver_limit s.old.state.receiver) s.old.state.most bytes.now r).step
-        (with_heard (take result bytes.now) r) s.old.state out.new s.new.state }
+        → ReportsRefusedFrame (on_bytes_set s.old.state.careful (receiver_limit s.old.state.receiver) s.old.state.most
+        bytes.now r).step
+        (heard_set s.old.state.careful (on_bytes_set s.old.state.careful (receiver_limit s.old.state.receiver)
+        s.old.state.most bytes.now r).step (take result bytes.now) r) s.old.state out.new s.new.state }
     ensures spare { (r : ReceiverState) → Receives s.old.state.receiver r
         → SpareAfter (spare_of s.old.state.receiver) (spare_of s.new.state.receiver)
-        (on_bytes_within (receiver_limit s.old.state.receiver) s.old.state.most bytes.now r).step.taken }
+        (on_bytes_set s.old.state.careful (receiver_limit s.old.state.receiver) s.old.state.most bytes.now
+        r).step.taken }
     ensures limit { receiver_limit s.new.state.receiver ≡ receiver_limit s.old.state.receiver }
     ensures lasts { HasReserved out.new.has_text s.new.state }
     ensures rest { KeepsLimits s.old.state s.new.state }
+    ensures noise { (r : ReceiverState) → Receives s.old.state.receiver r → s.new.state.noise
+        ≡ counted s.old.state.noise (noises_set s.old.state.careful (receiver_limit s.old.state.receiver)
+        s.old.state.most bytes.now r) }
 {
     s.borrow().hear(bytes, out)
 }
@@ -155,6 +171,7 @@ pub extern "C" fn lis_receiver_timer(s: &mut LisReceiver, out: &mut LisStep)
     ensures spare { spare_of s.old.state.receiver ≤ spare_of s.new.state.receiver }
     ensures limit { receiver_limit s.new.state.receiver ≡ receiver_limit s.old.state.receiver }
     ensures rest { KeepsLimits s.old.state s.new.state }
+    ensures noise { s.new.state.noise ≡ s.old.state.noise }
 {
     s.borrow().timer(out);
 }
@@ -168,6 +185,7 @@ pub extern "C" fn lis_receiver_restart(s: &mut LisReceiver)
     ensures spare { spare_of s.old.state.receiver ≤ spare_of s.new.state.receiver }
     ensures limit { receiver_limit s.new.state.receiver ≡ receiver_limit s.old.state.receiver }
     ensures rest { KeepsLimits s.old.state s.new.state }
+    ensures noise { s.new.state.noise ≡ s.old.state.noise }
 {
     s.borrow().receiver.restart();
 }
@@ -181,6 +199,7 @@ pub extern "C" fn lis_receiver_set_room(s: &mut LisReceiver, room: bool)
     ensures spare { spare_of s.new.state.receiver ≡ spare_of s.old.state.receiver }
     ensures limit { receiver_limit s.new.state.receiver ≡ receiver_limit s.old.state.receiver }
     ensures rest { KeepsLimits s.old.state s.new.state }
+    ensures noise { s.new.state.noise ≡ s.old.state.noise }
 {
     s.borrow().receiver.set_room(room);
 }
@@ -197,6 +216,7 @@ pub extern "C" fn lis_receiver_set_ready(s: &mut LisReceiver, readiness: u8) -> 
     ensures spare { spare_of s.new.state.receiver ≡ spare_of s.old.state.receiver }
     ensures limit { receiver_limit s.new.state.receiver ≡ receiver_limit s.old.state.receiver }
     ensures rest { KeepsLimits s.old.state s.new.state }
+    ensures noise { s.new.state.noise ≡ s.old.state.noise }
 {
     let readiness = match readiness {
         0 => Readiness::Ready,
@@ -226,6 +246,7 @@ pub extern "C" fn lis_receiver_reserve(s: &mut LisReceiver, bytes: u64) -> u8
         (spare_of s.old.state.receiver < bytes) ⊎ (s.old.state.beside < bytes) }
     ensures unlasting { result ≢ OK → s.new.state.reserved ≡ s.old.state.reserved }
     ensures most { s.new.state.most ≡ s.old.state.most }
+    ensures hearing { (s.new.state.careful ≡ s.old.state.careful) × (s.new.state.noise ≡ s.old.state.noise) }
 {
     if bytes > LONGEST_TEXT as u64 {
         return status::TOO_LONG;
@@ -254,6 +275,26 @@ pub extern "C" fn lis_receiver_set_text_limit(s: &mut LisReceiver, bytes: usize)
         None
     };
     status::OK
+}
+
+/// Whether the receiver hears carefully from now on: an ENQ on an open line ends the session with no reply, and an STX
+/// inside an unfinished frame begins none, so that the frame is answered NAK. Then one damaged byte of a frame
+/// acknowledges nothing.
+#[unsafe(no_mangle)]
+pub extern "C" fn lis_receiver_set_careful(s: &mut LisReceiver, careful: bool)
+    ensures { s.new.state ≡ record s.old.state { careful = careful } }
+{
+    s.borrow().careful = careful;
+}
+
+/// How much noise was heard carefully since the receiver was new: ENQ on an open line, and STX inside an unfinished
+/// frame of one.
+#[unsafe(no_mangle)]
+pub extern "C" fn lis_receiver_noise(s: &mut LisReceiver) -> u64
+    ensures value { result ≡ s.old.state.noise }
+    ensures same { s.new.state ≡ s.old.state }
+{
+    s.borrow().noise
 }
 
 /// Whether the line is open: while it is, the caller runs the receiver's timer.

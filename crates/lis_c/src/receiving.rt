@@ -1,9 +1,15 @@
 //! A receiver of the usual limit on a frame's text, or of the long one.
 
-ghost use Rattle.std.specs.Prelude.{◌≡◌, ◌≢◌, ◌≤◌, ◌<◌, ◌∷◌, length, max, take, IfOk, IsTrue, OnErr, OnOk, Some};
+ghost use Rattle.std.specs.Prelude.{◌≡◌, ◌≢◌, ◌≤◌, ◌<◌, ◌∷◌, [], length, max, take, true, IfOk, IsTrue, OnErr};
+ghost use Rattle.std.specs.Prelude.{OnOk, Some};
+ghost use Rattle.lis_c.specs.Careful.{heard_set, noise_set, on_byte_set};
 ghost use Rattle.lis_c.specs.Limits.{NewReceiver, Receives, kept_by, receiver_limit, spare_of};
 ghost use Rattle.lis_c.specs.Within.{is_over, on_byte_within, on_bytes_within};
+ghost use Rattle.lis_c.specs.inside.Careful.{IsHeardSet};
 ghost use Rattle.lis_c.specs.inside.Within.{IsHeardWithin};
+ghost use Rattle.lis_careful.specs.Careful.{ends_session, heard_as, heard_only, is_noise, noise_in, noise_of};
+ghost use Rattle.lis_careful.specs.Careful.{on_bytes_carefully};
+ghost use Rattle.lis_frame.specs.Stream.{open_body};
 ghost use Rattle.lis_frame.specs.Stream.{signal_after};
 ghost use Rattle.lis_link.specs.declared.receiver.Note.TheVariants as Notes;
 ghost use Rattle.lis_link.specs.Receiver.{ReceiverState, answers, held_length, on_byte, on_bytes, on_receiver_timer};
@@ -12,9 +18,10 @@ ghost use Rattle.lis_link.specs.Representation.{IsIn, IsStepMade, RefusesFrame, 
 ghost use Rattle.lis_text.specs.Control.{LF, NAK};
 ghost use Rattle.lis_text.specs.LinkText.{longest_text};
 
+use lis_careful::{CarefulHearing, closes, hear_bytes, heard_as, noise_of};
 use lis_frame::Heard;
 use lis_link::{Hearing, Note, Readiness, Receiver, ReceiverOf, Step};
-use lis_text::{LF, LinkText, NAK, STX};
+use lis_text::{EOT, LF, LinkText, NAK, STX};
 use std::alloc::{AllocError, Global};
 
 /// A receiver of either limit.
@@ -217,6 +224,175 @@ impl AnyReceiver {
         }
         Hearing {
             count,
+            step: Step {
+                reply: None,
+                message: None,
+                note: Note::Quiet,
+            },
+        }
+    }
+
+    /// Hears one byte carefully, or as `byte_within`.
+    pub(crate) fn byte_set(&mut self, careful: bool, most: Option<usize>, byte: u8) -> Step
+        ensures step { (r : ReceiverState) → Receives self.old r → result.note ≢ Notes.OutOfMemory →
+            IsStepMade (receiver_limit self.new) (on_byte_set careful (receiver_limit self.old) most byte r) result
+            (kept_by self.new) }
+        ensures refused { (r : ReceiverState) → Receives self.old r → result.note ≡ Notes.OutOfMemory →
+            RefusesFrame (receiver_limit self.new) (spare_of self.old)
+            (on_byte_set careful (receiver_limit self.old) most byte r)
+            (heard_set careful (on_byte_set careful (receiver_limit self.old) most byte r) (byte ∷ []) r) result
+            (kept_by self.new) }
+        ensures spare { (r : ReceiverState) → Receives self.old r → SpareAfter (spare_of self.old) (spare_of self.new)
+            (on_byte_set careful (receiver_limit self.old) most byte r).taken }
+        ensures limit { receiver_limit self.new ≡ receiver_limit self.old }
+    {
+        if careful {
+            self.byte_carefully(most, byte)
+        } else {
+            self.byte_within(most, byte)
+        }
+    }
+
+    /// Hears one byte carefully, with a limit on a text or without one.
+    fn byte_carefully(&mut self, most: Option<usize>, byte: u8) -> Step
+        ensures step { (r : ReceiverState) → Receives self.old r → result.note ≢ Notes.OutOfMemory →
+            IsStepMade (receiver_limit self.new) (on_byte_set true (receiver_limit self.old) most byte r) result
+            (kept_by self.new) }
+        ensures refused { (r : ReceiverState) → Receives self.old r → result.note ≡ Notes.OutOfMemory →
+            RefusesFrame (receiver_limit self.new) (spare_of self.old)
+            (on_byte_set true (receiver_limit self.old) most byte r)
+            (heard_set true (on_byte_set true (receiver_limit self.old) most byte r) (byte ∷ []) r) result
+            (kept_by self.new) }
+        ensures spare { (r : ReceiverState) → Receives self.old r → SpareAfter (spare_of self.old) (spare_of self.new)
+            (on_byte_set true (receiver_limit self.old) most byte r).taken }
+        ensures limit { receiver_limit self.new ≡ receiver_limit self.old }
+    {
+        if self.closes(byte) {
+            return self.byte(EOT);
+        }
+        let heard = self.heard_as(byte);
+        self.byte_within(most, heard)
+    }
+
+    /// Whether this byte ends the session, where it is heard carefully.
+    fn closes(&self, byte: u8) -> bool
+        ensures { (r : ReceiverState) → Receives self.now r → result ≡ ends_session r byte }
+    {
+        match self {
+            AnyReceiver::Usual(receiver) => closes(receiver, byte),
+            AnyReceiver::Long(receiver) => closes(receiver, byte),
+        }
+    }
+
+    /// What this byte is heard as, where it is heard carefully.
+    fn heard_as(&self, byte: u8) -> u8
+        ensures { (r : ReceiverState) → Receives self.now r → result ≡ heard_as (open_body r.past) byte }
+    {
+        match self {
+            AnyReceiver::Usual(receiver) => heard_as(receiver, byte),
+            AnyReceiver::Long(receiver) => heard_as(receiver, byte),
+        }
+    }
+
+    /// How much noise this byte is, 1 or 0: none unless it is heard carefully.
+    pub(crate) fn noise_set(&self, careful: bool, byte: u8) -> usize
+        ensures count { (r : ReceiverState) → Receives self.now r → result ≡ noise_set careful r byte }
+        ensures few { result ≤ 1 }
+    {
+        if careful { self.noise_of(byte) } else { 0 }
+    }
+
+    /// How much noise this byte is.
+    fn noise_of(&self, byte: u8) -> usize
+        ensures count { (r : ReceiverState) → Receives self.now r → result ≡ noise_of (is_noise r byte) }
+        ensures few { result ≤ 1 }
+    {
+        match self {
+            AnyReceiver::Usual(receiver) => noise_of(receiver, byte),
+            AnyReceiver::Long(receiver) => noise_of(receiver, byte),
+        }
+    }
+
+    /// Hears bytes carefully, or as `bytes_within`, and counts the noise among them.
+    #[inline(always)]
+    pub(crate) fn bytes_set(
+        &mut self,
+        careful: bool,
+        most: Option<usize>,
+        bytes: &[u8],
+    ) -> CarefulHearing
+        ensures heard { (r : ReceiverState) → Receives self.old r → IsHeardSet careful (receiver_limit self.new) most
+            bytes.now r (spare_of self.old) result (kept_by self.new) }
+        ensures limit { receiver_limit self.new ≡ receiver_limit self.old }
+    {
+        if careful {
+            return self.bytes_carefully(most, bytes);
+        }
+        let Hearing { count, step } = self.bytes_within(most, bytes);
+        CarefulHearing {
+            count,
+            noise: 0,
+            step,
+        }
+    }
+
+    /// Hears bytes carefully.
+    fn bytes_carefully(&mut self, most: Option<usize>, bytes: &[u8]) -> CarefulHearing
+        ensures heard { (r : ReceiverState) → Receives self.old r → IsHeardSet true (receiver_limit self.new) most
+            bytes.now r (spare_of self.old) result (kept_by self.new) }
+        ensures limit { receiver_limit self.new ≡ receiver_limit self.old }
+    {
+        match most {
+            None => self.all_carefully(bytes),
+            Some(most) => self.carefully_up_to(most, bytes),
+        }
+    }
+
+    /// Hears bytes carefully, with no limit on a text.
+    fn all_carefully(&mut self, bytes: &[u8]) -> CarefulHearing
+        ensures count { (r : ReceiverState) → Receives self.old r →
+            result.count ≡ (on_bytes_carefully (receiver_limit self.old) bytes.now r).count }
+        ensures noise { (r : ReceiverState) → Receives self.old r →
+            result.noise ≡ noise_in (receiver_limit self.old) bytes.now r }
+        ensures step { (r : ReceiverState) → Receives self.old r → result.step.note ≢ Notes.OutOfMemory →
+            IsStepMade (receiver_limit self.new) (on_bytes_carefully (receiver_limit self.old) bytes.now r).step
+            result.step (kept_by self.new) }
+        ensures refused { (r : ReceiverState) → Receives self.old r → result.step.note ≡ Notes.OutOfMemory →
+            RefusesFrame (receiver_limit self.new) (spare_of self.old)
+            (on_bytes_carefully (receiver_limit self.old) bytes.now r).step
+            (heard_only (on_bytes_carefully (receiver_limit self.old) bytes.now r).step r) result.step
+            (kept_by self.new) }
+        ensures spare { (r : ReceiverState) → Receives self.old r → SpareAfter (spare_of self.old)
+            (spare_of self.new) (on_bytes_carefully (receiver_limit self.old) bytes.now r).step.taken }
+        ensures limit { receiver_limit self.new ≡ receiver_limit self.old }
+    {
+        match self {
+            AnyReceiver::Usual(receiver) => hear_bytes(receiver, bytes),
+            AnyReceiver::Long(receiver) => hear_bytes(receiver, bytes),
+        }
+    }
+
+    /// Hears bytes carefully, with a limit on a text.
+    fn carefully_up_to(&mut self, most: usize, bytes: &[u8]) -> CarefulHearing
+        ensures heard { (r : ReceiverState) → Receives self.old r → IsHeardSet true (receiver_limit self.new)
+            (Some most) bytes.now r (spare_of self.old) result (kept_by self.new) }
+        ensures limit { receiver_limit self.new ≡ receiver_limit self.old }
+    {
+        let mut count = 0;
+        let mut noise = 0;
+        while count < bytes.len() {
+            let louder = self.noise_of(bytes[count]);
+            let step = self.byte_carefully(Some(most), bytes[count]);
+            count += 1;
+            noise += louder;
+            match step.note {
+                Note::Quiet => {}
+                _ => return CarefulHearing { count, noise, step },
+            }
+        }
+        CarefulHearing {
+            count,
+            noise,
             step: Step {
                 reply: None,
                 message: None,

@@ -4,6 +4,8 @@ ghost use Rattle.std.specs.Prelude.{◌≡◌, ◌≢◌, ◌≤◌, ◌<◌, �
 ghost use Rattle.std.specs.Prelude.{max, take};
 ghost use Rattle.lis_c.specs.declared.station_state.StationHandleState.{StationHandleState};
 ghost use Rattle.lis_c.specs.Borrowed.{borrowed_bytes};
+ghost use Rattle.lis_c.specs.Careful.{counted, heard_set, on_own_byte, on_own_bytes, on_station_byte_set};
+ghost use Rattle.lis_c.specs.Careful.{on_station_bytes_set, station_noise_set, station_noises_set};
 ghost use Rattle.lis_c.specs.Codes.{outcome_code, phase_code};
 ghost use Rattle.lis_c.specs.Emitted.{FrameCopied, HoldsBytes};
 ghost use Rattle.lis_c.specs.New.{IsNewStation, type_align};
@@ -14,11 +16,11 @@ ghost use Rattle.lis_c.specs.Stations.{station_spare, station_start_index, stati
 ghost use Rattle.lis_c.specs.Status.{AddTextStatus, FULL, OK, OUT_OF_MEMORY, ReserveStatus, copy_status};
 ghost use Rattle.lis_c.specs.Steps.{IsNotOutOfMemory, IsOutOfMemory};
 ghost use Rattle.lis_c.specs.contracts.station_state.StationHandleState.{the_row as handle_state_row};
-ghost use Rattle.lis_link.specs.Receiver.{ReceiverState, held_length, on_byte, on_bytes, with_heard};
+ghost use Rattle.lis_link.specs.Receiver.{ReceiverState, held_length};
 ghost use Rattle.lis_link.specs.Representation.{SpareAfter};
 ghost use Rattle.lis_link.specs.Sender.{awaited, sender_restarted};
 ghost use Rattle.lis_station.specs.declared.station.Role.{Role};
-ghost use Rattle.lis_station.specs.Station.{awaits_reply, is_requested, line_closed, on_station_byte, on_station_bytes};
+ghost use Rattle.lis_station.specs.Station.{awaits_reply, is_requested, line_closed};
 ghost use Rattle.lis_station.specs.Station.{on_station_timer, readied, station_fault, station_restarted};
 ghost use Rattle.lis_station.specs.Station.{station_seconds};
 ghost use Rattle.lis_station.specs.Station.{taken_by, turn_asked_for, turn_seconds};
@@ -96,15 +98,16 @@ pub unsafe extern "C" fn lis_station_init(alloc: Global, at: *mut u8)
 }
 
 /// Sets the role, 0 for the analyzer or 1 for the computer, and how long the text of a frame may be, 240 bytes or
-/// 63,993, and makes the station new, without a text. `OK`; `BAD_NUMBER` if it is another role or limit;
-/// `OUT_OF_MEMORY`. Nothing has changed unless it is `OK`. Only the long limit takes memory.
+/// 63,993, and makes the station new, without a text; it hears carefully if it did. `OK`; `BAD_NUMBER` if it is another
+/// role or limit; `OUT_OF_MEMORY`. Nothing has changed unless it is `OK`. Only the long limit takes memory.
 #[unsafe(no_mangle)]
 pub extern "C" fn lis_station_begin(alloc: Global, s: &mut LisStation, role: u8, limit: usize) -> u8
     ensures status { BeginStatus result role limit }
     ensures begun { (known : Role) → role ≡ role_code known → result ≡ OK →
         NewStation known limit s.new.state.station × (s.new.state.texts ≡ []) × (s.new.state.text ≡ [])
-        × (s.new.state.reserved ≡ 0) }
+        × (s.new.state.reserved ≡ 0) × (s.new.state.noise ≡ 0) }
     ensures refused { result ≢ OK → s.new.state ≡ s.old.state }
+    ensures careful { s.new.state.careful ≡ s.old.state.careful }
 {
     let role = match role {
         0 => Role::Analyzer,
@@ -119,7 +122,10 @@ pub extern "C" fn lis_station_begin(alloc: Global, s: &mut LisStation, role: u8,
         },
         _ => return status::BAD_NUMBER,
     };
-    *s.borrow() = StationHandleState::over(alloc, station);
+    let handle_state = s.borrow();
+    let careful = handle_state.careful;
+    *handle_state = StationHandleState::over(alloc, station);
+    handle_state.careful = careful;
     status::OK
 }
 
@@ -236,18 +242,24 @@ fn report_start(start: Result<(), StationFault>, out: &mut LisBytes, place: &mut
 #[unsafe(no_mangle)]
 pub extern "C" fn lis_station_byte(s: &mut LisStation, byte: u8, out: &mut LisAnswer)
     ensures step { (r : ReceiverState) → Hears s.old.state.station r → IsNotOutOfMemory out.new.step → MakesAnswer
-        (on_station_byte (station_limit s.old.state.station) byte (state_of s.old.state.station r))
+        (on_station_byte_set (station_limit s.old.state.station) s.old.state.careful byte
+        (state_of s.old.state.station r))
         s.old.state out.new s.new.state }
     ensures refused { (r : ReceiverState) → Hears s.old.state.station r → IsOutOfMemory out.new.step →
-        RejectsForMemory (on_byte (station_limit s.old.state.station) byte r) (record r { past = byte ∷ r.past })
-        s.old.state out.new s.new.state }
+        RejectsForMemory (on_own_byte s.old.state.careful (station_limit s.old.state.station) byte r)
+        (heard_set s.old.state.careful (on_own_byte s.old.state.careful (station_limit s.old.state.station) byte r)
+        (byte ∷ []) r) s.old.state out.new s.new.state }
     ensures spare { (r : ReceiverState) → Hears s.old.state.station r →
         SpareAfter (station_spare s.old.state.station) (station_spare s.new.state.station) (taken_by
-        (on_station_byte (station_limit s.old.state.station) byte (state_of s.old.state.station r)).answer) }
+        (on_station_byte_set (station_limit s.old.state.station) s.old.state.careful byte
+        (state_of s.old.state.station r)).answer) }
     ensures limit { station_limit s.new.state.station ≡ station_limit s.old.state.station }
     ensures texts { s.new.state.texts ≡ s.old.state.texts }
     ensures lasts { HasReserved out.new.step.has_text s.new.state }
     ensures reserved { s.new.state.reserved ≡ s.old.state.reserved }
+    ensures careful { s.new.state.careful ≡ s.old.state.careful }
+    ensures noise { (r : ReceiverState) → Hears s.old.state.station r → s.new.state.noise
+        ≡ counted s.old.state.noise (station_noise_set s.old.state.careful byte (state_of s.old.state.station r)) }
 {
     s.borrow().byte(byte, out);
 }
@@ -257,20 +269,28 @@ pub extern "C" fn lis_station_byte(s: &mut LisStation, byte: u8, out: &mut LisAn
 #[unsafe(no_mangle)]
 pub extern "C" fn lis_station_hear(s: &mut LisStation, bytes: &[u8], out: &mut LisAnswer) -> usize
     ensures count { (r : ReceiverState) → Hears s.old.state.station r → result
-        ≡ (on_station_bytes (station_limit s.old.state.station) bytes.now (state_of s.old.state.station r)).count }
+        ≡ (on_station_bytes_set (station_limit s.old.state.station) s.old.state.careful bytes.now
+        (state_of s.old.state.station r)).count }
     ensures step { (r : ReceiverState) → Hears s.old.state.station r → IsNotOutOfMemory out.new.step → MakesAnswer
-        (on_station_bytes (station_limit s.old.state.station) bytes.now (state_of s.old.state.station r)).step
+        (on_station_bytes_set (station_limit s.old.state.station) s.old.state.careful bytes.now
+        (state_of s.old.state.station r)).step
         s.old.state out.new s.new.state }
     ensures refused { (r : ReceiverState) → Hears s.old.state.station r → IsOutOfMemory out.new.step →
-        RejectsForMemory (on_bytes (station_limit s.old.state.station) bytes.now r).step
-        (with_heard (take result bytes.now) r) s.old.state out.new s.new.state }
+        RejectsForMemory (on_own_bytes s.old.state.careful (station_limit s.old.state.station) bytes.now r).step
+        (heard_set s.old.state.careful (on_own_bytes s.old.state.careful (station_limit s.old.state.station) bytes.now
+        r).step (take result bytes.now) r) s.old.state out.new s.new.state }
     ensures spare { (r : ReceiverState) → Hears s.old.state.station r →
         SpareAfter (station_spare s.old.state.station) (station_spare s.new.state.station) (taken_by
-        (on_station_bytes (station_limit s.old.state.station) bytes.now (state_of s.old.state.station r)).step.answer) }
+        (on_station_bytes_set (station_limit s.old.state.station) s.old.state.careful bytes.now
+        (state_of s.old.state.station r)).step.answer) }
     ensures limit { station_limit s.new.state.station ≡ station_limit s.old.state.station }
     ensures texts { s.new.state.texts ≡ s.old.state.texts }
     ensures lasts { HasReserved out.new.step.has_text s.new.state }
     ensures reserved { s.new.state.reserved ≡ s.old.state.reserved }
+    ensures careful { s.new.state.careful ≡ s.old.state.careful }
+    ensures noise { (r : ReceiverState) → Hears s.old.state.station r → s.new.state.noise
+        ≡ counted s.old.state.noise (station_noises_set (station_limit s.old.state.station) s.old.state.careful
+        bytes.now (state_of s.old.state.station r)) }
 {
     s.borrow().hear(bytes, out)
 }
@@ -285,6 +305,7 @@ pub extern "C" fn lis_station_timer(s: &mut LisStation, out: &mut LisAnswer)
     ensures limit { station_limit s.new.state.station ≡ station_limit s.old.state.station }
     ensures texts { s.new.state.texts ≡ s.old.state.texts }
     ensures reserved { s.new.state.reserved ≡ s.old.state.reserved }
+    ensures hearing { (s.new.state.careful ≡ s.old.state.careful) × (s.new.state.noise ≡ s.old.state.noise) }
 {
     s.borrow().timer(out);
 }
@@ -399,6 +420,24 @@ pub extern "C" fn lis_station_turn_seconds(s: &mut LisStation) -> u32
     s.borrow().station.turn_seconds().unwrap_or(0)
 }
 
+/// Whether the station hears carefully from now on what is for its receiver, as `lis_receiver_set_careful`. A reply is
+/// heard as ever.
+#[unsafe(no_mangle)]
+pub extern "C" fn lis_station_set_careful(s: &mut LisStation, careful: bool)
+    ensures { s.new.state ≡ record s.old.state { careful = careful } }
+{
+    s.borrow().careful = careful;
+}
+
+/// How much noise was heard carefully since the station was new, as `lis_receiver_noise`.
+#[unsafe(no_mangle)]
+pub extern "C" fn lis_station_noise(s: &mut LisStation) -> u64
+    ensures value { result ≡ s.old.state.noise }
+    ensures same { s.new.state ≡ s.old.state }
+{
+    s.borrow().noise
+}
+
 /// Whether a byte that comes is a reply: the sender awaits one. Else the receiver hears it.
 #[unsafe(no_mangle)]
 pub extern "C" fn lis_station_awaits_reply(s: &mut LisStation) -> bool
@@ -424,6 +463,7 @@ pub extern "C" fn lis_station_reserve(s: &mut LisStation, bytes: u64) -> u8
     ensures lasts { result ≡ OK → (s.new.state.reserved ≡ bytes) × (s.new.state.lacks_room ≡ false) }
     ensures unlasting { result ≢ OK → s.new.state.reserved ≡ s.old.state.reserved }
     ensures texts { (s.new.state.text ≡ s.old.state.text) × (s.new.state.texts ≡ s.old.state.texts) }
+    ensures hearing { (s.new.state.careful ≡ s.old.state.careful) × (s.new.state.noise ≡ s.old.state.noise) }
 {
     if bytes > LONGEST_TEXT as u64 {
         return status::TOO_LONG;

@@ -2,16 +2,17 @@
 
 ghost use Rattle.std.specs.Prelude.{◌≡◌, ◌≤◌, ◌<◌, ◌⊎◌, ◌∷◌, [], false, max, take, None, Some, MatchResult};
 ghost use Rattle.std.specs.Prelude.{OnErr, OnOk};
+ghost use Rattle.lis_c.specs.Careful.{counted, heard_set, on_own_byte, on_own_bytes, on_station_byte_set};
+ghost use Rattle.lis_c.specs.Careful.{on_station_bytes_set, station_noise_set, station_noises_set};
 ghost use Rattle.lis_c.specs.Stations.{Hears, IsNow, MakesAnswer, NewStation, RejectsForMemory};
 ghost use Rattle.lis_c.specs.Stations.{HasReserved, StartsSession, state_of};
 ghost use Rattle.lis_c.specs.Stations.{station_kept, station_limit, station_spare};
 ghost use Rattle.lis_c.specs.Steps.{IsNotOutOfMemory, IsOutOfMemory};
 ghost use Rattle.lis_c.specs.inside.Stations.{ReportsAnswer};
-ghost use Rattle.lis_link.specs.Receiver.{ReceiverState, on_byte, on_bytes, with_heard};
+ghost use Rattle.lis_link.specs.Receiver.{ReceiverState};
 ghost use Rattle.lis_link.specs.Representation.{SpareAfter};
 ghost use Rattle.lis_station.specs.declared.station.Role.TheVariants.{Computer};
-ghost use Rattle.lis_station.specs.Station.{on_station_byte, on_station_bytes, on_station_timer};
-ghost use Rattle.lis_station.specs.Station.{station_fault, taken_by};
+ghost use Rattle.lis_station.specs.Station.{on_station_timer, station_fault, taken_by};
 ghost use Rattle.lis_text.specs.LinkText.{longest_text};
 
 use crate::borrowed::{CallerTexts, OwnOrCallerTexts};
@@ -24,8 +25,8 @@ use lis_text::{LinkText, List, Texts};
 use std::alloc::{AllocError, Global};
 use std::mem;
 
-/// A station, the texts of its next session, and the text that it delivered last; of its room the same as of a
-/// receiver's.
+/// A station, the texts of its next session, and the text that it delivered last; of its room, and of careful hearing,
+/// the same as of a receiver's.
 #[derive(Drop)]
 pub struct StationHandleState {
     pub alloc: Global,
@@ -35,6 +36,8 @@ pub struct StationHandleState {
     pub reserved: u64,
     pub beside: u64,
     pub lacks_room: bool,
+    pub careful: bool,
+    pub noise: u64,
 }
 
 /// Releases all that a handle's state keeps.
@@ -43,14 +46,15 @@ pub(crate) fn release_station(_handle_state: StationHandleState) {}
 impl StationHandleState {
     pub(crate) fn new(alloc: Global) -> Self
         ensures { NewStation Computer 240 result.station × (result.texts ≡ []) × (result.text ≡ [])
-            × (result.reserved ≡ 0) }
+            × (result.reserved ≡ 0) × (result.noise ≡ 0) × (result.careful ≡ false) }
     {
         StationHandleState::over(alloc, AnyStation::usual(alloc, Role::Computer))
     }
 
     /// A station with no text, and nothing reserved.
     pub(crate) fn over(alloc: Global, station: AnyStation) -> Self
-        ensures { (result.station ≡ station) × (result.texts ≡ []) × (result.text ≡ []) × (result.reserved ≡ 0) }
+        ensures { (result.station ≡ station) × (result.texts ≡ []) × (result.text ≡ []) × (result.reserved ≡ 0)
+            × (result.noise ≡ 0) × (result.careful ≡ false) }
     {
         StationHandleState {
             alloc,
@@ -60,6 +64,8 @@ impl StationHandleState {
             reserved: 0,
             beside: 0,
             lacks_room: false,
+            careful: false,
+            noise: 0,
         }
     }
 
@@ -78,6 +84,7 @@ impl StationHandleState {
         ensures refused { OnErr result ((station_spare self.old.station < bytes) ⊎ (self.old.beside < bytes)) }
         ensures kept { OnErr result (self.new.reserved ≡ self.old.reserved) }
         ensures rest { (self.new.text ≡ self.old.text) × (self.new.texts ≡ self.old.texts) }
+        ensures hearing { (self.new.careful ≡ self.old.careful) × (self.new.noise ≡ self.old.noise) }
     {
         if self.beside < bytes {
             make_room(&mut self.text, self.alloc, bytes)?;
@@ -146,6 +153,7 @@ impl StationHandleState {
         ensures texts { self.new.texts ≡ self.old.texts }
         ensures lasts { HasReserved out.new.step.has_text self.new }
         ensures reserved { self.new.reserved ≡ self.old.reserved }
+        ensures hearing { (self.new.careful ≡ self.old.careful) × (self.new.noise ≡ self.old.noise) }
     {
         let Some(
             Step {
@@ -185,42 +193,58 @@ impl StationHandleState {
     /// A byte comes: reports the answer.
     pub(crate) fn byte(&mut self, byte: u8, out: &mut LisAnswer)
         ensures step { (r : ReceiverState) → Hears self.old.station r → IsNotOutOfMemory out.new.step →
-            MakesAnswer (on_station_byte (station_limit self.old.station) byte (state_of self.old.station r))
+            MakesAnswer (on_station_byte_set (station_limit self.old.station) self.old.careful byte
+            (state_of self.old.station r))
             self.old out.new self.new }
         ensures refused { (r : ReceiverState) → Hears self.old.station r → IsOutOfMemory out.new.step →
-            RejectsForMemory (on_byte (station_limit self.old.station) byte r) (record r { past = byte ∷ r.past })
-            self.old out.new self.new }
+            RejectsForMemory (on_own_byte self.old.careful (station_limit self.old.station) byte r)
+            (heard_set self.old.careful (on_own_byte self.old.careful (station_limit self.old.station) byte r)
+            (byte ∷ []) r) self.old out.new self.new }
         ensures spare { (r : ReceiverState) → Hears self.old.station r →
             SpareAfter (station_spare self.old.station) (station_spare self.new.station)
-            (taken_by (on_station_byte (station_limit self.old.station) byte (state_of self.old.station r)).answer) }
+            (taken_by (on_station_byte_set (station_limit self.old.station) self.old.careful byte
+            (state_of self.old.station r)).answer) }
         ensures limit { station_limit self.new.station ≡ station_limit self.old.station }
         ensures texts { self.new.texts ≡ self.old.texts }
         ensures lasts { HasReserved out.new.step.has_text self.new }
         ensures reserved { self.new.reserved ≡ self.old.reserved }
+        ensures careful { self.new.careful ≡ self.old.careful }
+        ensures noise { (r : ReceiverState) → Hears self.old.station r → self.new.noise
+            ≡ counted self.old.noise (station_noise_set self.old.careful byte (state_of self.old.station r)) }
     {
-        let step = self.station.byte(byte, &mut out.send);
+        let noise = self.station.noise_set(self.careful, byte);
+        let step = self.station.byte_set(self.careful, byte, &mut out.send);
         self.report(step, out);
+        self.noise = self.noise.saturating_add(noise as u64);
     }
 
     /// Bytes come: reports the answer to the last one that was heard, and answers how many were.
     pub(crate) fn hear(&mut self, bytes: &[u8], out: &mut LisAnswer) -> usize
         ensures count { (r : ReceiverState) → Hears self.old.station r → result
-            ≡ (on_station_bytes (station_limit self.old.station) bytes.now (state_of self.old.station r)).count }
+            ≡ (on_station_bytes_set (station_limit self.old.station) self.old.careful bytes.now
+            (state_of self.old.station r)).count }
         ensures step { (r : ReceiverState) → Hears self.old.station r → IsNotOutOfMemory out.new.step → MakesAnswer
-            (on_station_bytes (station_limit self.old.station) bytes.now (state_of self.old.station r)).step
-            self.old out.new self.new }
+            (on_station_bytes_set (station_limit self.old.station) self.old.careful bytes.now
+            (state_of self.old.station r)).step self.old out.new self.new }
         ensures refused { (r : ReceiverState) → Hears self.old.station r → IsOutOfMemory out.new.step →
-            RejectsForMemory (on_bytes (station_limit self.old.station) bytes.now r).step
-            (with_heard (take result bytes.now) r) self.old out.new self.new }
+            RejectsForMemory (on_own_bytes self.old.careful (station_limit self.old.station) bytes.now r).step
+            (heard_set self.old.careful (on_own_bytes self.old.careful (station_limit self.old.station) bytes.now
+            r).step (take result bytes.now) r) self.old out.new self.new }
         ensures spare { (r : ReceiverState) → Hears self.old.station r →
             SpareAfter (station_spare self.old.station) (station_spare self.new.station) (taken_by
-            (on_station_bytes (station_limit self.old.station) bytes.now (state_of self.old.station r)).step.answer) }
+            (on_station_bytes_set (station_limit self.old.station) self.old.careful bytes.now
+            (state_of self.old.station r)).step.answer) }
         ensures limit { station_limit self.new.station ≡ station_limit self.old.station }
         ensures texts { self.new.texts ≡ self.old.texts }
         ensures lasts { HasReserved out.new.step.has_text self.new }
         ensures reserved { self.new.reserved ≡ self.old.reserved }
+        ensures careful { self.new.careful ≡ self.old.careful }
+        ensures noise { (r : ReceiverState) → Hears self.old.station r → self.new.noise ≡ counted self.old.noise
+            (station_noises_set (station_limit self.old.station) self.old.careful bytes.now
+            (state_of self.old.station r)) }
     {
-        let (count, step) = self.station.bytes(bytes, &mut out.send);
+        let (count, noise, step) = self.station.bytes_set(self.careful, bytes, &mut out.send);
+        self.noise = self.noise.saturating_add(noise as u64);
         self.report(step, out);
         count
     }
@@ -234,6 +258,7 @@ impl StationHandleState {
         ensures limit { station_limit self.new.station ≡ station_limit self.old.station }
         ensures texts { self.new.texts ≡ self.old.texts }
         ensures reserved { self.new.reserved ≡ self.old.reserved }
+        ensures hearing { (self.new.careful ≡ self.old.careful) × (self.new.noise ≡ self.old.noise) }
     {
         let step = self.station.timer(&mut out.send);
         self.report(step, out);

@@ -1,12 +1,17 @@
 //! A station of the usual limit on a frame's text, or of the long one.
 
-ghost use Rattle.std.specs.Prelude.{◌≡◌, ◌≤◌, ◌<◌, ◌+◌, ◌∷◌, max, take, length, None, Some, IfOk, MatchResult};
+ghost use Rattle.std.specs.Prelude.{◌≡◌, ◌≤◌, ◌<◌, ◌+◌, ◌∷◌, [], max, take, length, true, None, Some, IfOk};
+ghost use Rattle.std.specs.Prelude.{MatchResult};
 ghost use Rattle.std.specs.Prelude.{OnErr, OnOk};
 ghost use Rattle.lis_c.specs.Borrowed.{session_texts};
+ghost use Rattle.lis_c.specs.Careful.{heard_set, on_own_byte, on_own_bytes, on_station_byte_set, on_station_bytes_set};
+ghost use Rattle.lis_c.specs.Careful.{station_noise_set, station_noises_set};
 ghost use Rattle.lis_c.specs.Emitted.{FrameCopied};
 ghost use Rattle.lis_c.specs.Stations.{Hears, IsNow, NewStation, StartsSession, state_of, station_kept, station_limit};
 ghost use Rattle.lis_c.specs.Stations.{station_spare};
 ghost use Rattle.lis_c.specs.inside.Stations.{Answers, IsMemoryOut, PutsAnswer, RejectsFrame};
+ghost use Rattle.lis_careful.specs.Careful.{heard_only, is_noise, noise_of, on_byte_carefully, on_bytes_carefully};
+ghost use Rattle.lis_careful_station.specs.Station.{noise_at, on_station_byte_carefully, on_station_bytes_carefully};
 ghost use Rattle.lis_link.specs.Receiver.{ReceiverState, held_length, on_byte, on_bytes, with_heard};
 ghost use Rattle.lis_link.specs.Representation.{IsIn, SpareAfter};
 ghost use Rattle.lis_link.specs.Sender.{awaited, sender_restarted, started};
@@ -21,6 +26,8 @@ ghost use Rattle.lis_text.specs.LinkText.{longest_text};
 use crate::borrowed::OwnOrCallerTexts;
 use crate::out::{LisBytes, put, put_emit};
 use crate::sending::copy_awaited;
+use lis_careful::noise_of;
+use lis_careful_station::{CarefulHearingOf, hear_byte, hear_bytes};
 use lis_link::{Outcome, Phase, Step};
 use lis_station::{AnswerOf, HearingOf, Role, StationOver, StationRefusedOf};
 use lis_text::LinkText;
@@ -111,6 +118,125 @@ impl AnyStation {
         match self {
             AnyStation::Usual(station) => bytes_of::<240, 247>(station, bytes, out),
             AnyStation::Long(station) => bytes_of::<63_993, 64_000>(station, bytes, out),
+        }
+    }
+
+    /// A byte comes and is heard carefully, or as ever.
+    pub(crate) fn byte_set(&mut self, careful: bool, byte: u8, out: &mut LisBytes) -> Option<Step>
+        ensures step { (r : ReceiverState) → Hears self.old r → (IsMemoryOut result → ⊥) →
+            Answers (on_station_byte_set (station_limit self.old) careful byte (state_of self.old r)) result out.new
+            (station_kept self.old) (station_kept self.new) }
+        ensures refused { (r : ReceiverState) → Hears self.old r → IsMemoryOut result →
+            RejectsFrame (station_limit self.old) (on_own_byte careful (station_limit self.old) byte r)
+            (heard_set careful (on_own_byte careful (station_limit self.old) byte r) (byte ∷ []) r) result out.new
+            (station_kept self.old) (station_kept self.new) }
+        ensures spare { (r : ReceiverState) → Hears self.old r →
+            SpareAfter (station_spare self.old) (station_spare self.new) (taken_by
+            (on_station_byte_set (station_limit self.old) careful byte (state_of self.old r)).answer) }
+        ensures limit { station_limit self.new ≡ station_limit self.old }
+    {
+        if careful {
+            self.byte_carefully(byte, out)
+        } else {
+            self.byte(byte, out)
+        }
+    }
+
+    /// A byte comes and is heard carefully.
+    fn byte_carefully(&mut self, byte: u8, out: &mut LisBytes) -> Option<Step>
+        ensures step { (r : ReceiverState) → Hears self.old r → (IsMemoryOut result → ⊥) →
+            Answers (on_station_byte_set (station_limit self.old) true byte (state_of self.old r)) result out.new
+            (station_kept self.old) (station_kept self.new) }
+        ensures refused { (r : ReceiverState) → Hears self.old r → IsMemoryOut result →
+            RejectsFrame (station_limit self.old) (on_own_byte true (station_limit self.old) byte r)
+            (heard_set true (on_own_byte true (station_limit self.old) byte r) (byte ∷ []) r) result out.new
+            (station_kept self.old) (station_kept self.new) }
+        ensures spare { (r : ReceiverState) → Hears self.old r →
+            SpareAfter (station_spare self.old) (station_spare self.new)
+            (taken_by (on_station_byte_set (station_limit self.old) true byte (state_of self.old r)).answer) }
+        ensures limit { station_limit self.new ≡ station_limit self.old }
+    {
+        match self {
+            AnyStation::Usual(station) => careful_byte_of::<240, 247>(station, byte, out),
+            AnyStation::Long(station) => careful_byte_of::<63_993, 64_000>(station, byte, out),
+        }
+    }
+
+    /// How much noise this byte is, 1 or 0: none unless it is heard carefully, and none while a reply is awaited.
+    pub(crate) fn noise_set(&self, careful: bool, byte: u8) -> usize
+        ensures count { (r : ReceiverState) → Hears self.now r →
+            result ≡ station_noise_set careful byte (state_of self.now r) }
+        ensures few { result ≤ 1 }
+    {
+        if self.awaits_reply() {
+            return 0;
+        }
+        if careful { self.noise_of(byte) } else { 0 }
+    }
+
+    /// How much noise this byte is to the receiver.
+    fn noise_of(&self, byte: u8) -> usize
+        ensures count { (r : ReceiverState) → Hears self.now r → result ≡ noise_of (is_noise r byte) }
+        ensures few { result ≤ 1 }
+    {
+        match self {
+            AnyStation::Usual(station) => noise_of(station.receiver(), byte),
+            AnyStation::Long(station) => noise_of(station.receiver(), byte),
+        }
+    }
+
+    /// Bytes come and are heard carefully, or as ever. Answers how many, the noise among them, and the receiver's step,
+    /// if it was for the receiver.
+    pub(crate) fn bytes_set(
+        &mut self,
+        careful: bool,
+        bytes: &[u8],
+        out: &mut LisBytes,
+    ) -> (usize, usize, Option<Step>)
+        ensures count { (r : ReceiverState) → Hears self.old r → result.0
+            ≡ (on_station_bytes_set (station_limit self.old) careful bytes.now (state_of self.old r)).count }
+        ensures noise { (r : ReceiverState) → Hears self.old r →
+            result.1 ≡ station_noises_set (station_limit self.old) careful bytes.now (state_of self.old r) }
+        ensures step { (r : ReceiverState) → Hears self.old r → (IsMemoryOut result.2 → ⊥) →
+            Answers (on_station_bytes_set (station_limit self.old) careful bytes.now (state_of self.old r)).step
+            result.2 out.new (station_kept self.old) (station_kept self.new) }
+        ensures refused { (r : ReceiverState) → Hears self.old r → IsMemoryOut result.2 →
+            RejectsFrame (station_limit self.old) (on_own_bytes careful (station_limit self.old) bytes.now r).step
+            (heard_set careful (on_own_bytes careful (station_limit self.old) bytes.now r).step
+            (take result.0 bytes.now) r) result.2 out.new (station_kept self.old) (station_kept self.new) }
+        ensures spare { (r : ReceiverState) → Hears self.old r →
+            SpareAfter (station_spare self.old) (station_spare self.new) (taken_by
+            (on_station_bytes_set (station_limit self.old) careful bytes.now (state_of self.old r)).step.answer) }
+        ensures limit { station_limit self.new ≡ station_limit self.old }
+    {
+        if careful {
+            return self.bytes_carefully(bytes, out);
+        }
+        let (count, step) = self.bytes(bytes, out);
+        (count, 0, step)
+    }
+
+    /// Bytes come and are heard carefully.
+    fn bytes_carefully(&mut self, bytes: &[u8], out: &mut LisBytes) -> (usize, usize, Option<Step>)
+        ensures count { (r : ReceiverState) → Hears self.old r → result.0
+            ≡ (on_station_bytes_set (station_limit self.old) true bytes.now (state_of self.old r)).count }
+        ensures noise { (r : ReceiverState) → Hears self.old r →
+            result.1 ≡ station_noises_set (station_limit self.old) true bytes.now (state_of self.old r) }
+        ensures step { (r : ReceiverState) → Hears self.old r → (IsMemoryOut result.2 → ⊥) →
+            Answers (on_station_bytes_set (station_limit self.old) true bytes.now (state_of self.old r)).step
+            result.2 out.new (station_kept self.old) (station_kept self.new) }
+        ensures refused { (r : ReceiverState) → Hears self.old r → IsMemoryOut result.2 →
+            RejectsFrame (station_limit self.old) (on_own_bytes true (station_limit self.old) bytes.now r).step
+            (heard_set true (on_own_bytes true (station_limit self.old) bytes.now r).step
+            (take result.0 bytes.now) r) result.2 out.new (station_kept self.old) (station_kept self.new) }
+        ensures spare { (r : ReceiverState) → Hears self.old r →
+            SpareAfter (station_spare self.old) (station_spare self.new) (taken_by
+            (on_station_bytes_set (station_limit self.old) true bytes.now (state_of self.old r)).step.answer) }
+        ensures limit { station_limit self.new ≡ station_limit self.old }
+    {
+        match self {
+            AnyStation::Usual(station) => careful_bytes_of::<240, 247>(station, bytes, out),
+            AnyStation::Long(station) => careful_bytes_of::<63_993, 64_000>(station, bytes, out),
         }
     }
 
@@ -404,6 +530,60 @@ fn bytes_of<const N: usize, const B: usize>(
 {
     let HearingOf { count, answer } = station.bytes(bytes);
     (count, put_answer::<N, B>(answer, out))
+}
+
+#[tactic(auto, using(crate::proofs::StationLaws::answers, crate::proofs::StationLaws::rejects))]
+/// The byte for one limit, heard carefully.
+#[inline(never)]
+fn careful_byte_of<const N: usize, const B: usize>(
+    station: &mut StationOver<N, OwnOrCallerTexts>,
+    byte: u8,
+    out: &mut LisBytes,
+) -> Option<Step>
+    requires room { B ≡ N + 7 }
+    requires bound { B ≤ 64000 }
+    ensures step { (r : ReceiverState) → IsIn N station.old.receiver r → (IsMemoryOut result → ⊥) →
+        Answers (on_station_byte_carefully N byte (station_at station.old r)) result out.new station.old station.new }
+    ensures refused { (r : ReceiverState) → IsIn N station.old.receiver r → IsMemoryOut result →
+        RejectsFrame N (on_byte_carefully N byte r) (heard_only (on_byte_carefully N byte r) r) result out.new
+        station.old station.new }
+    ensures spare { (r : ReceiverState) → IsIn N station.old.receiver r →
+        SpareAfter station.old.receiver.spare station.new.receiver.spare
+        (taken_by (on_station_byte_carefully N byte (station_at station.old r)).answer) }
+{
+    put_answer::<N, B>(hear_byte(station, byte), out)
+}
+
+#[tactic(auto, using(crate::proofs::StationLaws::answers, crate::proofs::StationLaws::rejects))]
+/// The bytes for one limit, heard carefully.
+#[inline(never)]
+fn careful_bytes_of<const N: usize, const B: usize>(
+    station: &mut StationOver<N, OwnOrCallerTexts>,
+    bytes: &[u8],
+    out: &mut LisBytes,
+) -> (usize, usize, Option<Step>)
+    requires room { B ≡ N + 7 }
+    requires bound { B ≤ 64000 }
+    ensures count { (r : ReceiverState) → IsIn N station.old.receiver r →
+        result.0 ≡ (on_station_bytes_carefully N bytes.now (station_at station.old r)).count }
+    ensures noise { (r : ReceiverState) → IsIn N station.old.receiver r →
+        result.1 ≡ noise_at N bytes.now (station_at station.old r) }
+    ensures step { (r : ReceiverState) → IsIn N station.old.receiver r → (IsMemoryOut result.2 → ⊥) →
+        Answers (on_station_bytes_carefully N bytes.now (station_at station.old r)).step result.2 out.new
+        station.old station.new }
+    ensures refused { (r : ReceiverState) → IsIn N station.old.receiver r → IsMemoryOut result.2 →
+        RejectsFrame N (on_bytes_carefully N bytes.now r).step (heard_only (on_bytes_carefully N bytes.now r).step r)
+        result.2 out.new station.old station.new }
+    ensures spare { (r : ReceiverState) → IsIn N station.old.receiver r →
+        SpareAfter station.old.receiver.spare station.new.receiver.spare
+        (taken_by (on_station_bytes_carefully N bytes.now (station_at station.old r)).step.answer) }
+{
+    let CarefulHearingOf {
+        count,
+        noise,
+        answer,
+    } = hear_bytes(station, bytes);
+    (count, noise, put_answer::<N, B>(answer, out))
 }
 
 #[tactic(auto, using(crate::proofs::StationLaws::made))]

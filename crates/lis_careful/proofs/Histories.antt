@@ -14,7 +14,7 @@ use Rattle.lis_frame.proofs.FrameLaws.{IsFrame-frame_bytes}
 use Rattle.lis_link.specs.Receiver.{ReceiverState, receiver_restarted, with_readiness, heard_by, on_byte}
 use Rattle.std.specs.Prelude.{if◌then◌else◌, ◌==◌, ◌||◌}
 use Rattle.lis_careful.specs.Careful.{ends_session, heard_as, careful_by, on_byte_carefully}
-use Rattle.lis_careful.specs.inside.Hearing.{begins_within}
+use Rattle.lis_careful.specs.Careful.{begins_within}
 use Rattle.lis_careful.proofs.Receiving.{start_step, itself}
 use Rattle.lis_world.specs.declared.event.Event.{Event}
 use Rattle.lis_world.specs.declared.event.Event.TheVariants.{Start, Deliver, DeliverNoRoom, Damage, Lose, Reply}

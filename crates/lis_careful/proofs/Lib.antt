@@ -5,3 +5,4 @@ pub mod Frames
 pub mod Histories
 pub mod OneByte
 pub mod OneByteRows
+pub mod Cost

@@ -26,9 +26,11 @@ use Rattle.lis_link.specs.Representation.{IsIn, IsStepMade, RefusesFrame, SpareA
 use Rattle.lis_link.specs.Receiver.{ReceiverState, ReceiverStep, ReceiverHearing, answers, answered_request, classified}
 use Rattle.lis_link.specs.Receiver.{on_classified, heard_by, heard, on_byte, on_bytes, heard_on, with_heard}
 use Rattle.lis_link.proofs.HearingLaws.{passed, on_byte-quiet}
+use Rattle.lis_careful.specs.Careful.{AreUnspecial, begins_within, is_altered, is_noise, is_special, heard_only}
 use Rattle.lis_careful.specs.Careful.{ends_session, session_ended, heard_as, careful_by, on_byte_carefully}
-use Rattle.lis_careful.specs.Careful.{on_bytes_carefully, heard_only}
-use Rattle.lis_careful.specs.inside.Hearing.{HearsFrontCarefully, begins_within, is_altered, is_special, AreUnspecial}
+use Rattle.lis_careful.specs.Careful.{on_bytes_by, on_bytes_carefully, noise_by, noise_in, noise_of, counted_on}
+use Rattle.lis_careful.specs.declared.receiver.CarefulHearing.{CarefulHearing}
+use Rattle.lis_careful.specs.inside.Hearing.{HearsFront}
 
 -- ---- one byte
 
@@ -67,14 +69,14 @@ pub on_byte-heard_only : (limit b : ℕ) (r : ReceiverState)
 on_byte-heard_only limit b r = ap (λ (p : List ℕ). record r { past = p }) (sym (on_byte-past limit b r))
 
 -- the end of a session is heard as EOT
-eot_ends : (limit : ℕ) (r : ReceiverState) → r.is_open ≡ true
+pub eot_ends : (limit : ℕ) (r : ReceiverState) → r.is_open ≡ true
     → on_byte limit EOT r ≡ record (session_ended r) {
       after = record r { is_open = false; past = EOT ∷ r.past };
     }
 unfolding signal_after
 eot_ends limit r is_open = rw is_open refl
 
-forgets : (limit : ℕ) (kept : Kept) (r : ReceiverState) → IsIn limit kept (record r { past = EOT ∷ r.past })
+pub forgets : (limit : ℕ) (kept : Kept) (r : ReceiverState) → IsIn limit kept (record r { past = EOT ∷ r.past })
     → IsIn limit kept (record r { past = [] })
 unfolding StandsFor open_body
 forgets limit kept r is_in = record {
@@ -86,7 +88,7 @@ forgets limit kept r is_in = record {
   stream_is = is_in.stream_is;
 }
 
-open_then : (is_open ends : Bool) → (is_open && ends) ≡ true → is_open ≡ true
+pub open_then : (is_open ends : Bool) → (is_open && ends) ≡ true → is_open ≡ true
 open_then true ends e = refl
 open_then false ends e = e
 
@@ -232,6 +234,83 @@ unspecial_goes_on limit (b ∷ xs) following r plain =
     first_and_rest limit b xs following r (unspecial_step limit b r plain.0)
     (unspecial_goes_on limit xs following (with_heard (b ∷ []) r) plain.1)
 
+-- no noise is among them
+not_noise : (is_open enquiry other within : Bool) → (is_open && (enquiry || other) || within) ≡ false
+    → (is_open && (enquiry || within)) ≡ false
+not_noise true true other within e = cc
+not_noise true false true within e = cc
+not_noise true false false within e = e
+not_noise false enquiry other within e = refl
+
+pub plain_no_noise : (b : ℕ) (r : ReceiverState) → is_altered r b ≡ false → is_noise r b ≡ false
+plain_no_noise b r plain = not_noise r.is_open (b == ENQ) (b == EOT) (begins_within (open_body r.past) b) plain
+
+within_start : (within : Option (List ℕ)) (b : ℕ) → (b == STX) ≡ false → begins_within within b ≡ false
+within_start None b e = refl
+within_start (Some body) b e = e
+
+neither : (is_open enquiry within : Bool) → enquiry ≡ false → within ≡ false → (is_open && (enquiry || within)) ≡ false
+neither true enquiry within first second = rw (first, second) refl
+neither false enquiry within first second = refl
+
+unspecial_no_noise : (b : ℕ) (r : ReceiverState) → is_special b ≡ false → is_noise r b ≡ false
+unspecial_no_noise b r plain =
+    let others = second_false (b == STX) (b == ENQ || b == EOT) plain in
+    neither r.is_open (b == ENQ) (begins_within (open_body r.past) b) (first_false (b == ENQ) (b == EOT) others)
+    (within_start (open_body r.past) b (first_false (b == STX) (b == ENQ || b == EOT) plain))
+
+abbrev NoNoise : ℕ → List ℕ → List ℕ → ReceiverState → ReceiverHearing → Type 0
+NoNoise limit xs following r h =
+    noise_in limit (xs ++ following) r
+    ≡ counted_on 0 h.step.note (noise_in limit (drop h.count (xs ++ following)) h.step.after)
+
+none_more : (n : ℕ) → n ≡ 0 + n
+none_more n = omega arith
+
+none_counted : (note : Note) (n : ℕ) → 0 + counted_on 0 note n ≡ counted_on 0 note n
+none_counted note n = omega arith
+
+first_no_noise :
+    (limit b : ℕ) (xs following : List ℕ) (r : ReceiverState) → is_noise r b ≡ false
+    → on_byte_carefully limit b r ≡ on_byte limit b r
+    → NoNoise limit xs following (with_heard (b ∷ []) r) (on_bytes limit xs (with_heard (b ∷ []) r))
+    → NoNoise limit (b ∷ xs) following r (on_bytes limit (b ∷ xs) r)
+first_no_noise limit b xs following r none same later =
+    ap (λ t. counted_on (noise_of t) (on_byte_carefully limit b r).note
+    (noise_in limit (xs ++ following) (on_byte_carefully limit b r).after)) none
+    ∙ ap (λ (s : ReceiverStep). counted_on 0 s.note (noise_in limit (xs ++ following) s.after)) same
+    ∙ by (on_byte limit b r).note refl later
+  where
+    by :
+        (note : Note) → (on_byte limit b r).note ≡ note
+        → NoNoise limit xs following (with_heard (b ∷ []) r) (on_bytes limit xs (with_heard (b ∷ []) r))
+        → counted_on 0 note (noise_in limit (xs ++ following) (on_byte limit b r).after)
+        ≡ counted_on 0
+        (heard_on 1 note (on_byte limit b r) (on_bytes limit xs (with_heard (b ∷ []) r))).step.note
+        (noise_in limit
+        (drop (heard_on 1 note (on_byte limit b r) (on_bytes limit xs (with_heard (b ∷ []) r))).count
+        (b ∷ (xs ++ following)))
+        (heard_on 1 note (on_byte limit b r) (on_bytes limit xs (with_heard (b ∷ []) r))).step.after)
+    by Quiet e later =
+        let h : ReceiverHearing = on_bytes limit xs (with_heard (b ∷ []) r) in
+        let after_is : (on_byte limit b r).after ≡ with_heard (b ∷ []) r =
+        ap (λ (s : ReceiverStep). s.after) (on_byte-quiet limit b r e) in
+        let further : 1 + h.count ≡ suc h.count = omega arith in
+        ap (λ (s : ReceiverState). 0 + noise_in limit (xs ++ following) s) after_is
+        ∙ ap (λ n. 0 + n) later
+        ∙ none_counted h.step.note (noise_in limit (drop h.count (xs ++ following)) h.step.after)
+        ∙ ap (λ n. counted_on 0 h.step.note (noise_in limit (drop n (b ∷ (xs ++ following))) h.step.after))
+        (sym further)
+    by note e later = ap (λ m. counted_on 0 m
+        (noise_in limit (xs ++ following) (on_byte limit b r).after)) (sym e)
+
+unspecial_none : (limit : ℕ) (xs following : List ℕ) (r : ReceiverState) → AreUnspecial xs
+    → NoNoise limit xs following r (on_bytes limit xs r)
+unspecial_none limit [] following r plain = none_more (noise_in limit following r)
+unspecial_none limit (b ∷ xs) following r plain =
+    first_no_noise limit b xs following r (unspecial_no_noise b r plain.0) (unspecial_step limit b r plain.0)
+    (unspecial_none limit xs following (with_heard (b ∷ []) r) plain.1)
+
 -- what is quiet of them changes the stream alone
 on_bytes-quiet : (limit : ℕ) (xs : List ℕ) (r : ReceiverState) → (on_bytes limit xs r).step.note ≡ Quiet
     → (on_bytes limit xs r).step ≡ answers None Quiet (heard_only (on_bytes limit xs r).step r)
@@ -268,6 +347,10 @@ on_bytes-past limit (b ∷ xs) r = by (on_byte limit b r).note (on_bytes-past li
         later ∙ ap (λ n. stream_with r.past (take n (b ∷ xs))) further
     by note later = on_byte-past limit b r
 
+-- bytes of which none is noise
+abbrev pub quietly : Hearing → CarefulHearing
+quietly h = record { count = h.count; noise = 0; step = h.step }
+
 -- the front is what the receiver hears at once of bytes of which the first is not altered and the others not special
 not_altered : (limit b : ℕ) (r : ReceiverState) → is_altered r b ≡ false
     → on_byte_carefully limit b r ≡ on_byte limit b r
@@ -288,7 +371,7 @@ pub front_plain :
     → (result.step.note ≡ OutOfMemory → RefusesFrame limit spare (on_bytes limit (b ∷ xs) r).step
     (with_heard (take result.count (b ∷ xs)) r) result.step new)
     → SpareAfter spare new.spare (on_bytes limit (b ∷ xs) r).step.taken
-    → HearsFrontCarefully limit bytes r spare result new
+    → HearsFront limit (on_byte_carefully limit) bytes r spare (quietly result) new
 front_plain limit b bytes xs following r spare result new bytes_are plain others count_is makes refused spare_after =
     let h : ReceiverHearing = on_bytes limit (b ∷ xs) r in
     let all : on_bytes_carefully limit ((b ∷ xs) ++ following) r
@@ -296,6 +379,10 @@ front_plain limit b bytes xs following r spare result new bytes_are plain others
     (on_bytes_carefully limit (drop h.count ((b ∷ xs) ++ following)) h.step.after) =
     first_and_rest limit b xs following r (not_altered limit b r plain)
     (unspecial_goes_on limit xs following (with_heard (b ∷ []) r) others) in
+    let noise : noise_in limit ((b ∷ xs) ++ following) r
+    ≡ counted_on 0 h.step.note (noise_in limit (drop h.count ((b ∷ xs) ++ following)) h.step.after) =
+    first_no_noise limit b xs following r (plain_no_noise b r plain) (not_altered limit b r plain)
+    (unspecial_none limit xs following (with_heard (b ∷ []) r) others) in
     let past_is : stream_with r.past (take result.count (b ∷ xs)) ≡ h.step.after.past =
     ap (λ n. stream_with r.past (take n (b ∷ xs))) count_is ∙ sym (on_bytes-past limit (b ∷ xs) r) in
     record {
@@ -305,6 +392,10 @@ front_plain limit b bytes xs following r spare result new bytes_are plain others
           (on_bytes_carefully limit (drop result.count ys) h.step.after)) (sym bytes_are)
           (all ∙ ap (λ n. heard_on n h.step.note h.step
           (on_bytes_carefully limit (drop n ((b ∷ xs) ++ following)) h.step.after)) (sym count_is));
+      noise_is = subst (λ (ys : List ℕ). noise_in limit ys r
+          ≡ counted_on 0 h.step.note (noise_in limit (drop result.count ys) h.step.after)) (sym bytes_are)
+          (noise ∙ ap (λ n. counted_on 0 h.step.note
+          (noise_in limit (drop n ((b ∷ xs) ++ following)) h.step.after)) (sym count_is));
       quiet = on_bytes-quiet limit (b ∷ xs) r;
       makes = makes;
       refused = λ oom. subst (λ (p : List ℕ). RefusesFrame limit spare h.step (record r { past = p }) result.step new)
@@ -338,34 +429,39 @@ refused_more limit spare before step r result new less h = record {
 }
 
 -- the front of bytes is one byte
-pub front_byte_carefully :
-    (limit b : ℕ) (bytes : List ℕ) (r : ReceiverState) (spare : ℕ) (result : Step) (new : Kept) → 0 < length bytes
-    → b ≡ get_or bytes 0 0
-    → (result.note ≢ OutOfMemory → IsStepMade limit (on_byte_carefully limit b r) result new)
-    → (result.note ≡ OutOfMemory → RefusesFrame limit spare (on_byte_carefully limit b r)
-    (heard_only (on_byte_carefully limit b r) r) result new)
-    → SpareAfter spare new.spare (on_byte_carefully limit b r).taken
-    → HearsFrontCarefully limit bytes r spare (record { count = 1; step = result }) new
-front_byte_carefully limit b [] r spare result new some is makes refused spare_after = absurd (omega arith)
-front_byte_carefully limit b (c ∷ following) r spare result new some is makes refused spare_after = record {
-  meant = on_byte_carefully limit b r;
-  goes_on = ap (λ x. on_bytes_carefully limit (x ∷ following) r) (sym is);
-  quiet = careful-quiet limit b r;
-  makes = makes;
-  refused = refused;
-  spare_after = spare_after;
-}
+pub careful-quiet : (limit b : ℕ) (r : ReceiverState) → (on_byte_carefully limit b r).note ≡ Quiet
+    → on_byte_carefully limit b r ≡ answers None Quiet (heard_only (on_byte_carefully limit b r) r)
+careful-quiet limit b r = by (ends_session r b)
   where
-    careful-quiet : (limit b : ℕ) (r : ReceiverState) → (on_byte_carefully limit b r).note ≡ Quiet
-        → on_byte_carefully limit b r ≡ answers None Quiet (heard_only (on_byte_carefully limit b r) r)
-    careful-quiet limit b r = by (ends_session r b)
-      where
-        by : (ends : Bool) → (careful_by ends limit b r).note ≡ Quiet
-            → careful_by ends limit b r ≡ answers None Quiet (heard_only (careful_by ends limit b r) r)
-        by true e = cc
-        by false e =
-            let c : ℕ = heard_as (open_body r.past) b in
-            on_byte-quiet limit c r e ∙ ap (λ (s : ReceiverState). answers None Quiet s) (on_byte-heard_only limit c r)
+    by : (ends : Bool) → (careful_by ends limit b r).note ≡ Quiet
+        → careful_by ends limit b r ≡ answers None Quiet (heard_only (careful_by ends limit b r) r)
+    by true e = cc
+    by false e =
+        let c : ℕ = heard_as (open_body r.past) b in
+        on_byte-quiet limit c r e ∙ ap (λ (s : ReceiverState). answers None Quiet s) (on_byte-heard_only limit c r)
+
+pub front_byte :
+    (limit : ℕ) (hear : ℕ → ReceiverState → ReceiverStep) (b noise : ℕ) (bytes : List ℕ) (r : ReceiverState)
+    (spare : ℕ) (result : Step) (new : Kept) → 0 < length bytes
+    → ((hear b r).note ≡ Quiet → hear b r ≡ answers None Quiet (heard_only (hear b r) r))
+    → b ≡ get_or bytes 0 0 → noise ≡ noise_of (is_noise r b)
+    → (result.note ≢ OutOfMemory → IsStepMade limit (hear b r) result new)
+    → (result.note ≡ OutOfMemory → RefusesFrame limit spare (hear b r) (heard_only (hear b r) r) result new)
+    → SpareAfter spare new.spare (hear b r).taken
+    → HearsFront limit hear bytes r spare (record { count = 1; noise = noise; step = result }) new
+front_byte limit hear b noise [] r spare result new some quiet is counted makes refused spare_after =
+    absurd (omega (some, arith))
+front_byte limit hear b noise (c ∷ following) r spare result new some quiet is counted makes refused spare_after =
+    record {
+      meant = hear b r;
+      goes_on = ap (λ x. on_bytes_by hear (x ∷ following) r) (sym is);
+      noise_is = ap (λ x. noise_by hear (x ∷ following) r) (sym is)
+          ∙ ap (λ n. counted_on n (hear b r).note (noise_by hear following (hear b r).after)) (sym counted);
+      quiet = quiet;
+      makes = makes;
+      refused = refused;
+      spare_after = spare_after;
+    }
 
 -- what is heard of an LF says whether the stream ends within a frame
 pub within_by : (limit : ℕ) (reported : Option Heard) (past : List ℕ)
@@ -388,63 +484,87 @@ within_by limit reported past = by (open_body past) reported
 -- ---- bytes
 
 -- so many bytes were heard, and each was quiet: nothing but the stream has changed
-pub record IsHearingCarefully (limit : ℕ) (bytes : List ℕ) (r : ReceiverState) (spare count : ℕ) (kept : Kept) :
-    Type 0 where
+pub record IsHearing (limit : ℕ) (hear : ℕ → ReceiverState → ReceiverStep) (bytes : List ℕ) (r : ReceiverState)
+    (spare count noise : ℕ) (kept : Kept) : Type 0 where
   pub at : ReceiverState
   pub only : at ≡ record r { past = at.past }
   pub state : IsIn limit kept at
-  pub goes_on : on_bytes_carefully limit bytes r ≡ passed count (on_bytes_carefully limit (drop count bytes) at)
+  pub goes_on : on_bytes_by hear bytes r ≡ passed count (on_bytes_by hear (drop count bytes) at)
+  pub noise_is : noise_by hear bytes r ≡ noise + noise_by hear (drop count bytes) at
   pub spare_kept : spare ≤ kept.spare
 
-pub hears_none : (limit : ℕ) (bytes : List ℕ) (r : ReceiverState) (kept : Kept) → IsIn limit kept r
-    → IsHearingCarefully limit bytes r kept.spare 0 kept
-hears_none limit bytes r kept is_in = record {
+pub hears_none : (limit : ℕ) (hear : ℕ → ReceiverState → ReceiverStep) (bytes : List ℕ) (r : ReceiverState)
+    (kept : Kept) → IsIn limit kept r → IsHearing limit hear bytes r kept.spare 0 0 kept
+hears_none limit hear bytes r kept is_in = record {
   at = r;
   only = refl;
   state = is_in;
-  goes_on = passed-none (on_bytes_carefully limit bytes r);
+  goes_on = passed-none (on_bytes_by hear bytes r);
+  noise_is = none_more (noise_by hear bytes r);
   spare_kept = omega arith;
 }
 
 -- the answer to bytes is that of the definition
-pub record IsHeardCarefully (limit : ℕ) (bytes : List ℕ) (r : ReceiverState) (spare : ℕ) (hearing : Hearing)
-    (new : Kept) : Type 0 where
-  pub count_is : hearing.count ≡ (on_bytes_carefully limit bytes r).count
-  pub makes : hearing.step.note ≢ OutOfMemory
-      → IsStepMade limit (on_bytes_carefully limit bytes r).step hearing.step new
+pub record IsHeard (limit : ℕ) (hear : ℕ → ReceiverState → ReceiverStep) (bytes : List ℕ) (r : ReceiverState)
+    (spare : ℕ) (hearing : CarefulHearing) (new : Kept) : Type 0 where
+  pub count_is : hearing.count ≡ (on_bytes_by hear bytes r).count
+  pub noise_is : hearing.noise ≡ noise_by hear bytes r
+  pub makes : hearing.step.note ≢ OutOfMemory → IsStepMade limit (on_bytes_by hear bytes r).step hearing.step new
   pub refused : hearing.step.note ≡ OutOfMemory
-      → RefusesFrame limit spare (on_bytes_carefully limit bytes r).step
-      (heard_only (on_bytes_carefully limit bytes r).step r) hearing.step new
-  pub spare_after : SpareAfter spare new.spare (on_bytes_carefully limit bytes r).step.taken
+      → RefusesFrame limit spare (on_bytes_by hear bytes r).step
+      (heard_only (on_bytes_by hear bytes r).step r) hearing.step new
+  pub spare_after : SpareAfter spare new.spare (on_bytes_by hear bytes r).step.taken
 
 abbrev pub quiet_answer : Step
 quiet_answer = record { reply = None; message = None; note = Quiet }
 
-module _ (limit : ℕ) (bytes : List ℕ) (r : ReceiverState) (spare count : ℕ) (kept : Kept) (more : Hearing)
-    (new : Kept) where
+counted_more : (m n following : ℕ) (note : Note) → m + counted_on n note following ≡ counted_on (m + n) note following
+counted_more m n following Quiet = omega arith
+counted_more m n following _ = refl
+
+counted-loud : (n following : ℕ) (note : Note) → note ≢ Quiet → counted_on n note following ≡ n
+counted-loud n following Quiet loud = absurd (loud refl)
+counted-loud n following _ loud = refl
+
+module _ (limit : ℕ) (hear : ℕ → ReceiverState → ReceiverStep) (bytes : List ℕ) (r : ReceiverState)
+    (spare count noise : ℕ) (kept : Kept) (more : CarefulHearing) (new : Kept) where
   goes_on_more :
-      (hearing : IsHearingCarefully limit bytes r spare count kept)
-      → (front : HearsFrontCarefully limit (drop count bytes) hearing.at kept.spare more new)
-      → on_bytes_carefully limit bytes r ≡ heard_on (count + more.count) front.meant.note front.meant
-      (on_bytes_carefully limit (drop (count + more.count) bytes) front.meant.after)
+      (hearing : IsHearing limit hear bytes r spare count noise kept)
+      → (front : HearsFront limit hear (drop count bytes) hearing.at kept.spare more new)
+      → on_bytes_by hear bytes r ≡ heard_on (count + more.count) front.meant.note front.meant
+      (on_bytes_by hear (drop (count + more.count) bytes) front.meant.after)
   goes_on_more hearing front =
       hearing.goes_on
       ∙ ap (passed count) front.goes_on
       ∙ passed-heard_on count more.count front.meant.note front.meant
-      (on_bytes_carefully limit (drop more.count (drop count bytes)) front.meant.after)
+      (on_bytes_by hear (drop more.count (drop count bytes)) front.meant.after)
       ∙ ap (λ xs. heard_on (count + more.count) front.meant.note front.meant
-      (on_bytes_carefully limit xs front.meant.after)) (drop-drop more.count count bytes)
+      (on_bytes_by hear xs front.meant.after)) (drop-drop more.count count bytes)
+
+  noise_more :
+      (hearing : IsHearing limit hear bytes r spare count noise kept)
+      → (front : HearsFront limit hear (drop count bytes) hearing.at kept.spare more new)
+      → noise_by hear bytes r ≡ counted_on (noise + more.noise) front.meant.note
+      (noise_by hear (drop (count + more.count) bytes) front.meant.after)
+  noise_more hearing front =
+      hearing.noise_is
+      ∙ ap (λ n. noise + n) front.noise_is
+      ∙ counted_more noise more.noise (noise_by hear (drop more.count (drop count bytes)) front.meant.after)
+      front.meant.note
+      ∙ ap (λ xs. counted_on (noise + more.noise) front.meant.note (noise_by hear xs front.meant.after))
+      (drop-drop more.count count bytes)
 
   same_rest : (at : ReceiverState) (past : List ℕ) → at ≡ record r { past = at.past }
       → record at { past = past } ≡ record r { past = past }
   same_rest at past only = ap (λ (s : ReceiverState). record s { past = past }) only
 
   -- bytes that are quiet too
-  pub hears_more_carefully :
-      (hearing : IsHearingCarefully limit bytes r spare count kept)
-      → HearsFrontCarefully limit (drop count bytes) hearing.at kept.spare more new
-      → more.step.note ≡ Quiet → IsHearingCarefully limit bytes r spare (count + more.count) new
-  hears_more_carefully hearing front is_quiet =
+  pub hears_more :
+      (hearing : IsHearing limit hear bytes r spare count noise kept)
+      → HearsFront limit hear (drop count bytes) hearing.at kept.spare more new
+      → more.step.note ≡ Quiet
+      → IsHearing limit hear bytes r spare (count + more.count) (noise + more.noise) new
+  hears_more hearing front is_quiet =
       let fine : more.step.note ≢ OutOfMemory = λ e. cc in
       let made = front.makes fine in
       let note_is : front.meant.note ≡ Quiet = sym made.answer.note_is ∙ is_quiet in
@@ -459,26 +579,30 @@ module _ (limit : ℕ) (bytes : List ℕ) (r : ReceiverState) (spare count : ℕ
         only = after_is ∙ same_rest hearing.at front.meant.after.past hearing.only;
         state = made.state;
         goes_on = goes_on_more hearing front ∙ ap (λ note. heard_on (count + more.count) note front.meant
-            (on_bytes_carefully limit (drop (count + more.count) bytes) front.meant.after)) note_is;
+            (on_bytes_by hear (drop (count + more.count) bytes) front.meant.after)) note_is;
+        noise_is = noise_more hearing front ∙ ap (λ note. counted_on (noise + more.noise) note
+            (noise_by hear (drop (count + more.count) bytes) front.meant.after)) note_is;
         spare_kept = omega (arith, hearing.spare_kept);
       }
 
   -- or bytes whose last is not quiet
-  pub hears_last_carefully :
-      (hearing : IsHearingCarefully limit bytes r spare count kept)
-      → HearsFrontCarefully limit (drop count bytes) hearing.at kept.spare more new
+  pub hears_last :
+      (hearing : IsHearing limit hear bytes r spare count noise kept)
+      → HearsFront limit hear (drop count bytes) hearing.at kept.spare more new
       → more.step.note ≢ Quiet
-      → IsHeardCarefully limit bytes r spare (record { count = count + more.count; step = more.step }) new
-  hears_last_carefully hearing front loud =
+      → IsHeard limit hear bytes r spare
+      (record { count = count + more.count; noise = noise + more.noise; step = more.step }) new
+  hears_last hearing front loud =
       let meant_loud : front.meant.note ≢ Quiet = λ e.
       let taken_is : front.meant.taken ≡ None = ap (λ (s : ReceiverStep). s.taken) (front.quiet e) in
       let fine : more.step.note ≢ OutOfMemory = λ oom. let accepted = (front.refused oom).would_accept in cc in
       loud ((front.makes fine).answer.note_is ∙ e) in
-      let all : on_bytes_carefully limit bytes r ≡ record { count = count + more.count; step = front.meant } =
+      let all : on_bytes_by hear bytes r ≡ record { count = count + more.count; step = front.meant } =
       goes_on_more hearing front
       ∙ heard_on-loud (count + more.count) front.meant.note front.meant _ meant_loud in
       record {
         count_is = sym (ap (λ (h : ReceiverHearing). h.count) all);
+        noise_is = sym (noise_more hearing front ∙ counted-loud (noise + more.noise) _ front.meant.note meant_loud);
         makes = λ fine. subst (λ (h : ReceiverHearing). IsStepMade limit h.step more.step new) (sym all)
             (front.makes fine);
         refused = λ oom.
@@ -492,23 +616,28 @@ module _ (limit : ℕ) (bytes : List ℕ) (r : ReceiverState) (spare count : ℕ
             (more_spare spare kept.spare new.spare front.meant.taken hearing.spare_kept front.spare_after);
       }
 
-  -- all bytes were quiet
-  pub hears_all_carefully :
-      (hearing : IsHearingCarefully limit bytes r spare count kept) → length bytes ≤ count → count ≤ length bytes
-      → IsHeardCarefully limit bytes r spare (record { count = count; step = quiet_answer }) kept
-  hears_all_carefully hearing long short =
-      let none : drop count bytes ≡ [] = nil_from_length (drop count bytes) (omega (arith, length-drop count bytes)) in
-      let all : on_bytes_carefully limit bytes r
-      ≡ record { count = count + 0; step = answers None Quiet hearing.at } =
-      hearing.goes_on ∙ ap (λ xs. passed count (on_bytes_carefully limit xs hearing.at)) none in
-      record {
-        count_is = let counted = ap (λ (h : ReceiverHearing). h.count) all in omega arith;
-        makes = λ fine. subst (λ (h : ReceiverHearing). IsStepMade limit h.step quiet_answer kept) (sym all)
-            (record { answer = record { reply_is = refl; message_is = refl; note_is = refl }; state = hearing.state });
-        refused = λ oom. absurd cc;
-        spare_after = subst (λ (h : ReceiverHearing). SpareAfter spare kept.spare h.step.taken) (sym all)
-            hearing.spare_kept;
-      }
+-- all bytes were quiet
+pub hears_all :
+    (limit : ℕ) (hear : ℕ → ReceiverState → ReceiverStep) (bytes : List ℕ) (r : ReceiverState)
+    (spare count noise : ℕ) (kept : Kept)
+    → (hearing : IsHearing limit hear bytes r spare count noise kept) → length bytes ≤ count → count ≤ length bytes
+    → IsHeard limit hear bytes r spare (record { count = count; noise = noise; step = quiet_answer }) kept
+hears_all limit hear bytes r spare count noise kept hearing long short =
+    let none : drop count bytes ≡ [] = nil_from_length (drop count bytes) (omega (arith, length-drop count bytes)) in
+    let all : on_bytes_by hear bytes r
+    ≡ record { count = count + 0; step = answers None Quiet hearing.at } =
+    hearing.goes_on ∙ ap (λ xs. passed count (on_bytes_by hear xs hearing.at)) none in
+    let noise_all : noise_by hear bytes r ≡ noise + 0 =
+    hearing.noise_is ∙ ap (λ xs. noise + noise_by hear xs hearing.at) none in
+    record {
+      count_is = let counted = ap (λ (h : ReceiverHearing). h.count) all in omega (counted, arith);
+      noise_is = omega (noise_all, arith);
+      makes = λ fine. subst (λ (h : ReceiverHearing). IsStepMade limit h.step quiet_answer kept) (sym all)
+          (record { answer = record { reply_is = refl; message_is = refl; note_is = refl }; state = hearing.state });
+      refused = λ oom. absurd cc;
+      spare_after = subst (λ (h : ReceiverHearing). SpareAfter spare kept.spare h.step.taken) (sym all)
+          hearing.spare_kept;
+    }
 
 -- the front that is taken
 pub front_taken :
@@ -520,7 +649,7 @@ pub front_taken :
     → (result.step.note ≡ OutOfMemory → RefusesFrame limit spare (on_bytes limit front r).step
     (with_heard (take result.count front) r) result.step new)
     → SpareAfter spare new.spare (on_bytes limit front r).step.taken
-    → HearsFrontCarefully limit bytes r spare result new
+    → HearsFront limit (on_byte_carefully limit) bytes r spare (quietly result) new
 front_taken limit zero bytes front r spare result new some bound is plain others count_is makes refused spare_after =
     absurd (omega arith)
 front_taken limit (suc m) [] front r spare result new some bound is plain others count_is makes refused spare_after =

@@ -3,4 +3,5 @@ pub mod Careful
 pub mod World
 pub mod OneByte
 pub mod Laws
+pub mod Cost
 pub mod inside

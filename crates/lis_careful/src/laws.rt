@@ -1,6 +1,7 @@
 //! The laws of careful hearing, each the contract of a function that does nothing.
 
 ghost use Rattle.lis_frame.specs.Limit.{IsLimit};
+ghost use Rattle.lis_careful.specs.Cost.{CostsOneEnquiry, NakStaysNak};
 ghost use Rattle.lis_careful.specs.Laws.{AlwaysSafeCarefully, AreHistories};
 ghost use Rattle.lis_careful.specs.OneByte.{OneByteIsNoticed, OneByteMayMatter};
 
@@ -27,4 +28,17 @@ pub fn one_byte_is_noticed_of<const N: usize>()
 /// it still does one of the two.
 pub fn one_byte_may_matter()
     ensures { OneByteMayMatter }
+{}
+
+/// What it costs: who begins a session on an open line, as an analyzer does that gives one up without EOT, gets no
+/// reply to his ENQ. The next ENQ is answered ACK, and a session begins as on a line that isn't open. At every limit.
+pub fn costs_one_enquiry_of<const N: usize>()
+    requires { IsLimit N }
+    ensures { CostsOneEnquiry N }
+{}
+
+/// The same for what a sender hears: one changed bit makes neither ACK nor EOT out of NAK, and no other reply
+/// acknowledges a frame.
+pub fn nak_stays_nak()
+    ensures { NakStaysNak }
 {}

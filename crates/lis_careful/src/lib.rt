@@ -6,7 +6,9 @@ pub mod laws;
 mod receiver;
 
 pub use lis_link::{Hearing, ReceiverOf, Step};
-pub use receiver::{hear_byte, hear_bytes};
+pub use receiver::{
+    CarefulHearing, closes, hear_byte, hear_bytes, heard_as, is_altered, noise_of, plain_length,
+};
 
 #[cfg(test)]
 mod tests;

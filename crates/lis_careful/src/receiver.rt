@@ -5,8 +5,10 @@ ghost use Rattle.lis_frame.specs.Stream.{open_body};
 ghost use Rattle.lis_link.specs.declared.receiver.Note.TheVariants as Notes;
 ghost use Rattle.lis_link.specs.Receiver.{ReceiverState};
 ghost use Rattle.lis_link.specs.Representation.{IsIn, IsStepMade, RefusesFrame, SpareAfter, KeepsRoom, room_of};
-ghost use Rattle.lis_careful.specs.Careful.{ends_session, heard_as, on_byte_carefully, on_bytes_carefully, heard_only};
-ghost use Rattle.lis_careful.specs.inside.Hearing.{AreUnspecial, HearsFrontCarefully, begins_within, is_altered};
+ghost use Rattle.lis_careful.specs.Careful.{AreUnspecial, begins_within, ends_session, heard_as, heard_only};
+ghost use Rattle.lis_careful.specs.Careful.{is_altered, is_noise, noise_in, noise_of, on_byte_carefully};
+ghost use Rattle.lis_careful.specs.Careful.{on_bytes_carefully};
+ghost use Rattle.lis_careful.specs.inside.Hearing.{HearsFront};
 
 use lis_link::{Hearing, Note, ReceiverOf, Step};
 use lis_text::{ENQ, EOT, LF, STX};
@@ -14,6 +16,14 @@ use memchr::memchr3;
 
 /// Data link escape, which no frame may hold.
 pub(crate) const DLE: u8 = 0x10;
+
+/// What was heard of bytes: how many of them, how much of these was noise, and the step of the last one.
+#[derive(Debug, PartialEq, Eq, Drop)]
+pub struct CarefulHearing {
+    pub count: usize,
+    pub noise: usize,
+    pub step: Step,
+}
 
 /// A receiver hears one byte as `ReceiverOf::byte` has it, but that one damaged byte of a frame acknowledges nothing:
 /// while the line is open ENQ ends the session as EOT does, with no reply, and an STX inside an unfinished frame begins
@@ -38,12 +48,13 @@ pub fn hear_byte<const N: usize>(receiver: &mut ReceiverOf<N>, byte: u8) -> Step
 }
 
 /// A receiver hears bytes as `ReceiverOf::bytes` has it, each as `hear_byte` hears it: those up to the first that is
-/// not quiet, or all of them where each is quiet.
+/// not quiet, or all of them where each is quiet; and counts the noise among them.
 ///
 /// Memory may run out as for `ReceiverOf::byte`; but for the bytes heard the state is then as before.
-pub fn hear_bytes<const N: usize>(receiver: &mut ReceiverOf<N>, bytes: &[u8]) -> Hearing
+pub fn hear_bytes<const N: usize>(receiver: &mut ReceiverOf<N>, bytes: &[u8]) -> CarefulHearing
     ensures count { (r : ReceiverState) → IsIn N receiver.old r →
         result.count ≡ (on_bytes_carefully N bytes.now r).count }
+    ensures noise { (r : ReceiverState) → IsIn N receiver.old r → result.noise ≡ noise_in N bytes.now r }
     ensures step { (r : ReceiverState) → IsIn N receiver.old r → result.step.note ≢ Notes.OutOfMemory →
         IsStepMade N (on_bytes_carefully N bytes.now r).step result.step receiver.new }
     ensures refused { (r : ReceiverState) → IsIn N receiver.old r → result.step.note ≡ Notes.OutOfMemory →
@@ -57,18 +68,26 @@ pub fn hear_bytes<const N: usize>(receiver: &mut ReceiverOf<N>, bytes: &[u8]) ->
     ensures bound { result.count ≤ length bytes.now }
     ensures some { 0 < length bytes.now → 0 < result.count }
     ensures all { result.step.note ≡ Notes.Quiet → result.count ≡ length bytes.now }
+    ensures few { result.noise ≤ result.count }
 {
     let mut count = 0;
+    let mut noise = 0;
     while count < bytes.len() {
-        let Hearing { count: more, step } = hear_front(receiver, &bytes[count..]);
+        let CarefulHearing {
+            count: more,
+            noise: louder,
+            step,
+        } = hear_front(receiver, &bytes[count..]);
         count += more;
+        noise += louder;
         match step.note {
             Note::Quiet => {}
-            _ => return Hearing { count, step },
+            _ => return CarefulHearing { count, noise, step },
         }
     }
-    Hearing {
+    CarefulHearing {
         count,
+        noise,
         step: Step {
             reply: None,
             message: None,
@@ -79,27 +98,36 @@ pub fn hear_bytes<const N: usize>(receiver: &mut ReceiverOf<N>, bytes: &[u8]) ->
 
 /// Hears the front of bytes: the first byte, or all that the receiver hears at once of those up to the next one that
 /// may be heard as another.
-fn hear_front<const N: usize>(receiver: &mut ReceiverOf<N>, bytes: &[u8]) -> Hearing
+fn hear_front<const N: usize>(receiver: &mut ReceiverOf<N>, bytes: &[u8]) -> CarefulHearing
     requires { 0 < length bytes.now }
     ensures some { 0 < result.count }
     ensures bound { result.count ≤ length bytes.now }
+    ensures few { result.noise ≤ result.count }
     ensures front { (r : ReceiverState) → IsIn N receiver.old r →
-        HearsFrontCarefully N bytes.now r receiver.old.spare result receiver.new }
+        HearsFront N (on_byte_carefully N) bytes.now r receiver.old.spare result receiver.new }
     ensures room { KeepsRoom result.step.note result.step.message (room_of receiver.old) (room_of receiver.new) }
 {
     let byte = bytes[0];
     if is_altered(receiver, byte) {
-        return Hearing {
+        let noise = noise_of(receiver, byte);
+        return CarefulHearing {
             count: 1,
+            noise,
             step: hear_byte(receiver, byte),
         };
     }
     let (front, _) = bytes.split_at(plain_length(bytes));
-    receiver.bytes(front)
+    let Hearing { count, step } = receiver.bytes(front);
+    CarefulHearing {
+        count,
+        noise: 0,
+        step,
+    }
 }
 
-/// How many bytes are before the next STX, ENQ or EOT after the first byte.
-fn plain_length(bytes: &[u8]) -> usize
+/// How many bytes are before the next STX, ENQ or EOT after the first byte: if that one isn't altered, so many are
+/// heard as they are.
+pub fn plain_length(bytes: &[u8]) -> usize
     requires { 0 < length bytes.now }
     ensures some { 0 < result }
     ensures bound { result ≤ length bytes.now }
@@ -112,22 +140,34 @@ fn plain_length(bytes: &[u8]) -> usize
     }
 }
 
+/// How much noise this byte is: on an open line an ENQ, or an STX inside an unfinished frame, is 1.
+pub fn noise_of<const N: usize>(receiver: &ReceiverOf<N>, byte: u8) -> usize
+    ensures count { (r : ReceiverState) → IsIn N receiver.now r → result ≡ noise_of (is_noise r byte) }
+    ensures few { result ≤ 1 }
+{
+    if receiver.is_open() && (byte == ENQ || begins_within(receiver, byte)) {
+        1
+    } else {
+        0
+    }
+}
+
 /// Whether this byte is heard as another one, or leaves less of the stream.
-fn is_altered<const N: usize>(receiver: &ReceiverOf<N>, byte: u8) -> bool
+pub fn is_altered<const N: usize>(receiver: &ReceiverOf<N>, byte: u8) -> bool
     ensures { (r : ReceiverState) → IsIn N receiver.now r → result ≡ is_altered r byte }
 {
     closes(receiver, byte) || begins_within(receiver, byte)
 }
 
 /// Whether this byte ends the session.
-pub(crate) fn closes<const N: usize>(receiver: &ReceiverOf<N>, byte: u8) -> bool
+pub fn closes<const N: usize>(receiver: &ReceiverOf<N>, byte: u8) -> bool
     ensures { (r : ReceiverState) → IsIn N receiver.now r → result ≡ ends_session r byte }
 {
     receiver.is_open() && (byte == ENQ || byte == EOT)
 }
 
 /// What this byte is heard as, if it doesn't end the session.
-pub(crate) fn heard_as<const N: usize>(receiver: &ReceiverOf<N>, byte: u8) -> u8
+pub fn heard_as<const N: usize>(receiver: &ReceiverOf<N>, byte: u8) -> u8
     ensures { (r : ReceiverState) → IsIn N receiver.now r → result ≡ heard_as (open_body r.past) byte }
 {
     if begins_within(receiver, byte) {

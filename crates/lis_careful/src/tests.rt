@@ -41,10 +41,13 @@ fn one_damaged_byte_acknowledges_nothing(rt: HostRuntime) {
 fn an_enquiry_ends_a_session_and_the_next_one_begins_it(rt: HostRuntime) {
     let mut receiver = Receiver::new(rt.alloc());
     let heard = hear_bytes(&mut receiver, b"\x05\x021H");
-    assert!(rt; heard.count == 1 && matches!(heard.step.note, Note::Opened));
+    assert!(rt; heard.count == 1 && heard.noise == 0 && matches!(heard.step.note, Note::Opened));
     let heard = hear_bytes(&mut receiver, b"\x021H\x05");
     assert!(rt;
-        heard.count == 4 && matches!(heard.step.note, Note::Ended) && heard.step.reply.is_none()
+        heard.count == 4
+            && heard.noise == 1
+            && matches!(heard.step.note, Note::Ended)
+            && heard.step.reply.is_none()
     );
     let heard = hear_bytes(&mut receiver, b"\x05");
     assert!(rt; heard.step.reply == Some(0x06));

@@ -1,6 +1,6 @@
 use Rattle.std.proofs.Common.{sym, ap, ◌∙◌}
 use Rattle.lis_frame.specs.Stream.{open_body}
-use Rattle.lis_careful.specs.inside.Hearing.{begins_within}
+use Rattle.lis_careful.specs.Careful.{begins_within}
 use Rattle.lis_careful.proofs.Receiving.{within_by}
 use Rattle.lis_careful.proofs.receiver.begins_within.Goals as goal
 

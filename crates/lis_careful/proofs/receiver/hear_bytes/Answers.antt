@@ -2,14 +2,16 @@ use Rattle.std.proofs.Common.{arith, refl, length-drop, ◌∙◌}
 use Rattle.std.proofs.lemmas.List.{take_rest}
 use Rattle.lis_link.specs.Receiver.{ReceiverState}
 use Rattle.lis_link.specs.Representation.{IsIn}
-use Rattle.lis_careful.proofs.Receiving.{hears_none, hears_more_carefully, hears_last_carefully}
+use Rattle.lis_careful.specs.Careful.{on_byte_carefully}
+use Rattle.lis_careful.proofs.Receiving.{hears_none, hears_more, hears_last}
 use Rattle.lis_careful.proofs.receiver.hear_bytes.Goals as goal
 
 pub loop-count-init : goal.loop-count-init
 loop-count-init g c = record {
   bound = omega arith;
+  few = omega arith;
   room = refl;
-  hearing = λ r is_in. hears_none g.row.N c.args.bytes.now r c.args.receiver.now is_in;
+  hearing = λ r is_in. hears_none g.row.N (on_byte_carefully g.row.N) c.args.bytes.now r c.args.receiver.now is_in;
 }
 
 pub returns-in_default : goal.returns-in_default
@@ -19,11 +21,13 @@ returns-in_default g c =
     let hearing = i.hearing r is_in in
     let front = rw (take_rest c.args.bytes.now c.loop-count.count) at
     (c.hear_front-more.ensures.front _ hearing.state) in
-    hears_last_carefully g.row.N c.args.bytes.now r c.args.receiver.now.spare c.loop-count.count c.loop-count.receiver
+    hears_last g.row.N (on_byte_carefully g.row.N) c.args.bytes.now r c.args.receiver.now.spare c.loop-count.count
+    c.loop-count.noise c.loop-count.receiver
     c.hear_front-more.result c.hear_front-more.new.receiver
     hearing front c.in_default.not-Quiet in
     record {
       count = λ r is_in. (heard r is_in).count_is;
+      noise = λ r is_in. (heard r is_in).noise_is;
       step = λ r is_in. (heard r is_in).makes;
       refused = λ r is_in. (heard r is_in).refused;
       spare = λ r is_in. (heard r is_in).spare_after;
@@ -32,6 +36,7 @@ returns-in_default g c =
           omega (arith, length-drop c.loop-count.count c.args.bytes.now, more, i.bound);
       some = λ some. omega (arith, c.hear_front-more.ensures.some);
       all = λ e. absurd (c.in_default.not-Quiet e);
+      few = omega (arith, i.few, c.hear_front-more.ensures.few);
     }
 
 pub loop-count-preserved : goal.loop-count-preserved
@@ -40,13 +45,14 @@ loop-count-preserved g c =
     let more = rw (take_rest c.args.bytes.now c.loop-count.count) at c.hear_front-more.ensures.bound in
     record {
       bound = omega (arith, length-drop c.loop-count.count c.args.bytes.now, more, i.bound);
+      few = omega (arith, i.few, c.hear_front-more.ensures.few);
       room = rw c.in-Quiet.is at c.hear_front-more.ensures.room ∙ i.room;
       hearing = λ r is_in.
           let hearing = i.hearing r is_in in
           let front = rw (take_rest c.args.bytes.now c.loop-count.count) at
           (c.hear_front-more.ensures.front _ hearing.state) in
-          hears_more_carefully g.row.N c.args.bytes.now r c.args.receiver.now.spare c.loop-count.count
-          c.loop-count.receiver
+          hears_more g.row.N (on_byte_carefully g.row.N) c.args.bytes.now r c.args.receiver.now.spare
+          c.loop-count.count c.loop-count.noise c.loop-count.receiver
           c.hear_front-more.result c.hear_front-more.new.receiver
           hearing front c.in-Quiet.is;
     }

@@ -1,11 +1,20 @@
-use Rattle.std.proofs.Common.{sym, ◌∙◌}
-use Rattle.lis_careful.proofs.Receiving.{front_taken}
+use Rattle.std.proofs.Common.{refl, sym, get_or, ◌∙◌}
+use Rattle.lis_careful.specs.Careful.{on_byte_carefully}
+use Rattle.lis_careful.proofs.Receiving.{careful-quiet, front_byte, front_taken}
 use Rattle.lis_careful.proofs.receiver.hear_front.Goals as goal
+
+pub returns-then-is_altered-clause-front : goal.returns-then-is_altered-clause-front
+returns-then-is_altered-clause-front g c r is_in =
+    front_byte g.row.N (on_byte_carefully g.row.N) (get_or c.args.bytes.now 0 0) c.noise_of-noise.result
+    c.args.bytes.now r c.args.receiver.now.spare c.hear_byte.result c.hear_byte.new.receiver c.requires
+    (careful-quiet g.row.N (get_or c.args.bytes.now 0 0) r) refl
+    (c.noise_of-noise.ensures.count r is_in) (c.hear_byte.ensures.step r is_in)
+    (c.hear_byte.ensures.refused r is_in) (c.hear_byte.ensures.spare r is_in)
 
 pub returns-clause-front : goal.returns-clause-front
 returns-clause-front g c r is_in =
     front_taken g.row.N c.plain_length.result c.args.bytes.now c.split_at.result.0.now r c.args.receiver.now.spare
-    c.bytes.result c.bytes.new.self c.plain_length.ensures.some c.plain_length.ensures.bound c.split_at.ensures.front
-    (sym (c.is_altered.ensures r is_in) ∙ c.if-is_altered.false) c.plain_length.ensures.plain
-    (c.bytes.ensures.count r is_in) (c.bytes.ensures.step r is_in) (c.bytes.ensures.refused r is_in)
-    (c.bytes.ensures.spare r is_in)
+    c.bytes-count.result c.bytes-count.new.self c.plain_length.ensures.some c.plain_length.ensures.bound
+    c.split_at.ensures.front (sym (c.is_altered.ensures r is_in) ∙ c.if-is_altered.false)
+    c.plain_length.ensures.plain (c.bytes-count.ensures.count r is_in) (c.bytes-count.ensures.step r is_in)
+    (c.bytes-count.ensures.refused r is_in) (c.bytes-count.ensures.spare r is_in)

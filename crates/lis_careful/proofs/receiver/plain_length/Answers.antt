@@ -1,5 +1,5 @@
 use Rattle.std.proofs.Common.{◌≡◌, ◌+◌, ◌-◌, length, take, length-drop, subst, arith}
-use Rattle.lis_careful.specs.inside.Hearing.{AreUnspecial}
+use Rattle.lis_careful.specs.Careful.{AreUnspecial}
 use Rattle.lis_careful.proofs.Receiving.{plain_before}
 use Rattle.lis_careful.proofs.receiver.plain_length.Goals as goal
 

@@ -1,0 +1,4 @@
+-- A station whose receiver hears carefully.
+pub mod Station
+pub mod Laws
+pub mod inside
