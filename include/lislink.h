@@ -49,11 +49,11 @@
 /* The version of the interface: what this header has stays in it. */
 #define LIS_INTERFACE 1
 /* The release that this header is of, as the file VERSION has it; lis_version() has that of the library. */
-#define LIS_VERSION "0.1.0"
+#define LIS_VERSION "0.2.0"
 /* Its first number. */
 #define LIS_VERSION_MAJOR 0
 /* Its second number. */
-#define LIS_VERSION_MINOR 1
+#define LIS_VERSION_MINOR 2
 /* Its third number. */
 #define LIS_VERSION_PATCH 0
 
@@ -444,6 +444,15 @@ lis_status lis_receiver_reserve(lis_receiver *s, uint64_t bytes);
  * frame with which its text would have more is answered NAK and not taken: LIS_NOTE_TOO_LONG. LIS_STATUS_TOO_LONG if it
  * is over LIS_LIMIT_TEXT_BYTES: then nothing has changed. */
 lis_status lis_receiver_set_text_limit(lis_receiver *s, size_t bytes);
+/* Says whether the receiver hears carefully from now on; it doesn't after _init, and _set_limit and _restart leave it.
+ * Give it true after _init: then one damaged byte of a frame acknowledges nothing. lis_receiver_hear and
+ * lis_receiver_byte follow it. An ENQ on an open line, also one that was a byte of a frame, ends the session as EOT
+ * does, with no reply: LIS_NOTE_ENDED. An analyzer that begins anew without EOT is answered at its next ENQ. An STX
+ * inside an unfinished frame begins none, and that frame is answered NAK. All else is heard as it is without it. */
+void lis_receiver_set_careful(lis_receiver *s, bool careful);
+/* How much noise was heard carefully since _init or _set_limit: each ENQ on an open line, and each STX inside an
+ * unfinished frame of one. It grows by what lis_receiver_hear and lis_receiver_byte hear. */
+uint64_t lis_receiver_noise(const lis_receiver *s);
 /* Whether the line is open, and so the receiver's timer runs. */
 bool lis_receiver_is_open(const lis_receiver *s);
 /* The same; `seconds` is how long it runs, and is always written, else as 0. Plain C, in src/c/connection.c. */
@@ -544,6 +553,11 @@ bool lis_station_turn_asked(const lis_station *s);
 /* For how many seconds this side should start no session, because the other side waits for its turn; 0 if it
  * doesn't. */
 uint32_t lis_station_turn_seconds(const lis_station *s);
+/* Says whether the station hears carefully from now on, as lis_receiver_set_careful; _begin and _restart leave it. A
+ * reply, which the sender hears, is heard as it is without it. */
+void lis_station_set_careful(lis_station *s, bool careful);
+/* As lis_receiver_noise, since _init or _begin. */
+uint64_t lis_station_noise(const lis_station *s);
 /* Whether the next byte is a reply. */
 bool lis_station_awaits_reply(const lis_station *s);
 /* As lis_receiver_reserve. */
@@ -861,7 +875,7 @@ lis_status lis_writer_text(const lis_writer *s, size_t place, uint8_t *out, size
 #endif
 /* ---- Words, for logs: plain C (src/c/names.c), tested and not proved. ---- */
 
-/* The release of the library, as LIS_VERSION: "0.1.0". */
+/* The release of the library, in the form of LIS_VERSION, which is that of the header. */
 const char *lis_version(void);
 /* A few English words for a constant of this family; "unknown" for any other number. So do the calls below. */
 const char *lis_status_text(lis_status status);

@@ -524,6 +524,11 @@ public:
     void restart() noexcept { lis_receiver_restart(get()); }
     // Says whether there is room for another frame from now on; without it a new frame is answered NAK.
     void set_room(bool room) noexcept { lis_receiver_set_room(get(), room); }
+    // Says whether it hears carefully from now on: then one damaged byte of a frame acknowledges nothing. An ENQ on an
+    // open line ends the session with no reply, and an STX inside an unfinished frame begins none.
+    void set_careful(bool careful) noexcept { lis_receiver_set_careful(get(), careful); }
+    // How many of these ENQ and STX it has heard carefully.
+    std::uint64_t noise() const noexcept { return lis_receiver_noise(get()); }
     // Says how ENQ is answered from now on.
     void set_ready(lis_ready readiness) noexcept { (void)lis_receiver_set_ready(get(), readiness); }
     // Makes room for so many more bytes of text, and as much for the text after it: so once no text is longer, none

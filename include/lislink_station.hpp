@@ -209,6 +209,9 @@ public:
     }
     // Says whether the other side gets the line from now on: its ENQ is answered ACK, or NAK.
     void set_ready(bool ready) noexcept { lis_station_set_ready(get(), ready); }
+    // Says whether it hears carefully from now on what is for its receiver, as receiver::set_careful.
+    void set_careful(bool careful) noexcept { lis_station_set_careful(get(), careful); }
+    std::uint64_t noise() const noexcept { return lis_station_noise(get()); }    // as receiver::noise
     // Makes room for so many more bytes of text, and as much for the text after it.
     [[nodiscard]] lis_status try_reserve(std::uint64_t bytes) noexcept { return lis_station_reserve(get(), bytes); }
 

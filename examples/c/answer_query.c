@@ -202,6 +202,7 @@ int main(int count, char **words) {
     if (count != 2 || !its.station.at || !its.reader.at || !its.orders.at || !open_texts(&its.store, words[1]))
         return 1;
     lis_station_init(its.station.at);                                     /* a computer's */
+    lis_station_set_careful(&its.station, true);                          /* a damaged byte acknowledges nothing */
     lis_reader_init(its.reader.at);
     lis_writer_init(its.orders.at);
     int status = run(&its, 0);

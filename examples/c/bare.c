@@ -1,6 +1,9 @@
 /* Without a C library: a scanner hears a frame that lis_frame_write wrote, a sender and a receiver talk over a
- * pool of 8 KiB, and a sender sends texts from read-only memory. On x86-64 Linux its exit status is 0 where all went
- * well, else the number of what did not. */
+ * pool of 8 KiB, and a sender sends texts from read-only memory. It takes the proved code as assembler and no more:
+ *
+ *     cc -nostdlib -static -ffreestanding -Iinclude bare.c dist/x86_64-linux/lis_c.s
+ *
+ * Only its start and its end are Linux's: the exit status is 0 where all went well, else the number of what did not. */
 #include "lislink.h"
 
 /* The three copies that a compiler expects of every program. */
@@ -99,6 +102,7 @@ static int carry_a_text(void) {
         return 5;
     lis_sender_init(sender.at);
     lis_receiver_init(receiver.at);
+    lis_receiver_set_careful(&receiver, true);    /* a damaged byte acknowledges nothing */
     memset(text, 'x', sizeof text);
     if (lis_sender_add_text(&sender, text, sizeof text) != LIS_STATUS_OK
         || lis_sender_start(&sender, &out, &fault) != LIS_STATUS_OK)
@@ -147,7 +151,20 @@ static int run(void) {
     return failed != 0 ? failed : send_lent_texts();
 }
 
-__attribute__((force_align_arg_pointer, noreturn)) void _start(void) {
-    __asm__ volatile("syscall" : : "a"(60), "D"(run()) : "rcx", "r11", "memory");
+static _Noreturn void leave(int status) {
+#ifdef __x86_64__
+    __asm__ volatile("syscall" : : "a"(60), "D"(status) : "rcx", "r11", "memory");
+#else
+    register long x0 __asm__("x0") = status;
+    register long x8 __asm__("x8") = 93;
+    __asm__ volatile("svc 0" : : "r"(x0), "r"(x8) : "memory");
+#endif
     __builtin_unreachable();
+}
+
+#ifdef __x86_64__
+__attribute__((force_align_arg_pointer))
+#endif
+_Noreturn void _start(void) {
+    leave(run());
 }

@@ -82,6 +82,7 @@ int host(int line, host_takes *takes, void *keeper, int percent) {
     if (work.receiver.at == NULL)
         return -1;
     lis_receiver_init(work.receiver.at);
+    lis_receiver_set_careful(&work.receiver, true);    /* so that one damaged byte of a frame acknowledges nothing */
     while (got > 0) {
         /* The timer runs on while bytes come that mean nothing. */
         if (!await(&work)) {

@@ -69,6 +69,7 @@ int main(int count, char **words) {
     if (count != 2 || !open_texts(&store, words[1]) || receiver.at == NULL)
         return 1;
     lis_receiver_init(receiver.at);
+    lis_receiver_set_careful(&receiver, true);                            /* a damaged byte acknowledges nothing */
     while ((got = read_some(0, bytes, sizeof bytes, &since, &next)) > 0
            && hear(&receiver, bytes, (size_t)got, since, 0, &store))
         since = next;

@@ -127,7 +127,10 @@ class computer {
     }
 
 public:
-    computer(int line, text_file &store) : line_(line), store_(store) { station_.connected(); }
+    computer(int line, text_file &store) : line_(line), store_(store) {
+        station_.set_careful(true);    // a damaged byte acknowledges nothing
+        station_.connected();
+    }
 
     // Hears and sends until the line is closed or given up.
     void run() {

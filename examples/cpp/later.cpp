@@ -95,7 +95,9 @@ class session {
     }
 
 public:
-    session(line &its_line, store &its_store) : line_(its_line), store_(its_store) {}
+    session(line &its_line, store &its_store) : line_(its_line), store_(its_store) {
+        receiver_.set_careful(true);    // a damaged byte acknowledges nothing
+    }
 
     void listen() {
         before_ = clock_type::now();

@@ -25,6 +25,7 @@ int main(int count, char **words) {
     if (line < 0)
         return std::perror("quick_receive"), 1;
     lislink::receiver receiver;
+    receiver.set_careful(true);    // a damaged byte acknowledges nothing
     char bytes[512];
     auto empty = clock_type::now(), meant = empty;    // when the line was last seen empty; when bytes meant something
     for (;;) {

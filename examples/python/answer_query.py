@@ -45,7 +45,8 @@ class Computer:
     """The computer's side of one line."""
 
     def __init__(self, line: socket.socket, store: TextFile) -> None:
-        self.line, self.store, self.station = line, store, lislink.Station(lislink.Role.COMPUTER)
+        self.line, self.store = line, store
+        self.station = lislink.Station(lislink.Role.COMPUTER, careful=True)    # a damaged byte acknowledges nothing
         self.texts: list[bytes] = []            # of the analyzer's session
         self.samples: list[bytes] = []          # what it asked for
         self.due: Optional[float] = None

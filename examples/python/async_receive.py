@@ -23,7 +23,7 @@ PAUSE = 1  # second: a line that is idle is looked at so often
 async def receive(reader: asyncio.StreamReader, writer: asyncio.StreamWriter, store: TextFile) -> None:
     loop = asyncio.get_running_loop()
     seen_empty = now()                    # bytes came after this
-    with lislink.Receiver() as receiver:
+    with lislink.Receiver(careful=True) as receiver:    # a damaged byte acknowledges nothing
         while True:
             before, is_late = now(), False
             try:

@@ -18,7 +18,7 @@ import lislink
 
 def receive(line: socket.socket, store: TextFile) -> None:
     texts: list[bytes] = []
-    with lislink.Receiver() as receiver:
+    with lislink.Receiver(careful=True) as receiver:    # a damaged byte acknowledges nothing
         while data := line.recv(4096):
             for step in receiver.hear(data):
                 if step.note is lislink.Note.OPENED:

@@ -409,6 +409,8 @@ extern "C" {
     pub fn lis_receiver_set_ready(s: *mut lis_receiver, readiness: lis_ready) -> lis_status;
     pub fn lis_receiver_reserve(s: *mut lis_receiver, bytes: u64) -> lis_status;
     pub fn lis_receiver_set_text_limit(s: *mut lis_receiver, bytes: usize) -> lis_status;
+    pub fn lis_receiver_set_careful(s: *mut lis_receiver, careful: bool);
+    pub fn lis_receiver_noise(s: *const lis_receiver) -> u64;
     pub fn lis_receiver_is_open(s: *const lis_receiver) -> bool;
     pub fn lis_receiver_timer_seconds(s: *const lis_receiver, seconds: *mut u32) -> bool;
     pub fn lis_receiver_accepted(s: *const lis_receiver) -> u64;
@@ -460,6 +462,8 @@ extern "C" {
     pub fn lis_station_ask_turn(s: *mut lis_station);
     pub fn lis_station_turn_asked(s: *const lis_station) -> bool;
     pub fn lis_station_turn_seconds(s: *const lis_station) -> u32;
+    pub fn lis_station_set_careful(s: *mut lis_station, careful: bool);
+    pub fn lis_station_noise(s: *const lis_station) -> u64;
     pub fn lis_station_awaits_reply(s: *const lis_station) -> bool;
     pub fn lis_station_reserve(s: *mut lis_station, bytes: u64) -> lis_status;
     pub fn lis_station_phase(s: *const lis_station) -> lis_phase;

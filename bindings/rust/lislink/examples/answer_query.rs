@@ -165,6 +165,7 @@ fn main() -> io::Result<()> {
     let mut computer =
         Computer { line, store, texts, samples, is_sending: false, due: None, free_at: None };
     let mut station = Station::new(Role::Computer, FrameLimit::Usual).map_err(io::Error::other)?;
+    station.set_careful(true); // a damaged byte acknowledges nothing
     station.connected();
     computer.run(&mut station)
 }

@@ -49,6 +49,7 @@ async fn keep(store: &mut TextFile, text: &[u8]) -> io::Result<()> {
 /// Keeps each text and replies, until the line is closed.
 async fn receive(line: &mut impl Line, store: &mut TextFile) -> io::Result<()> {
     let (mut receiver, mut room) = (Receiver::new(), [0; 4096]);
+    receiver.set_careful(true); // a damaged byte acknowledges nothing
     let mut seen_empty = Instant::now(); // bytes came after this
     loop {
         let before = Instant::now();

@@ -32,6 +32,7 @@ fn read_some(
 fn main() -> io::Result<()> {
     let (mut line, mut store) = port::line_and_store("receive")?;
     let mut receiver = Receiver::new();
+    receiver.set_careful(true); // a damaged byte acknowledges nothing
     let mut bytes = [0; 4096];
     let mut empty = Instant::now();
     loop {

@@ -238,6 +238,18 @@ impl Receiver {
         unsafe { sys::lis_receiver_set_room(self.block.get(), room) };
     }
 
+    /// Says whether it hears carefully from now on: then one damaged byte of a frame acknowledges nothing. An ENQ on an
+    /// open line ends the session with no reply, and an STX inside an unfinished frame begins none.
+    pub fn set_careful(&mut self, careful: bool) {
+        unsafe { sys::lis_receiver_set_careful(self.block.get(), careful) };
+    }
+
+    /// How many of these ENQ and STX it has heard carefully.
+    #[must_use]
+    pub fn noise(&self) -> u64 {
+        unsafe { sys::lis_receiver_noise(&self.block.handle()) }
+    }
+
     /// Says how ENQ is answered from now on.
     ///
     /// # Errors

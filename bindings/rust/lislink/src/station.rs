@@ -260,6 +260,18 @@ impl Station {
         unsafe { sys::lis_station_set_ready(self.block.get(), ready) };
     }
 
+    /// Says whether it hears carefully from now on what is for its receiver, as
+    /// [`Receiver::set_careful`](crate::Receiver::set_careful).
+    pub fn set_careful(&mut self, careful: bool) {
+        unsafe { sys::lis_station_set_careful(self.block.get(), careful) };
+    }
+
+    /// As [`Receiver::noise`](crate::Receiver::noise).
+    #[must_use]
+    pub fn noise(&self) -> u64 {
+        unsafe { sys::lis_station_noise(&self.block.handle()) }
+    }
+
     /// Makes room for so many more bytes of text, and as much for the text after it.
     ///
     /// # Errors
