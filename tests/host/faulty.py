@@ -53,11 +53,11 @@ def early():
     slow_commits(0.05)
     step = line.Line._step
 
-    async def wrong(self, one, arrived):
+    async def wrong(self, one, *more):
         if one.text is not None:
             self._wire.write(one.reply)
             one = one._replace(reply=b"")
-        await step(self, one, arrived)
+        await step(self, one, *more)
 
     line.Line._step = wrong
 

@@ -35,7 +35,7 @@ class Part(NamedTuple):
 
 
 #: Kills of a host on each store, seconds of a store that fails, seconds of 200 analyzers, messages, kills under orders,
-#: reloads of a file of lines, messages over MLLP, kills of a delivery, random streams.
+#: reloads of a file of lines, messages over MLLP, kills of a delivery, sessions over a noisy wire, random streams.
 PARTS = {
     "kills": Part("test_kills.Kills.test_sqlite", 20, 1000),
     "spool": Part("test_kills.Kills.test_spool", 5, 250),
@@ -48,6 +48,7 @@ PARTS = {
     "reloads": Part("test_lines_file.LinesFile.test_reloads", 20, 100),
     "mllp": Part("test_mllp.Receivers.test_kills", 200, 1000),
     "deliveries": Part("test_deliver.Killed", 10, 100),
+    "noise": Part("test_noise.Noise.test_one_byte", 300, 10000),
     "streams": Part("test_intake.Streams.test_random_streams", 2000, 20000),
 }
 _SIZES = {name: part.gate for name, part in PARTS.items()}

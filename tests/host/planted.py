@@ -161,7 +161,9 @@ FAULTS = {
     "test_lines.Lines.test_one_address": Edit(
         "host/serve.py", "key=lambda line: line.last_byte", "key=lambda line: -line.last_byte"
     ),
-    "test_lines.Lines.test_long_frames": Edit("host/line.py", "Receiver(frame_limit=frame)", "Receiver()"),
+    "test_lines.Lines.test_long_frames": Edit(
+        "host/line.py", "Receiver(frame_limit=frame, careful=self._is_careful)", "Receiver(careful=self._is_careful)"
+    ),
     "test_lines.Lines.test_peers": Edit("host/serve.py", "if name is None:", "if name == 0:"),
     "test_lines.Lines.test_quarantine": Edit(
         "host/intake.py", "one.fault or _after(one, reason), changes", "_after(one, reason), changes"
@@ -234,6 +236,10 @@ FAULTS = {
     "test_mends.Mends.test_words": Edit(
         "host/options.py", "tuple(one for one in NAMES if one in given)", "tuple(given)"
     ),
+    "test_noise.Noise.test_one_byte": Edit("host/serve.py", "bool(place.careful)", "False"),
+    "test_noise.Careful.test_enq_and_stx": Edit("host/line.py", "            self._probe.noise(count)\n", ""),
+    "test_noise.Careful.test_anew": Edit("host/serve.py", "bool(place.careful)", "True"),
+    "test_noise.Careful.test_mends": Edit("host/feeds.py", "_ENDS if is_careful else _BREAKS", "_BREAKS"),
     "test_notices.Said.test_a_bad_line": Edit(
         "host/notices.py",
         "[kind] += 1\n            return\n",
@@ -435,7 +441,9 @@ FAULTS = {
         "host/serve.py", "Telnet() if self._end.place.telnet else None", "Telnet()"
     ),
     "test_telnet.Terminals.test_words": Edit(
-        "host/options.py", 'if word not in ("yes", "no"):', 'if word not in ("yes", "no", "on"):'
+        "host/options.py",
+        'if word not in ("yes", "no"):\n        raise OptionError(f"telnet',
+        'if word not in ("yes", "no", "on"):\n        raise OptionError(f"telnet',
     ),
     "test_turns.Turns.test_parts": Edit(
         "host/commits.py",

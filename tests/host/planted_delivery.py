@@ -45,6 +45,7 @@ FAULTS = {
         "        if self._unnoted is not None:\n            self._note(self._unnoted)\n",
         "",
     ),
+    "test_habits.Habits.test_forms": ("delivery/results.py", "if len(parts) == 4 else", "if len(parts) > 3 else"),
     "test_codes.Codes.test_any_message": (
         "delivery/results.py", "if one.results or", "if one.results[1:] or"
     ),
@@ -132,7 +133,7 @@ FAULTS = {
         "field/normalize.py", 'is_of_one or letter == b"R"', 'is_of_one or letter in (b"R", b"C", b"M", b"S")'
     ),
     "test_mllp.Oru.test_fields": ("delivery/oru.py", "10: control_id(one.key, place),", "10: one.line,"),
-    "test_mllp.Oru.test_page": ("delivery/oru.py", "25: _report(order, results),", "24: _report(order, results),"),
+    "test_mllp.Oru.test_page": ("delivery/oru.py", "25: _report(order, results)}", "24: _report(order, results)}"),
     "test_mllp.Oru.test_random": ("delivery/oru.py", 'r"[|^~\\\\&', 'r"[|^~\\\\'),
     "test_mllp.Oru.test_values": (
         "delivery/oru.py", 'return "SN", [number.comparator,', 'return "NM", [number.comparator,'
@@ -150,13 +151,24 @@ FAULTS = {
     "test_codes.Table.test_patterns": (
         "delivery/codes.py", "(-len(one.named()), not one.sent)", "(len(one.named()), not one.sent)"
     ),
+    "test_codes.Table.test_work": (
+        "delivery/results.py",
+        "return [_filled(parts, entry.encoding) for parts in entry.row.field(field)]",
+        "return [_filled(entry.row.field(field)[at], entry.encoding) for at in range(len(entry.row.field(field)))]",
+    ),
     "test_codes.Table.test_digits": (
         "delivery/numbers.py",
         "_EXACT.quantize(one.value, decimal.Decimal(1).scaleb(-digits))",
         "one.value.quantize(decimal.Decimal(1).scaleb(-digits), decimal.ROUND_HALF_UP)",
     ),
     "test_fhir.Fhir.test_names": (
-        "delivery/fhir.py", "{by_test['value']}\", updates=True)", "{by_test['value']}\", updates=False)"
+        "delivery/fhir.py", 'f"identifier={_OF_TEST}|{test}" if is_correction else name.search', "name.search"
+    ),
+    "test_fhir.Fhir.test_without_times": (
+        "delivery/fhir.py", "if not any(map(_has_clock, times)):", "if any(map(_has_clock, times)):"
+    ),
+    "test_fhir.Fhir.test_reports": (
+        "delivery/fhir.py", "is_correction and not self._turn(of)", "False"
     ),
     "test_fhir.Fhir.test_resources": ("delivery/fhir.py", '_REPORT = {"X": "cancelled"', '_REPORT = {"X": "final"'),
     "test_fhir.Fhir.test_wrong_structure": (
@@ -179,11 +191,17 @@ FAULTS = {
     "test_mllp.Oru.test_tables": (
         "delivery/oru.py", '10: result.nature if result.nature in _NATURES else "",', "10: result.nature,"
     ),
+    "test_mllp.Oru.test_numbers": (
+        "delivery/oru.py", "order.sample if placer == \"sample\" else \"\"", "order.sample"
+    ),
+    "test_mllp.Oru.test_specimens": (
+        "delivery/oru.py", "return _SPECIMENS.get(text.upper(), \"\"), text", "return _SPECIMENS.get(text, \"\"), text"
+    ),
     "test_mllp.Oru.test_ids": ("delivery/oru.py", "* 128 + place - 1", "* 64 + place - 1"),
     "test_mllp.Oru.test_codes": (
         "delivery/oru.py", '[result.ucum, result.unit, "UCUM"] if result.ucum', "[result.unit] if result.ucum"
     ),
-    "test_mllp.Oru.test_times": ("delivery/oru.py", "7: taken or told.at(first),", "7: taken,"),
+    "test_mllp.Oru.test_times": ("delivery/oru.py", "7: taken or told.at(first)}", "7: taken}"),
     "test_mllp.Oru.test_wishes": (
         "delivery/oru.py", "one.authority or authority, one.kind or kind]", "one.authority, one.kind]"
     ),

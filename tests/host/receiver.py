@@ -51,7 +51,7 @@ async def serve(port, log):
                 message = await reader.readmessage()
             except (asyncio.IncompleteReadError, ConnectionError):
                 break
-            row = (str(message[name]) for name in ("MSH.F10", "OBR.F2", "OBX.F5"))
+            row = (str(message[name]) for name in ("MSH.F10", "OBR.F3", "OBX.F5"))
             die(log, "before")
             await asyncio.sleep(random.random() / 500)
             with open(log, "a", encoding="utf-8") as file:

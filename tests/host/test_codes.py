@@ -7,6 +7,7 @@ import json
 import os
 import random
 import re
+import sys
 
 from lislink.delivery import codes, fhir, oru
 from lislink.delivery.failures import Quarantined
@@ -156,6 +157,24 @@ class Table(HostTest):
                                          "R|5|^^^HCG10^10|2", "R|6|^^^HCG^5|3"])
         one = codes.codes_of(table).applied(stored(message("P|1", "O|1|S7", f"R|1|{field}P|1", f"R|2|{field}I|1")))
         self.same("they are counted", one.left_out, 2)
+
+    def test_work(self):
+        """An order with four times as many tests is four times the work, by the calls that it takes."""
+        table = codes.codes_of(self.table(*(f"T{at},L{at}" for at in range(9))))
+
+        def calls(count):
+            tests = "\\".join(f"^^^T&S&{at}" for at in range(count))
+            one, seen = stored(message("P|1", f"O|1|S7||{tests}", "R|1|^^^T1|5.4")), []
+            sys.setprofile(lambda frame, event, given: seen.append(event) if event == "call" else None)
+            try:
+                Told(table.applied(one))
+            finally:
+                sys.setprofile(None)
+            return len(seen)
+
+        calls(400)  # what is kept of a test is kept
+        few, many = calls(100), calls(400)
+        self.true("four times", many < 5 * few, f"{few} and {many} calls")
 
     def test_digits(self):
         """A value that is multiplied has so many digits, half to even, and a comment with what came."""

@@ -82,7 +82,7 @@ class Deliver(HostTest):
             out.write("[fire]\nlisten = 1\nsample = O.4.3\n")
         done, files, held = self.deliver("oru", [], "--format", "oru", "--lines", file, "--again", "all")
         self.same("with the setting it is delivered", (done.returncode, len(files), held), (0, 3, []))
-        self.has("under its sample", files[0], "OBR|1|A||")
+        self.has("under its sample", files[0], "OBR|1||A|")
 
     def test_reasons(self):
         """Each reason why a message isn't sure."""

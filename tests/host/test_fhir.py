@@ -117,11 +117,83 @@ class Fhir(HostTest):
         self.same("a correction", (request["method"], request["url"], names[1]),
                   ("PUT", f"Observation?identifier=urn:lislab:test|{first[1][1]}", first[1][1]))
         self.true("another patient's", not set(named(*timed, identity="4712")[1]) & set(first[1]))
-        self.same("without a time it is the message's", named(*plain)[0]["method"], "POST")
-        self.true("another message's", named(*plain)[1][0] != named(*plain, key="k2")[1][0])
-        self.same("a repeat of it", named(*plain)[0], named(*plain, key="k2", again_of="k1")[0])
+        self.same("without a time", named(*plain, key="k2"), named(*plain))
+        self.same("a repeat of it changes nothing", named(*plain, key="k2", again_of="k1")[0]["ifNoneExist"],
+                  f"identifier=urn:lislab:result|{named(*plain)[1][0]}")
         both = bundle_of(stored(message("P|1|4711", "O|1|S7", "|".join(timed), "O|2|S7", "|".join(timed))))
         self.same("two in a message are two", len(observations(both)), 2)
+
+    @staticmethod
+    def known(*rows, at="", key="k1", **how):
+        """How the server finds what is in the Bundle of a message whose header has a time, by the kinds."""
+        body = message(*rows, header=f"H|\\^&|||A||||||||1|{at}")
+        found = {}
+        for one in json.loads(bundle_of(stored(body, key, **how)))["entry"]:
+            asked = one["request"]
+            search = asked.get("ifNoneExist") or asked["url"].partition("?")[2]
+            found.setdefault(one["resource"]["resourceType"], []).append((asked["method"], search))
+        return found
+
+    def test_without_times(self):
+        """A result without a time of day is known by its value and the times of its order; without them by that of the
+        header; without any by its order's records."""
+        def glu(value="5.4", order="", more="", status="F", result="", **how):
+            rows = ["P|1|4711", f"O|1|S7||^^^GLU|{order}", f"R|1|^^^GLU|{value}|mmol/L||||{status}||||{result}"]
+            return self.known(*rows, *([more] if more else []), **how)["Observation"]
+
+        taken, day, ten, noon = "R||20261127080000", "20261127", "20261127100000", "20261127120000"
+        for name, how in (("with that of its order", {"order": taken}), ("with that of the header", {"at": ten}),
+                          ("with its day", {"result": day, "at": ten}), ("without any", {})):
+            first = glu(**how)
+            self.same(f"{name}: in another message", glu(key="k2", **how), first)
+            self.true(f"{name}: another value", glu("5.5", **how) != first)
+        self.same("the order's goes before the header's", glu(order=taken, at=noon), glu(order=taken, at=ten))
+        self.same("a result's own goes before both", glu(result=ten, at=noon, order=taken), glu(result=ten))
+        self.true("another time of the order", glu(order=taken) != glu(order="R||20261127090000"))
+        self.true("another time of the header", glu(at=noon) != glu(at=ten))
+        self.true("another day of the result", glu(at=ten, result=day) != glu(at=ten, result="20261128"))
+        self.true("without any: another result in the order", glu(more="R|2|^^^K|4.1") != glu(more="R|2|^^^K|4.2"))
+        self.same("one that becomes final", glu(order=taken, status="P"), glu(order=taken))
+        for how in ({"result": ten}, {"order": taken}, {"at": ten}):
+            twice = glu(more=f"R|2|^^^GLU|5.5|mmol/L||||F||||{noon if 'result' in how else ''}", **how)
+            self.same(f"next to one that was run again: {how}", twice[0], glu(**how)[0])
+            self.true("which is another", twice[1] != twice[0])
+        both = self.known("P|1|4711", "O|1|S7", "R|1|^^^GLU|5.4", "O|2|S7", "R|1|^^^GLU|5.4")["Observation"]
+        self.same("the same result twice is two", len(set(both)), 2)
+
+    def test_reports(self):
+        """A report that comes again is the same one, also of an order that was cancelled; that of a correction is the
+        one of its tests."""
+        def told(*more, glu="5.4", status="F", at="20261127103500", **how):
+            rows = ["P|1|4711", "O|1|S7||^^^GLU", f"R|1|^^^GLU|{glu}|mmol/L||||{status}||||{at}", *more]
+            return self.known(*rows, **how)
+
+        other = "R|2|^^^K|4.1|mmol/L||||F||||20261127103500"
+        for more in ((), (other,)):
+            first = json.loads(bundle_of(stored(message("P|1|4711", "O|1|S7||^^^GLU",
+                                                        "R|1|^^^GLU|5.4|mmol/L||||F||||20261127103500", *more))))
+            names = [(each["resource"]["resourceType"], one) for each in first["entry"]
+                     for one in each["resource"]["identifier"]]
+            fixed = told(*more, glu="9.9", status="C", at="20261127113500")
+            for kind in ("Observation", "DiagnosticReport"):
+                method, search = fixed[kind][0]
+                system, _, value = search.partition("identifier=")[2].partition("|")
+                self.same(f"{kind}: of a correction", (method, system), ("PUT", "urn:lislab:test"))
+                self.has(f"{kind}: the first one has its name", names, (kind, {"system": system, "value": value}))
+            again = told(*more, glu="9.9", status="C", at="20261127113500", again_of="k1")
+            self.same("a correction that is repeated changes nothing",
+                      [again[kind][0] for kind in ("Observation", "DiagnosticReport")],
+                      [("POST", fixed[kind][0][1]) for kind in ("Observation", "DiagnosticReport")])
+            self.true("of another time", told(*more, at="20261127113500")["DiagnosticReport"][0][1] !=
+                      told(*more)["DiagnosticReport"][0][1])
+        for rows in (["O|1|S7||^^^GLU" + "|" * 21 + "X"], ["O|1|S7", "C|1|I|no material"]):
+            first = self.known("P|1|4711", *rows)
+            self.same(f"{rows[0][:14]}: in another message", self.known("P|1|4711", *rows, key="k2"), first)
+            later = self.known("P|1|4711", *rows, at="20261127120000")
+            self.true("of another time", later["DiagnosticReport"] != first["DiagnosticReport"])
+        rows = ["O|1|S7", "R|1|^^^A|1|||||C", "R|2|^^^B|1", "O|2|S7", "R|1|^^^A|2|||||C", "R|2|^^^B|2|||||C"]
+        twice = self.known("P|1|4711", *rows)["DiagnosticReport"]
+        self.same("two corrections in a message are two", len(set(twice)), 2)
 
     def test_resources(self):
         """Codes and units by their systems, the patient, reports, orders that were cancelled."""

@@ -20,7 +20,7 @@ from lislink.delivery.codes import Code, Codes
 from lislink.delivery.failures import Quarantined
 from lislink.delivery.results import Coded, Reading, Told
 from tests import kit
-from tests.host import hosts, test_told, told
+from tests.host import fhir_r4, hosts, test_told, told
 from tests.host.hosts import ENV, HostTest, lislab, process, wait_for
 from tests.host.receiver import MISSING, folder_of_hl7
 from tests.host.test_aside import keep, records
@@ -43,7 +43,7 @@ TABLES = {
     ("OBX", 10): "A B N R S ST",
     ("OBX", 11): "C D F I N O P R S U W X",
     ("NTE", 2): "L O P",
-    ("SPM", 4): "SER PLAS UR BLD CSF BLDA BLDV BLDC",
+    ("SPM", 4): fhir_r4.SYSTEMS["v2-0487"],
     ("SPM", 11): "B C E F G L O P Q R V",
 }
 
@@ -96,7 +96,8 @@ class Oru(WithLibrary):
             "MSH.F10": oru.control_id("0000000000000001"),
             "MSH.F11": "P", "MSH.F12": "2.5.1", "MSH.F18": "UNICODE UTF-8", "PID.F3.R1": "4711", "PID.F3.R2": "L9",
             "PID.F5.R1.C1": "Doe", "PID.F5.R1.C2": "Jane", "PID.F5.R1.C7": "L", "PID.F7": "19800131", "PID.F8": "F",
-            "NTE1.F3": "of the patient", "OBR.F2": "S7", "OBR.F3": "I3", "OBR.F4": "GLU", "OBR.F25": "F",
+            "NTE1.F3": "of the patient", "OBR.F2": "", "OBR.F3": "S7", "OBR.F4": "GLU", "OBR.F25": "F", "SPM.F2": "S7",
+            "SPM.F2.R1.C2": "I3",
             "OBX.F2": "NM", "OBX.F3.R1.C1": "GLU", "OBX.F5": "5.40", "OBX.F6": "mmol/L", "OBX.F7": "3.9-6.1",
             "OBX.F8": "H", "OBX.F11": "F", "OBX.F14": "20261127103000", "OBX.F16": "op1", "OBX.F18": "A7",
             "OBX.F19": "20261127103500", "OBR.F7": "20261127103000",
@@ -111,7 +112,7 @@ class Oru(WithLibrary):
     def test_wishes(self):
         """What a receiver wants: fields of MSH, versions, authorities, an OBR for each test."""
         body = message("P|1|4711|L9|T5|Doe^Jane",
-                       "O|1|S7||^^^GLU\\^^^K\\^^^NA|S|20261127090000||20261127093500|||||fasting|20261127095000|serum"
+                       "O|1|S7|I3|^^^GLU\\^^^K\\^^^NA|S|20261127090000||20261127093500|||||fasting|20261127095000|serum"
                        "|Dr. Who||||||20261127110000",
                        "R|1|^^^GLU|5.4", "R|2|^^^K|4.1", "R|3|^^^GLU|5.4")
         words = ["MSH-3=LAB^1.2^ISO", "MSH-5=LIS", "MSH-6=HOSP", "MSH-11=T", "practice=HOSP PI", "laboratory=LAB MR",
@@ -125,6 +126,7 @@ class Oru(WithLibrary):
                   ("20261127093500", "fasting", "20261127095000", "20261127110000"))
         old = told.segments_of(oru_of(stored(body), oru.wishes_of(["MSH-12=2.3.1"])))[0]
         self.same("v2.3.1", [one[0] for one in old], ["MSH", "PID", "OBR", "OBX", "OBX", "OBX"])
+        self.same("the instrument's sample in it", (old[2][3], old[2][20]), ("S7", "I3"))
         self.same("its fields", (old[0][9], old[0][12], old[2][15], old[2][27]),
                   ("ORU^R01", "2.3.1", "SER^serum^HL70487", "^^^^^S"))
         each = told.segments_of(oru_of(stored(body), oru.wishes_of(["obr=test"])))[0]
@@ -132,7 +134,7 @@ class Oru(WithLibrary):
         self.same("an OBR for each test", names, ["GLU^^L", "GLU^^L", "GLU^^L", "K^^L", "K^^L"])
         zoned = told.segments_of(oru_of(stored(body), zone="America/New_York"))[0]
         self.same("times have the line's zone", zoned[2][6], "20261127090000-0500")
-        for word in ("MSH-5", "MSH-7=x", "MSH-12=2.7", "obr=patient", "sample="):
+        for word in ("MSH-5", "MSH-7=x", "MSH-12=2.7", "obr=patient", "sample=", "OBR-2=O", "OBR-2=R.3", "OBR-3=O.3"):
             self.raises(word, OptionError, lambda word=word: oru.wishes_of([word]))
 
     def test_obr(self):
@@ -145,7 +147,8 @@ class Oru(WithLibrary):
                                         "OBR GLU^^L", "TQ1", "OBX GLU^^L ", "OBR FT4^^L", "TQ1", "OBR NA^^L", "TQ1",
                                         "OBX NA^^L "])):
             found = told.segments_of(oru_of(stored(message("P|1", *rows)), oru.wishes_of([f"obr={word}"])))[0][1:]
-            named = [" ".join([one[0], *{"OBR": one[4:5], "OBX": one[3:5]}.get(one[0], [])]) for one in found]
+            named = [" ".join([one[0], *{"OBR": one[4:5], "OBX": one[3:5]}.get(one[0], [])]) for one in found
+                     if one[0] != "SPM"]
             self.same(f"an OBR for each {word}", named, wanted)
 
     def test_identities(self):
@@ -160,9 +163,33 @@ class Oru(WithLibrary):
             body = stored(message(f"P|1|{field}", "O|1|S7", "R|1|^^^A|1"))
             self.raises(f"which part of {field} is it?", Quarantined, lambda body=body: oru_of(body))
         body = stored(message("P|1|4711^S7", "O|1|", "R|1|^^^A|1"))
-        self.true("it has the sample too", b"|S7|" in oru_of(body, sample="P.3.2"))
+        self.true("it has the sample too", b"||S7|" in oru_of(body, sample="P.3.2"))
         control = stored(message("P|1|QC^7", "O|1|S7|||||||||Q", "R|1|^^^A|1"))
-        self.true("that of a control isn't looked at", b"OBR|1|S7|" in oru_of(control))
+        self.true("that of a control isn't looked at", b"OBR|1||S7|" in oru_of(control))
+
+    def test_numbers(self):
+        """The laboratory knows an order by its sample (OBR-3, SPM-2); the number that who ordered gave it is where the
+        receiver says."""
+        rows = ["P|1", "O|1|S7|I3|^^^GLU|||||||||||||| 4711-2 ^9|x", "R|1|^^^GLU|5.4", "O|2||I9", "R|1|^^^GLU|5.4"]
+        body = message(*rows)
+        for word, wanted in (("", ["", ""]), ("OBR-2=sample", ["S7", "I9"]), ("OBR-2=O.19", ["4711-2", ""]),
+                             ("OBR-2=O.19.2", ["9", ""]), ("OBR-2=O.20", ["x", ""])):
+            found = told.segments_of(oru_of(stored(body), oru.wishes_of([word] if word else [])))[0]
+            self.same(f"OBR-2: {word}", [one[2] for one in found if one[0] == "OBR"], wanted)
+            self.same("OBR-3", [one[3] for one in found if one[0] == "OBR"], ["S7", "I9"])
+            self.same("SPM-2 and 4", [(one[2], one[4]) for one in found if one[0] == "SPM"],
+                      [("S7^I3", "^unspecified"), ("I9", "^unspecified")])
+        for action, wanted in (("A", "A"), ("p", "P"), ("N", ""), ("Q", ""), ("AP", "")):
+            out = oru_of(stored(message("P|1", f"O|1|S7|||||||||{action}", "R|1|^^^A|1")))
+            self.same(f"OBR-11 of {action}", told.cell(told.segments_of(out)[0][1], 11), wanted)
+
+    def test_specimens(self):
+        """The type of a specimen has its code of table 0487, if that has one for what the analyzer writes."""
+        for text, wanted in (("Serum", "SER^Serum^HL70487"), ("wb", "WB^wb^HL70487"), ("faeces", "STL^faeces^HL70487"),
+                             ("Arterial", "BLDA^Arterial^HL70487"), ("spinal fluid", "CSF^spinal fluid^HL70487"),
+                             ("5", "^5"), ("hemolysate", "^hemolysate"), ("", "^unspecified")):
+            out = oru_of(stored(message("P|1", f"O|1|S7|||||||||||||{text}", "R|1|^^^A|1")))
+            self.same(f"SPM-4 of {text}", told.segments_of(out)[0][-1][4], wanted)
 
     def test_times(self):
         """OBR-7 is when the specimen was taken, else when the first result was completed, with a note; OBX-14 and
@@ -195,7 +222,7 @@ class Oru(WithLibrary):
                         seen |= {(name, field, value) for value in values}
                         self.need(values <= set(table.split()), lambda: f"{at}: {name}-{field}: {values}: {body}")
         self.true("many of them are there", len(seen) > 45, str(len(seen)))
-        self.same("each field but OBR-11", sorted(set(TABLES) - {one[:2] for one in seen}), [("OBR", 11)])
+        self.same("each field", sorted(set(TABLES) - {one[:2] for one in seen}), [])
 
     def test_ids(self):
         """MSH-10 has 20 letters and digits, of its own for each patient of each message, and the same each time."""
@@ -263,7 +290,7 @@ class Oru(WithLibrary):
                 one.replace("&", "&E&").replace("|", "&F&").replace("\\", "&R&").replace("^", "&S&") for one in texts
             )
             body = message("P|1", f"O|1|{sample}", f"R|1|^^^{code}|x{value}|{unit}")
-            found = self.cells(oru_of(stored(body)), "OBR.F2", "OBX.F3", "OBX.F6")
+            found = self.cells(oru_of(stored(body)), "OBR.F3", "OBX.F3", "OBX.F6")
             self.need(found == [texts[0], texts[1], texts[3]], lambda: f"{at}: {texts}: {found}")
 
 

@@ -16,7 +16,7 @@ from lislink.host.options import Limits
 from lislink.host.outbox import Batch, Desk, Outbox, Site
 from lislink.host.store import open_store
 from lislink.host.turns import Turns
-from lislink.orders.book import PERHAPS, Wanted, open_book
+from lislink.orders.book import LOT, PERHAPS, Wanted, open_book
 from lislink.orders.order import Order
 from tests.host import hosts
 from tests.host.hosts import SCALE, Host, HostTest, lislab, wait_for
@@ -83,7 +83,7 @@ class Books:
         now[0] += 61
         self.same("its time is over", asked("S1"), (0, []))
         one.ask("fire x", "1", "fire", [Wanted(("S1",))], 600.0)
-        one.take_back("fire x")
+        one.take_back("fire x", "1")
         self.same("taken back", next(one.listed()).state, "sent")
         for since, wanted in (("20261129", 0), ("20261128", 1)):
             everything = Wanted((), "", "", since, "", True)
@@ -147,7 +147,7 @@ class Books:
         self.same("all", failed(9)["fire"], (3, 10.0, [2, 3, 1]))
         self.same("why", one.failed(1)["water"].newest[0].reason, "why 4")
         self.same("how many", one.failed_mark(), (4, 40.0))
-        one.take_back("water")
+        one.take_back("water", "1")
         self.same("a query is taken back", failed(1)["water"], (1, 30.0, [4]))
         self.same("again", (one.again(4), one.cancel(2)), (True, True))
         self.same("what is left", (failed(9), one.failed_mark()), ({"fire": (2, 10.0, [3, 1])}, (2, 20.0)))
@@ -227,6 +227,21 @@ class Books:
         self.same("by another one in the end", one.ask("fire y", "1", "fire", wanted), (1, 0, 0))
         self.same("it has it", [(placed.number, placed.reason) for placed in one.take("fire y", "1", "fire", 9, [])],
                   [(2, PERHAPS)])
+
+    def test_lots(self):
+        """Many orders are stored in lots: each is there for others, who wait for no more than one."""
+        where, seen = self.new(), []
+        one, other = open_book(where, "one"), open_book(where, "two")
+        self.addCleanup(one.close)
+        self.addCleanup(other.close)
+
+        def orders():
+            for at in range(2 * LOT + 1):
+                seen.extend([sum(other.counts().values())] if at % LOT == 0 else [])
+                yield Order(f"S{at}", ("K",))
+
+        self.same("stored", len(one.add(orders())), 2 * LOT + 1)
+        self.same("when each lot began", seen, [0, LOT, 2 * LOT])
 
     def test_asked_again_on_a_new_connection(self):
         """What was asked for over a connection that is gone is sent over the next one: who asks again there is being
@@ -484,9 +499,24 @@ class Answers(HostTest):
 
         with unittest.mock.patch("lislink.host.outbox.COMMAND", 600.0):
             found = asyncio.run(answers())
-        self.same("answers", [batch.texts for batch in found], [query("S7")] * 8)
+        self.same("answers", [one.batch.texts for one in found], [query("S7")] * 8)
         with open(file + ".counts", encoding="ascii") as counts:
             self.true("four at once", max(map(int, counts.read().split())) <= 4)
+
+    def test_one_command_of_a_connection(self):
+        """Of the queries in one text one is asked of the command at once, and each is answered."""
+        file, log = self.path("one.py"), self.path("one.log")
+        with open(file, "w", encoding="utf-8") as out:
+            out.write(f"import sys\nlog = open({log!r}, 'a', buffering=1)\nprint('begins', file=log)\n"
+                      "print(sys.stdin.read(), end='')\nprint('ends', file=log)\n")
+        _, port = self.started("--ask", f"{hosts.sys.executable} {file}")
+        one = Plain(port, SLOW)
+        one.send([b"".join(b"".join(query(f"S{at}")) for at in range(6))])
+        told = [row for _ in range(6) for row in one.take(400)]
+        self.same("answers", sorted(row.split(b"|")[2] for row in told if row[:1] == b"Q"),
+                  [b"^S%d" % at for at in range(6)])
+        with open(log, encoding="ascii") as rows:
+            self.same("one at once", rows.read().split(), ["begins", "ends"] * 6)
 
     def test_spool(self):
         """A host with a spool sends the orders that another program leaves in its folder; the status counts them."""

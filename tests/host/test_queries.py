@@ -8,6 +8,8 @@ import sqlite3
 import time
 
 from lislink.host.outbox import Outbox, Site
+from lislink.host.store import StoreError
+from lislink.orders.asks import Asks
 from lislink.orders.book import open_book
 from lislink.orders.order import Order
 from lislink.orders.query import query_of
@@ -132,31 +134,34 @@ class Queries(HostTest):
         self.same("ALL", samples_of(one.take()), ["S123", "S7"])
 
     def test_nothing_found(self):
-        """Five queries in a row without an order make a line bad; one with an order makes it good again."""
-        state = self.path("nothing.state")
-        host, port = self.started(words=("--status", state))
+        """Five queries in a row without an order make a line bad, also one on which nothing is sent then; one with an
+        order makes it good again."""
+        for none in ("L-I", "silence"):
+            state = self.path(f"{none}.state")
+            host, port = self.started(f"none = {none}\n", words=("--status", state))
 
-        def seen():
-            """What is said of the line."""
-            return ask(state + ".watch", ask="lines")[0]["lines"]["asks"]
+            def seen(state=state):
+                """What is said of the line."""
+                return ask(state + ".watch", ask="lines")[0]["lines"]["asks"]
 
-        one = Plain(port, SLOW)
-        for at in range(1, 6):
-            self.same(f"before query {at}", seen()["state"], "quiet" if at == 1 else "good")
-            one.send(asked(b"^NONE"))
-            self.same(f"query {at}", one.take()[-1], b"L|1|I\r")
-        self.true("it is bad", wait_for(lambda: seen()["verdict"] == "no-orders"), str(seen()))
-        self.has("what is said", seen()["says"], "5 times in a row since ")
+            one = Plain(port, SLOW)
+            for at in range(1, 6):
+                self.same(f"{none}: before query {at}", seen()["state"], "quiet" if at == 1 else "good")
+                one.send(asked(b"^NONE"))
+                if none == "L-I":
+                    self.same(f"query {at}", one.take()[-1], b"L|1|I\r")
+            self.true(f"{none}: it is bad", wait_for(lambda: seen()["verdict"] == "no-orders"), str(seen()))
+            self.has(f"{none}: what is said", seen()["says"], "5 times in a row since ")
 
-        def counts():
-            """Queries, and those that found nothing, as `status` has them."""
-            done = lislab("status", "--store", host.store, "--status", state, "--json")
-            return [(row["queries"], row["found_nothing"]) for row in json.loads(done.stdout)["lines"]]
+            def counts(host=host, state=state):
+                """Queries, and those that found nothing, as `status` has them."""
+                done = lislab("status", "--store", host.store, "--status", state, "--json")
+                return [(row["queries"], row["found_nothing"]) for row in json.loads(done.stdout)["lines"]]
 
-        self.true("counted", wait_for(lambda: counts() == [(5, 5)]), str(counts()))
-        one.send(asked(b"^S7"))
-        self.same("an order", samples_of(one.take()), ["S7"])
-        self.true("it is good", wait_for(lambda: seen()["state"] == "good"), str(seen()))
+            self.true(f"{none}: counted", wait_for(lambda: counts() == [(5, 5)]), str(counts()))
+            one.send(asked(b"^S7"))
+            self.same(f"{none}: an order", samples_of(one.take()), ["S7"])
+            self.true(f"{none}: it is good", wait_for(lambda: seen()["state"] == "good"), str(seen()))
 
     def test_an_answer_is_whole(self):
         """What one message asks for is one session, also of many orders: urgent ones first, and F at its end."""
@@ -282,27 +287,126 @@ class Queries(HostTest):
         self.same("the command's", samples_of(one.take(400)), ["roche"])
         self.same("the store's", samples_of(Plain(ports["other"], SLOW).take(400)), ["S1"])
 
-    def test_another_connection(self):
-        """Of two connections from one place the one that has no orders of its own says nothing of the other's."""
-        store = self.path("seats.db")
+    @staticmethod
+    def played(store, play):
+        """What a coroutine function finds that gets an outbox with the orders S1 to S3, and connections 1 to 4 from one
+        address."""
         book = open_book(store)
-        book.add([Order("S1", ("K",))])
+        book.add([Order(f"S{at}", ("K",)) for at in (1, 2, 3)])
         book.close()
-        row = next(messages([b"".join(asked(b"S1"))]))[1]
 
-        async def taken():
-            outbox = Outbox(lambda: open_book(store), [], 1, SLOW, print)
+        async def run():
+            outbox = Outbox(lambda: open_book(store, "one"), [], 9, SLOW, lambda text: None)
             await outbox.start()
-            one, other = (Site("asks", "x", "latin-1", False, "L-I", seat) for seat in "12")
-            first = await outbox.answer(one, [query_of(row, "latin-1")], b"")
-            found = [first, await outbox.take(other), await outbox.take(one)]
-            await outbox.stop()
-            return found
+            asks = Asks(sample=3, echo=(4, 4))
+            try:
+                sites = [Site("asks", "x", "latin-1", False, "L-I", str(at), asks) for at in range(5)]
+                return await play(outbox, sites)
+            finally:
+                await outbox.stop()
 
-        first, others, own = asyncio.run(taken())
-        self.same("in the store", first, None)
-        self.same("the other's", others, None)
-        self.same("its own", samples_of(own.texts), ["S1"])
+        return asyncio.run(run())
+
+    @staticmethod
+    async def asks(outbox, site, *samples, status=b""):
+        """The answer to a query for samples, each in a rack and at a position that have its number."""
+        names = b"\\".join(b"^^%s^%s^r" % (one.encode(), one[1:].encode()) for one in samples)
+        rows = next(messages([b"".join(asked(names, status))]))
+        return await outbox.answer(site, [query_of(rows[1], "latin-1", site.asks)], b"")
+
+    @staticmethod
+    async def places(outbox, site):
+        """What is sent on a connection next, and the sample and the place of each order in it."""
+        batch = await outbox.take(site)
+        rows = [text.split(b"|") for text in (batch.texts if batch else ()) if text[:1] == b"O"]
+        return batch, {row[2].decode(): row[3].decode() for row in rows}
+
+    def test_another_connection(self):
+        """Of two connections from one place the one that has no orders of its own says nothing of the other's; nor does
+        the other one while its order waits for the next try."""
+        async def play(outbox, lines):
+            first = await self.asks(outbox, lines[1], "S1")
+            (other, _), (own, _) = await self.places(outbox, lines[2]), await self.places(outbox, lines[1])
+            outbox.failed(lines[1], own, "no reply")
+            return first, other, samples_of(own.texts), await outbox.take(lines[1])
+
+        found = self.played(self.path("seats.db"), play)
+        self.same("in the store, the other's, its own, between two tries", found, ((None, True), None, ["S1"], None))
+
+    def test_beside_of_several(self):
+        """Each of several analyzers of one address gets the rack and the position that it asked with: also after a
+        try that failed, after a second question, and over a new connection."""
+        def woken(asked, line):
+            """The first connection looks by itself."""
+
+        async def play(outbox, lines):
+            outbox.wakes(woken)
+            await self.asks(outbox, lines[1], "S1")
+            await self.asks(outbox, lines[2], "S2")
+            await self.asks(outbox, lines[1], "S3")
+            (first, one), (_, two) = await self.places(outbox, lines[1]), await self.places(outbox, lines[2])
+            outbox.unsent(lines[1], first)
+            await asyncio.sleep(0.3)
+            again, unsent = await self.places(outbox, lines[1])
+            outbox.failed(lines[1], again, "no reply", True)
+            await asyncio.sleep(0.3)
+            half, lot = await self.places(outbox, lines[1])
+            outbox.unsent(lines[1], half)
+            outbox.forget(lines[1], woken)
+            await asyncio.sleep(0.3)
+            return one, two, unsent, lot, (await self.places(outbox, lines[3]))[1]
+
+        both = {"S1": "1^r", "S3": "3^r"}
+        found = self.played(self.path("beside.db"), play)
+        self.same("as they asked, not sent, in lots, over a new connection", found,
+                  (both, {"S2": "2^r"}, both, {"S1": "1^r"}, {"S1": "1^r"}))
+
+    def test_left_in_the_end(self):
+        """The store gives no answer when a connection is over: what was asked for over it is sent over the next one,
+        once the store does."""
+        def woken(asked, line):
+            """The first connection looks by itself."""
+
+        async def play(outbox, lines):
+            outbox.wakes(woken)
+            await self.asks(outbox, lines[1], "S1")
+            leave, tries = outbox._book.leave, []
+
+            def fails(seat):
+                tries.append(seat)
+                if len(tries) == 1:
+                    raise StoreError("it is away")
+                leave(seat)
+
+            outbox._book.leave = fails
+            outbox.forget(lines[1], woken)
+            for _ in range(300):
+                if len(tries) > 1:
+                    break
+                await asyncio.sleep(0.02)
+            return (await self.places(outbox, lines[2]))[1]
+
+        self.same("what is sent", self.played(self.path("left.db"), play), {"S1": "1^r"})
+
+    def test_taken_back_by_one(self):
+        """One of several analyzers of one address takes its query back: what the others asked for is sent."""
+        async def play(outbox, lines):
+            await self.asks(outbox, lines[1], "S1")
+            await self.asks(outbox, lines[2], "S2")
+            await outbox.take_back(lines[2], [])
+            return (await self.places(outbox, lines[1]))[1], (await self.places(outbox, lines[2]))[1]
+
+        self.same("what is sent", self.played(self.path("back.db"), play), ({"S1": "1^r"}, {}))
+
+    def test_an_answer_of_another(self):
+        """An answer that waits goes to who connects after the one that asked, not to who was there before."""
+        async def play(outbox, lines):
+            nothing = (await self.asks(outbox, lines[2], "S9")).batch
+            outbox.unsent(lines[2], nothing)
+            before, after = await outbox.take(lines[1]), await outbox.take(lines[3])
+            return nothing.texts[-1], before, after == nothing, await outbox.take(lines[4])
+
+        self.same("who gets it", self.played(self.path("another.db"), play), (b"L|1|I\r", None, True, None))
 
     def test_hl7(self):
         """`order add` names HL7 when it is given some, and what takes orders."""

@@ -47,8 +47,8 @@ def cell(segment, field, component=1, repeat=1):
 
 
 def of_oru(data):
-    """The results of messages ORU^R01: each is below the PID before it in its message, if there is one. A group
-    of OBR is a control if its SPM says so."""
+    """The results of messages ORU^R01: each is below the PID before it in its message, if there is one. A group of OBR
+    is of the sample of its SPM, and a control if that says so; without one it is of the sample of OBR-3."""
     rows = []
     for segments in segments_of(data):
         patient, name, group = None, "", []
@@ -57,12 +57,13 @@ def of_oru(data):
                 patient, name = cell(segment, 3) or None, cell(segment, 5)
             elif segment[0] == "OBR":
                 rows += group
-                group, sample = [], cell(segment, 2)
+                group, sample = [], cell(segment, 3)
             elif segment[0] == "OBX":
                 value = cell(segment, 5) + (cell(segment, 5, 2) if segment[2] == "SN" else "")
                 group.append(Row(patient, name, False, sample, cell(segment, 3), value, unit_of(segment), segment[11]))
-            elif segment[0] == "SPM" and cell(segment, 11) == "Q":
-                group = [one._replace(control=True) for one in group]
+            elif segment[0] == "SPM":
+                is_control = cell(segment, 11) == "Q"
+                group = [one._replace(control=is_control, sample=cell(segment, 2)) for one in group]
     return rows
 
 

@@ -33,7 +33,7 @@ from .records import MessageError, Reader, Record, Writer, messages, next_header
 from .rows import Row
 from .station import Answer, Station
 
-__version__ = "0.1.0"
+__version__ = "0.2.0"
 __all__ = [
     "BUSY",
     "CONTENTION",

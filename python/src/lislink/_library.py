@@ -138,6 +138,8 @@ _CALLS: Dict[str, Any] = {
     "receiver_set_ready": (_BYTE, _POINTER, _BYTE),
     "receiver_reserve": (_BYTE, _POINTER, _COUNT),
     "receiver_set_text_limit": (_BYTE, _POINTER, _SIZE),
+    "receiver_set_careful": (None, _POINTER, _FLAG),
+    "receiver_noise": (_COUNT, _POINTER),
     "receiver_is_open": (_FLAG, _POINTER),
     "receiver_accepted": (_COUNT, _POINTER),
     "receiver_held": (_COUNT, _POINTER),
@@ -158,6 +160,8 @@ _CALLS: Dict[str, Any] = {
     "station_ask_turn": (None, _POINTER),
     "station_turn_asked": (_FLAG, _POINTER),
     "station_turn_seconds": (ctypes.c_uint32, _POINTER),
+    "station_set_careful": (None, _POINTER, _FLAG),
+    "station_noise": (_COUNT, _POINTER),
     "station_awaits_reply": (_FLAG, _POINTER),
     "station_reserve": (_BYTE, _POINTER, _COUNT),
     "station_phase": (_BYTE, _POINTER),
@@ -211,7 +215,7 @@ def _load() -> Dict[str, Callable[..., Any]]:
         return found
     except (OSError, AttributeError) as error:
         raise LibraryMissing(
-            f"{path}: {error}; `make library` builds {_NAME}, and LISLINK_LIBRARY names it"
+            f"{path}: {error}; `make` builds {_NAME}, and LISLINK_LIBRARY names it"
         ) from None
 
 

@@ -310,6 +310,19 @@ class ReceivingEnd(Owner, Generic[Meaning]):
         if status:
             raise LinkError(status)
 
+    def set_careful(self, careful: bool) -> None:
+        """Says whether it hears carefully from now on: then one damaged byte of a frame acknowledges nothing.
+
+        An ENQ on an open line, also one that was a byte of a frame, ends the session with no reply: Note.ENDED. An
+        analyzer that begins anew without EOT is answered at its next ENQ. An STX inside an unfinished frame begins
+        none, and that frame is answered NAK."""
+        self._call("set_careful", as_flag(careful, "careful"))
+
+    @property
+    def noise(self) -> int:
+        """How many of these ENQ and STX it has heard carefully."""
+        return int(self._call("noise"))
+
     @property
     def is_open(self) -> bool:
         """Whether the other side has the line, and the receiver's timer runs."""
@@ -420,7 +433,8 @@ class Receiver(ReceivingEnd[Step]):
     """The receiving end. Keep a step's text first, then send its reply. If you can't keep it, call `restart` and
     send nothing.
 
-    A frame's text has at most `frame_limit` bytes, FRAME_TEXT or LONG_FRAME_TEXT."""
+    A frame's text has at most `frame_limit` bytes, FRAME_TEXT or LONG_FRAME_TEXT. With `careful` it hears carefully, as
+    `set_careful` says."""
 
     _kind = "receiver"
 
@@ -431,9 +445,10 @@ class Receiver(ReceivingEnd[Step]):
         if status:
             raise LinkError(status)
 
-    def __init__(self, *, frame_limit: int = FRAME_TEXT) -> None:
+    def __init__(self, *, frame_limit: int = FRAME_TEXT, careful: bool = False) -> None:
         super().__init__()
         self._set_limit(frame_limit)
+        self.set_careful(careful)
 
     def _heard(self, left: int) -> Iterator[Tuple[int, Step]]:
         out = _library.StepOut()

@@ -38,16 +38,17 @@ class Station(SendingEnd, ReceivingEnd[Answer]):
     Keep an answer's text first, then send its bytes. If you can't keep it, send nothing, call `close_line`, and
     start no session for over 15 seconds. Send no reply late, either: the other side waits for it for 15 seconds. A
     frame's text has at most `frame_limit` bytes, FRAME_TEXT or LONG_FRAME_TEXT, which needs a thread with a stack of a
-    megabyte."""
+    megabyte. With `careful` it hears carefully what is for its receiver, as `set_careful` says."""
 
     _kind = "station"
 
-    def __init__(self, role: Role, *, frame_limit: int = FRAME_TEXT) -> None:
+    def __init__(self, role: Role, *, frame_limit: int = FRAME_TEXT, careful: bool = False) -> None:
         if isinstance(role, bool):
             raise TypeError("a Role is needed, not bool")
         super().__init__()
         self._begin(Role(role), as_number(frame_limit, 0, (1 << 64) - 1, "the frame limit"))
         self._set_room(frame_limit)
+        self.set_careful(careful)
 
     def _begin(self, role: Role, frame_limit: int) -> None:
         """Makes the station new; one that can't be is closed."""

@@ -2,6 +2,7 @@
 records; the store keeps what came."""
 import csv
 import decimal
+import functools
 import io
 import re
 from typing import Callable, Dict, Iterator, List, NamedTuple, Optional, Sequence, Tuple
@@ -12,7 +13,7 @@ from ..message import Entry
 from ..rows import Row
 from .failures import Refused
 from .numbers import Number, number_of, range_of, rounded, times
-from .results import Coded, Coding, Reading, code_among, content_of, message_of, parts_of, text_of
+from .results import Coded, Coding, Reading, code_among, content_of, message_of, parts_of, repeats_of, text_of
 
 #: The columns; those that a row must fill. A mark is a comment that begins so. In place of the laboratory's code: the
 #: result doesn't go out.
@@ -211,7 +212,8 @@ class Codes:
             if skips:
                 continue
             if marks and entry.letter not in "CMS":
-                records, marks = records + marks, []
+                records += marks
+                marks = []
             if entry.letter == "R":
                 of = field_and_unit(entry)
                 found = self.found(one.line, *of)
@@ -236,9 +238,9 @@ class Codes:
         """The order with the laboratory's codes of its tests, as far as it has some."""
         row, (_, repeat, component, _) = entry.row, _marks(entry.row)
         tests = []
-        for at, written in enumerate(row.written(5).split(repeat)):
+        for at, (written, meant) in enumerate(zip(row.written(5).split(repeat), repeats_of(entry, 5))):
             parts = written.split(component)
-            field = "^".join(parts_of(entry, 5, at))
+            field = "^".join(meant)
             found = next((each for each in self._of(one.line, field) if each.laboratory != LEAVE_OUT), None)
             if field and found is not None:
                 parts[3 if len(parts) > 3 else 0] = _bytes(found.laboratory, row, one)
@@ -258,8 +260,9 @@ class Codes:
             return _with(row, {**changes, **({5: _bytes(found.unit, row, one)} if found.unit else {})}), ""
         if unit == found.unit:
             return _with(row, changes), f"it is in {unit} already, and isn't multiplied"
-        number = number_of(content_of(entry, 4))
-        if number is None and content_of(entry, 4):
+        value = content_of(entry, 4)
+        number = number_of(value)
+        if number is None and value:
             return _with(row, changes), "the value is no number, and isn't multiplied"
         changes[5] = _bytes(found.unit, row, one)
         told = []
@@ -273,17 +276,25 @@ class Codes:
     @staticmethod
     def _range(entry: Entry, one: Stored, found: Code, changes: Dict[int, bytes]) -> List[str]:
         """Multiplies the range of a result; what is to be said of it."""
-        row, text, unit = entry.row, content_of(entry, 6), field_and_unit(entry)[1]
-        usual = range_of(text)
-        if usual is not None:
-            low, high = (None if each is None else _times(each, found) for each in usual)
-            turned = found.factor < 0
-            usual = type(usual)(high, low) if turned else type(usual)(low, high)
-            changes[6] = _bytes(usual.text(" to " if "to" in text.lower() else "-"), row, one)
+        row, text = entry.row, content_of(entry, 6)
+        product = _range_times(text, found)
+        if product:
+            changes[6] = _bytes(product, row, one)
         elif text.strip():
             changes[6] = row.written(6) + (b" " + row.written(5)).rstrip()
-            return [f"the range is in {unit or 'the unit of the analyzer'}"]
+            return [f"the range is in {content_of(entry, 5) or 'the unit of the analyzer'}"]
         return []
+
+
+@functools.lru_cache(maxsize=1024)  # a test has one range in many messages
+def _range_times(text: str, code: Code) -> str:
+    """A range by the factor of a row; empty if it is none of numbers."""
+    usual = range_of(text)
+    if usual is None:
+        return ""
+    low, high = (None if each is None else _times(each, code) for each in usual)
+    usual = type(usual)(high, low) if code.factor < 0 else type(usual)(low, high)
+    return usual.text(" to " if "to" in text.lower() else "-")
 
 
 def _times(number: Number, code: Code) -> Number:
@@ -299,26 +310,30 @@ def _marks(row: Row) -> Tuple[bytes, bytes, bytes, bytes]:
 
 def _bytes(text: str, row: Row, one: Stored) -> bytes:
     """A text as a component's bytes: in the message's encoding, delimiters as escapes."""
+    try:
+        return _escaped(text, row.delimiters, one.encoding)
+    except UnicodeEncodeError:
+        why = f"can't be written in {one.encoding}, the encoding of line {one.line}"
+        raise Refused(f"{text} of the table of codes {why}") from None
+
+
+@functools.lru_cache(maxsize=4096)  # the codes and units of a table
+def _escaped(text: str, delimiters: bytes, encoding: str) -> bytes:
     if text.isascii():
-        plain = text.encode(one.encoding)
-        if not any(mark in plain for mark in row.delimiters):
+        plain = text.encode(encoding)
+        if not any(mark in plain for mark in delimiters):
             return plain
-    field, repeat, component, escape = _marks(row)
-    names = {field: b"F", repeat: b"R", component: b"S", escape: b"E"}
-    out = []
-    for letter in text:
-        data = _encoded(letter, text, one)
-        out.append(escape + names[data] + escape if data in names else data)
-    return b"".join(out)
+    escape = delimiters[3:]
+    names = {bytes([mark]): name for mark, name in zip(delimiters, (b"F", b"R", b"S", b"E"))}
+    found = [_encoded(letter, encoding) for letter in text]
+    return b"".join([escape + names[data] + escape if data in names else data for data in found])
 
 
-def _encoded(letter: str, text: str, one: Stored) -> bytes:
-    for each in (letter, {"\u03bc": "\u00b5", "\u00b5": "\u03bc"}.get(letter, letter)):  # two letters for micro
-        try:
-            return each.encode(one.encoding)
-        except UnicodeEncodeError:
-            continue
-    raise Refused(f"{text} of the table of codes can't be written in {one.encoding}, the encoding of line {one.line}")
+def _encoded(letter: str, encoding: str) -> bytes:
+    try:
+        return letter.encode(encoding)
+    except UnicodeEncodeError:  # two letters for micro
+        return {"\u03bc": "\u00b5", "\u00b5": "\u03bc"}.get(letter, letter).encode(encoding)
 
 
 def _can_be(letter: str, one: Stored) -> bool:

@@ -12,12 +12,14 @@ from urllib.parse import quote
 
 from .numbers import Number, number_of, range_of
 from .oru import Wishes, specimen_of
-from .results import Case, Coding, Identity, Ordered, Result, Told, field_text, identities_of, parts_of, report_of
+from .results import Case, Coding, Identity, Ordered, Result, Told
+from .results import field_text, identities_of, moment_of, parts_of, report_of
 
-#: The systems of identifiers: of a message and what is made of it, of a result that has its time, of a sample's test,
-#: of a sample and of an order.
+#: The systems of identifiers: of a message, of a result, of a sample's test, of a sample and of an order.
 SYSTEM, _OF_RESULT, _OF_TEST = "urn:lislab:message", "urn:lislab:result", "urn:lislab:test"
 _OF_SAMPLE, _OF_ORDER = "urn:lislab:specimen", "urn:lislab:order"
+#: The times of an order: when it was requested, collected, received and reported.
+_TIMES = (7, 8, 15, 23)
 #: Status of a result (LIS02-A2, 9.5.9) as that of an Observation, and of an order's report (9.4.26) as that of one
 #: without a result and of a DiagnosticReport. A letter that isn't here is `unknown`, with a note.
 _STATUS = {
@@ -142,25 +144,41 @@ class _Made:
         identifiers = [*more, {"system": system, "value": value}]
         return _Name(identifiers, f"identifier={system}|{value}", updates and self._told.one.again_of is None)
 
-    def _key_name(self, place: str) -> _Name:
-        """The name of what has no other than the message's: that of the first one, if it is a repeat."""
-        return self._own(SYSTEM, f"{self._told.one.again_of or self._told.one.key}-{place}")
+    def _name(self, case: Case, order: Ordered, test: List[str], at: str = "", value: str = "") -> _Name:
+        """The name of a result. It depends on its time; without a time of day on its value, and on what else says which
+        of two results of the test it is. It doesn't depend on the message in which it came."""
+        known = [self._told.one.line, order.sample, *_who(case), "", *test]
+        known += [at] if _has_clock(at) else ["", at, value, *self._when(order)]
+        return self._own(_OF_RESULT, _digest(*known, str(self._turn(*known))), updates=True)
+
+    def _when(self, order: Ordered) -> List[str]:
+        """The times of an order as the analyzer wrote them; without a time of day that of the header too, if that has
+        none all records of the order."""
+        record = order.record
+        times = [field_text(record, number) for number in _TIMES]
+        if not any(map(_has_clock, times)):
+            times.append(field_text(self._told.message.header, 14))
+            if not _has_clock(times[-1]):
+                records = [one for each in (record, *record.results) for one in (each, *each.notes)]
+                times += [one.row.text.decode(one.encoding, "replace") for one in records]
+        return times
 
     def _result_name(self, case: Case, order: Ordered, result: Result) -> _Name:
-        """The name of a result. If it has its time, this doesn't depend on the message in which it came."""
-        who = _who(case)
-        what = [result.field, result.code, result.unit]
-        test = [self._told.one.line, order.sample, *who, "", *what]
-        names = self._key_name(_digest(str(order.record.number), *what, str(result.turn)))
-        by_test = {"system": _OF_TEST, "value": _digest(*test)}
-        if len(result.at) >= 12:
-            value = _digest(*test, str(result.turn), result.at, str(self._turn(*test, str(result.turn), result.at)))
-            names = self._own(_OF_RESULT, value, updates=True)
+        """The name of a result, and that of its test, by which a correction finds what it corrects."""
+        who, test = _who(case), [result.field, result.code, result.unit]
+        name = self._name(case, order, test, result.at, result.value)
         if not (who and order.sample and result.turn == 0):
-            return names
-        if result.status == "C" and not self._turn(by_test["value"]):  # a server that has two rejects this
-            names = names._replace(search=f"identifier={_OF_TEST}|{by_test['value']}", updates=True)
-        return names._replace(identifiers=[*names.identifiers, by_test])
+            return name
+        of = _digest(self._told.one.line, order.sample, *who, "", *test)
+        is_first = result.status == "C" and not self._turn(of)  # a server that has two rejects this
+        return self._also(name, of, is_first)
+
+    @staticmethod
+    def _also(name: _Name, test: str, is_correction: bool) -> _Name:
+        """What is known by its test too: a correction is found by that."""
+        by_test = {"system": _OF_TEST, "value": test}
+        search = f"identifier={_OF_TEST}|{test}" if is_correction else name.search
+        return name._replace(identifiers=[*name.identifiers, by_test], search=search)
 
     def _turn(self, *texts: str) -> int:
         """How often this was asked for before."""
@@ -275,7 +293,7 @@ class _Made:
     def _missing(self, about: _About, at: int) -> str:
         """An ordered test of which no result came, as one that was cancelled."""
         case, order = about[:2]
-        name = self._key_name(_digest(str(order.record.number), "", str(at)))
+        name = self._name(case, order, ["", order.tests[at].code, ""])
         status = _REPORT.get(report_of(order.record), "unknown")
         reason = "not-performed" if status == "cancelled" else "temp-unknown"
         return self._add(
@@ -293,16 +311,26 @@ class _Made:
         control = [_CONTROL] if order.control else []
         return [{"text": each} for each in [*texts, *self._told.marks, *control] if each.strip()]
 
+    def _report_name(self, about: _About, urls: List[str]) -> _Name:
+        """The name of a report on these results, and that of its tests, by which a correction finds it."""
+        found = [self._resources[url]["identifier"] for url in urls]
+        values = [one[0]["value"] for one in found]
+        if not found:
+            values = [self._name(about.case, about.order, ["", "", ""]).identifiers[0]["value"]]
+        name = self._own(_OF_RESULT, _digest("report", *values), updates=True)
+        if not found or any(len(one) == 1 for one in found):
+            return name
+        of = _digest("report", *sorted(one[1]["value"] for one in found))
+        is_correction = any(_OF_TEST in self._searches[url] for url in urls)
+        return self._also(name, of, is_correction and not self._turn(of))
+
     def _report(self, about: _About, results: List[Result], urls: List[str]) -> None:
         """A DiagnosticReport of an order."""
         order = about.order
         named, found = report_of(order.record), {_STATUS.get(one.status, "unknown") for one in results}
         usual = next((one for one in ("unknown", "preliminary", "registered", "corrected") if one in found), "final")
         status = _REPORT.get(named, "unknown") if named else "partial" if usual == "registered" else usual
-        name = self._key_name(f"report-{order.record.number}")
-        searches = [self._searches[url] for url in urls]
-        if searches and all(_OF_RESULT in one or _OF_TEST in one for one in searches):
-            name = self._own(_OF_RESULT, _digest("report", *searches), updates=True)
+        name = self._report_name(about, urls)
         codes = [*(one.code for one in order.tests), *(one.code for one in results)]
         texts = " ".join(dict.fromkeys(codes)) or "laboratory report"
         self._add(
@@ -327,6 +355,11 @@ class _Made:
 def _digest(*texts: str) -> str:
     """One text for all of these."""
     return hashlib.sha256(json.dumps(texts).encode()).hexdigest()[:32]
+
+
+def _has_clock(text: str) -> bool:
+    """Whether a text is a time with a time of day."""
+    return len(text) >= 12 and moment_of(text) is not None
 
 
 def _who(case: Case) -> List[str]:

@@ -16,13 +16,20 @@ from .results import field_text, identities_of, parts_of, report_of
 #: Status of a result (LIS02-A2, 9.5.9) as that of HL7 table 0085. A letter that isn't here is P, with a comment: HL7
 #: has another meaning for some of them.
 _STATUS = {"": "F", **{one: one for one in "CFIPSX"}, **{one: "F" for one in "MQRV"}}
-#: The flags (table 0078) and natures of a range (0080) that both standards have; priorities (0485).
+#: The flags (table 0078) and natures of a range (0080) that both standards have; priorities (0485); actions (0065).
 _FLAGS, _NATURES, _PRIORITIES = ("L", "H", "LL", "HH", "<", ">", "N", "A", "U", "D", "B", "W"), "ASRN", "SARCPT"
-#: Specimen types of table 0487 by what analyzers write.
-_SPECIMENS = {
-    **{one: one for one in ("SER", "PLAS", "UR", "BLD", "CSF", "BLDA", "BLDV", "BLDC")},
-    **{"SERUM": "SER", "PLASMA": "PLAS", "URINE": "UR", "BLOOD": "BLD", "WHOLE BLOOD": "BLD"},
+_ACTIONS = "AP"
+#: Specimen types of table 0487, and what analyzers write for them.
+_WORDS = {
+    **dict.fromkeys("CALC FLUID PUS URC URT VOM WB".split(), ""),
+    **{"ASP": "aspirate", "BLD": "blood, whole blood", "BLDA": "arterial, arterial blood", "DIA": "dialysate"},
+    **{"BLDC": "capillary, capillary blood", "BLDV": "venous, venous blood", "FLU": "body fluid", "ORH": "other"},
+    **{"CSF": "cerebrospinal fluid, spinal fluid", "GAST": "gastric fluid", "PCFL": "pericardial fluid"},
+    **{"PLAS": "plasma", "PPP": "platelet poor plasma", "PRP": "platelet rich plasma", "RANDU": "random urine"},
+    **{"SAL": "saliva", "SER": "serum", "SNV": "synovial fluid", "SPT": "sputum", "STL": "stool, feces, faeces"},
+    **{"TISS": "tissue", "UR": "urine", "URINM": "midstream urine"},
 }
+_SPECIMENS = {word.upper(): code for code, words in _WORDS.items() for word in (code, *words.split(", ")) if word}
 _ESCAPES = {"|": "\\F\\", "^": "\\S\\", "~": "\\R\\", "\\": "\\E\\", "&": "\\T\\"}
 _SPECIAL = re.compile(r"[|^~\\&\x00-\x1f]")
 #: OBR-7 must be there in a report; it is when the specimen was taken.
@@ -36,12 +43,14 @@ VERSIONS = ("2.3.1", "2.5", "2.5.1")
 
 class Wishes(NamedTuple):
     """What a receiver wants in its messages: fields of MSH by their numbers; authority and type of the identities of
-    P-3, P-4 and P-5, by these numbers; the authority of samples; and for what an OBR is: an order, a test, a sample."""
+    P-3, P-4 and P-5, by these numbers; the authority of samples; for what an OBR is: an order, a test, a sample; and
+    what OBR-2 has: a field of the order's record, as O.19, or `sample`."""
 
     header: Mapping[int, str] = {}
     authorities: Mapping[int, Tuple[str, str]] = {}
     samples: str = ""
     obr: str = "order"
+    placer: str = ""
 
     @property
     def version(self) -> str:
@@ -51,14 +60,15 @@ class Wishes(NamedTuple):
 
 _IDENTITIES = {"practice": 3, "laboratory": 4, "third": 5}
 _HEADER = {f"MSH-{number}": number for number in (3, 4, 5, 6, 11, 12)}
+_PLACER = re.compile(r"sample$|O\.[1-9]\d?(\.[1-9]\d?)?$")
 
 
 def wishes_of(words: Sequence[str]) -> Wishes:
     """Words `NAME=VALUE`: `MSH-5=LIS`, `practice=HOSP PI` (authority and type), `sample=AUTHORITY`, `obr=test`,
-    `obr=sample`."""
+    `obr=sample`, `OBR-2=O.19`, `OBR-2=sample`."""
     header: Dict[int, str] = {}
     authorities: Dict[int, Tuple[str, str]] = {}
-    samples, obr = "", "order"
+    samples, obr, placer = "", "order", ""
     for word in words:
         name, equals, value = word.partition("=")
         if not equals or not value:
@@ -72,12 +82,15 @@ def wishes_of(words: Sequence[str]) -> Wishes:
             samples = value
         elif name == "obr" and value in ("order", "test", "sample"):
             obr = value
+        elif name == "OBR-2" and _PLACER.match(value):
+            placer = value
         else:
-            names = ", ".join([*_HEADER, *_IDENTITIES, "sample", "obr=test", "obr=sample"])
+            more = "sample", "obr=test", "obr=sample", "OBR-2=O.19", "OBR-2=sample"
+            names = ", ".join([*_HEADER, *_IDENTITIES, *more])
             raise OptionError(f"{word}: what can be set is {names}")
     if header.get(12, VERSIONS[0]) not in VERSIONS:
         raise OptionError(f"MSH-12={header[12]}: a version is {', '.join(VERSIONS)}")
-    return Wishes(header, authorities, samples, obr)
+    return Wishes(header, authorities, samples, obr, placer)
 
 
 def escaped(text: str) -> str:
@@ -87,17 +100,15 @@ def escaped(text: str) -> str:
 
 def segment(name: str, fields: Mapping[int, Field]) -> str:
     """A segment with these fields, by their numbers, which rise, and the CR after it."""
-    cells = [name]
-    place = 1  # of the next cell; MSH-1 is the delimiter itself
-    if name == "MSH":
-        cells, place = [name, "^~\\&"], 3
+    out, last = name, 0
+    if name == "MSH":  # MSH-1 is the delimiter itself
+        out, last = "MSH|^~\\&", 2
     for number, value in fields.items():
         text = value if isinstance(value, str) and value.isalnum() else _field(value) if value else ""
         if text:
-            cells += [""] * (number - place)
-            cells.append(text)
-            place = number + 1
-    return "|".join(cells) + "\r"
+            out += "|" * (number - last) + text
+            last = number
+    return out + "\r"
 
 
 def _field(value: Field) -> str:
@@ -258,35 +269,48 @@ def _order(
     record, is_old = order.record, wishes.version == VERSIONS[0]
     taken, (code, text) = told.at(record.text(8)), specimen_of(record)
     kind = [code, text, "HL70487"] if code else ["", text] if text else []
-    priority = next((one for one in _PRIORITIES if one == field_text(record, 6).upper()), "")
+    priority = _among(_PRIORITIES, field_text(record, 6))
     first = "" if taken else min((one.at for one in results if one.at), default="")
-    yield segment(
-        "OBR",
-        {
-            1: str(number),
-            2: order.sample,
-            3: order.instrument_sample,
-            4: _service(order, results),
-            5: priority,
-            6: told.at(record.text(7)),
-            7: taken or told.at(first),
-            8: told.at(record.text(9)),
-            13: field_text(record, 14),
-            14: told.at(record.text(15)),
-            15: kind if is_old else "",
-            16: parts_of(record, 17),
-            22: told.at(record.text(23)),
-            25: _report(order, results),
-            27: [*[""] * 5, priority] if is_old else "",
-        },
-    )
+    fields: Dict[int, Field] = {1: str(number), 4: _service(order, results), 25: _report(order, results)}
+    fields.update(_request(told, order, wishes.placer))
+    fields.update({5: priority, 7: taken or told.at(first)})
+    if is_old:
+        kept = order.instrument_sample if order.sample else ""
+        fields.update({15: kind, 20: kept, 27: [*[""] * 5, priority] if priority else ""})
+    yield segment("OBR", dict(sorted(fields.items())))
     yield from _notes([*order.comments, *([Comment("L", _NOT_TAKEN)] if first else []), *more])
     if priority and not is_old:
         yield segment("TQ1", {1: "1", 9: priority})
     for place, result in enumerate(results, 1):
         yield from _result(told, place, result, taken)
-    if (kind or order.control) and not is_old:
-        yield _sample(order, kind or ["", "control"], taken, told.at(record.text(15)))
+    if not is_old and (kind or order.control or order.sample or order.instrument_sample):
+        usual = ["", "control" if order.control else "unspecified"]
+        yield _sample(order, kind or usual, taken, told.at(record.text(15)))
+
+
+def _request(told: Told, order: Ordered, placer: str) -> Dict[int, Field]:
+    """What OBR has of the order's record. No field of it has the number that who ordered gave the order: OBR-2 is as it
+    is set. The laboratory knows the order by its sample."""
+    record, number = order.record, order.sample if placer == "sample" else ""
+    if placer.startswith("O"):
+        field, component = (placer.split(".") + ["1"])[1:3]
+        number = record.text(int(field), 0, int(component) - 1).strip()
+    return {
+        2: number,
+        3: order.sample or order.instrument_sample,
+        6: told.at(record.text(7)),
+        8: told.at(record.text(9)),
+        11: _among(_ACTIONS, field_text(record, 12)),
+        13: field_text(record, 14),
+        14: told.at(record.text(15)),
+        16: parts_of(record, 17),
+        22: told.at(record.text(23)),
+    }
+
+
+def _among(letters: str, text: str) -> str:
+    """The letter that a text is, in whatever case; empty if it is none of these."""
+    return text.upper() if len(text) == 1 and text.upper() in letters else ""
 
 
 def _sample(order: Ordered, kind: List[str], taken: str, received: str) -> str:

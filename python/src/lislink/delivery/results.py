@@ -176,8 +176,8 @@ class Told:
             raise Quarantined(f"order, record {record.number} of the message: {why}")
         self._check(record)
         tests = []
-        for at in range(len(record.row.field(5))):
-            coding = self._codings.get((record.number, at)) or Coding(code_of(record, 5, at, self.reading))
+        for at, parts in enumerate(repeats_of(record, 5)):
+            coding = self._codings.get((record.number, at)) or Coding(code_among(parts, self.reading))
             tests += [coding] if coding.code else []
         other = record.row.field(4)
         instrument = record.text(4).strip() if len(other) == 1 and len(other[0]) == 1 else ""
@@ -291,24 +291,32 @@ def identity_of(patient: Entry, field: int) -> Tuple[Identity, str]:
     return Identity(_whole(patient, field)), f"which part of P-{field} is the patient's identity?"
 
 
-def parts_of(entry: Entry, field: int, repeat: int = 0) -> List[str]:
+def parts_of(entry: Entry, field: int) -> List[str]:
     """The components of a field without blanks around them, up to the last one that isn't empty."""
-    plain = None if repeat else entry.row.plain(field)
+    plain = entry.row.plain(field)
     if plain is not None:
         text = plain.decode(entry.encoding, "replace").strip()
         return [text] if text else []
     repeats = entry.row.field(field)
-    parts = repeats[repeat] if repeat < len(repeats) else []
-    found = [part.decode(entry.encoding, "replace").strip() for part in parts]
+    return _filled(repeats[0], entry.encoding) if repeats else []
+
+
+def repeats_of(entry: Entry, field: int) -> List[List[str]]:
+    """The same of each repeat of a field."""
+    return [_filled(parts, entry.encoding) for parts in entry.row.field(field)]
+
+
+def _filled(parts: List[bytes], encoding: str) -> List[str]:
+    found = [part.decode(encoding, "replace").strip() for part in parts]
     while found and not found[-1]:
         found.pop()
     return found
 
 
-def code_of(entry: Entry, field: int, repeat: int = 0, reading: Reading = Reading()) -> str:
+def code_of(entry: Entry, field: int, reading: Reading = Reading()) -> str:
     """The code of a test: the components that the line's setting names; without one the maker's code if nothing is
     after it (LIS02-A2, 6.6.1), else the whole field, so that two tests never have one code."""
-    return code_among(parts_of(entry, field, repeat), reading)
+    return code_among(parts_of(entry, field), reading)
 
 
 def code_among(parts: List[str], reading: Reading) -> str:

@@ -11,7 +11,7 @@ from ..records import MessageError, Reader, messages
 from ..rows import Row
 from ..station import Answer, Station
 from .outbox import Batch, Outbox, Site
-from .line import Line
+from .line import ENQ, Line
 from .notices import OTHER, REPLY
 from .store import Add, Change
 
@@ -112,7 +112,7 @@ class TwoWayLine(Line):
         outbox.wakes(self._woken)
 
     def _begin(self, frame: int) -> None:
-        self._station = Station(Role.COMPUTER, frame_limit=frame)
+        self._station = Station(Role.COMPUTER, frame_limit=frame, careful=self._is_careful)
 
     def _is_busy(self) -> bool:
         return self._station.is_open or self._sending is not None
@@ -137,7 +137,6 @@ class TwoWayLine(Line):
             self._restart("there was no room for a long text")
 
     def _end(self) -> None:
-        self._outbox.forget(self._site, self._woken)
         for task in self._answers:
             task.cancel()
         if self._sending is not None and self._has_heard and self._sending.placed:
@@ -147,6 +146,7 @@ class TwoWayLine(Line):
             self._sending = None
         for batch in self._ready:
             self._outbox.unsent(self._site, batch)
+        self._outbox.forget(self._site, self._woken)
         self._station.close()
         self._asking.over()
 
@@ -176,18 +176,21 @@ class TwoWayLine(Line):
     async def _heard(self, data: bytes, arrived: float) -> None:
         self._note_late(data)
         for heard in self._feeds.take(data):
+            before = self._station.noise
             for place, answer in self._station.hear_placed(heard.data):
                 step = answer.step and self._feeds.restored(heard, answer.step)
-                await self._meant(answer._replace(step=step), place + heard.start, arrived)
+                answer, is_enq = answer._replace(step=step), heard.data[place] == ENQ
+                await self._meant(answer, place + heard.start, arrived, is_enq)
                 await self._take_turns()
                 if self._is_through():
                     return
+            self._note_noise(self._station.noise - before)
 
-    async def _meant(self, answer: Answer, place: int, arrived: float) -> None:
+    async def _meant(self, answer: Answer, place: int, arrived: float, is_enq: bool = False) -> None:
         before, self._phase = self._phase, self._station.phase
         if answer.step is not None:
             self._watch.step(place, answer.step)
-            await self._step(answer.step, arrived)
+            await self._step(answer.step, arrived, is_enq)
             if answer.step.note in _OVER:
                 self._asking.over()
             self._contended = 0
@@ -270,10 +273,10 @@ class TwoWayLine(Line):
             await self._take_back()
             return
         async with self._look_ups:
-            batch = await self._outbox.answer(self._site, queries, b"".join(row.text + b"\r" for row in rows))
-        self._found(batch is None or batch.holds_orders)
-        if batch is not None:
-            self._ready.append(batch)
+            answer = await self._outbox.answer(self._site, queries, b"".join(row.text + b"\r" for row in rows))
+        self._found(answer.is_any)
+        if answer.batch is not None:
+            self._ready.append(answer.batch)
         self._has_work = True
         self._wake()
 

@@ -167,7 +167,7 @@ def _usual(coded: "Coded") -> "Dict[str, Callable[[table.Where], str]]":
 
     def test(where: table.Where) -> str:
         coding = coded.codings.get((where[3].number, 0))
-        return coding.code if coding else code_of(where[3], 3, 0, coded.reading)
+        return coding.code if coding else code_of(where[3], 3, coded.reading)
 
     texts = {"value": 4, "unit": 5, "range": 6, "flag": 7, "status": 9}
     return {

@@ -13,6 +13,7 @@ from ..link import Step
 _STX, _LF, _VT = b"\x02", b"\n", b"\x0b"
 #: What ends a frame, and what breaks one off.
 _END, _BREAKS = re.compile(rb"[\x03\x17][^\n]{2}\r\n"), re.compile(rb"[\x02\x04\x05]")
+_ENDS = re.compile(rb"[\x04\x05]")
 #: The bytes of a frame besides its text, and what drops a text.
 _AROUND = 7
 _DROPS = (Note.OPENED, Note.NOT_READY, Note.ENDED, Note.TIMED_OUT)
@@ -40,10 +41,11 @@ class AsItComes:
 
 
 class LineFeeds(AsItComes):
-    """A line whose frames may hold LF. A frame is heard when all of it has come."""
+    """A line whose frames may hold LF. A frame is heard when all of it has come. STX breaks a frame off, unless it is
+    heard carefully: then the frame has it in it, and is rejected."""
 
-    def __init__(self, limit: int) -> None:
-        self._most = limit + _AROUND
+    def __init__(self, limit: int, is_careful: bool = False) -> None:
+        self._most, self._breaks = limit + _AROUND, _ENDS if is_careful else _BREAKS
         #: The frame that goes on, and the texts so far of one text.
         self._frame, self._texts = bytearray(), bytearray()
 
@@ -58,7 +60,7 @@ class LineFeeds(AsItComes):
                 self._frame += data[start : start + 1]
                 at = start + 1
             else:
-                found = _BREAKS.search(data, at)
+                found = self._breaks.search(data, at)
                 end = data.find(_LF, at) + 1 or len(data)
                 end = min(end, found.start()) if found else end
                 self._frame += data[at:end]

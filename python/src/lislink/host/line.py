@@ -14,7 +14,7 @@ from .feeds import AsItComes, LineFeeds
 from .intake import FIRST, Intake, Pool, TooLong
 from .mend import LINE_FEEDS, Ended
 from .mender import Bodies, Mender, is_mended
-from .notices import CODES, CONNECTION, LETTERS, MESSAGE, REJECTED, REPLY
+from .notices import CODES, CONNECTION, LETTERS, MESSAGE, NOISE, REJECTED, REPLY
 from .options import Limits
 from .store import MENDED, WHOLE, Add, Change, End, StoreError
 from .turns import Share, Turns
@@ -24,6 +24,8 @@ from .turns import Share, Turns
 WAITING, TOGETHER = 1 << 16, 1 << 14
 #: EOT after so many seconds without a frame is that of an analyzer that heard no reply.
 BROKEN = 10.0
+#: What helps an analyzer whose sessions begin without the end of the one before.
+ENQ, ANEW = 5, "careful=no of its line answers its first ENQ"
 #: What ends a session, and what that makes of a message without its L record.
 _ENDS = {
     Note.OPENED: "a new session began before its L record",
@@ -31,6 +33,7 @@ _ENDS = {
     Note.ENDED: "the session ended before its L record",
     Note.TIMED_OUT: "the analyzer fell silent before its L record",
 }
+_NOISE = "there was noise on the line before its L record"
 _TAKEN = (Note.ACCEPTED, Note.DUPLICATE)
 _COUNTED = {
     Note.OPENED: "sessions",
@@ -97,8 +100,11 @@ class Line:
         say: Callable[[str, str], None],
         turns: Turns,
         mender: Mender,
+        is_careful: bool = False,
     ) -> None:
-        self._mender = mender
+        self._mender, self._is_careful = mender, is_careful
+        #: Where in the connection the last ENQ was that was heard as noise; less than 0 for none.
+        self._noise_at = -1
         #: Messages that ended, of which it is to be tried which setting would deliver them.
         self._tries: List[Ended] = []
         #: Whether the last frame was taken, and when a reply went out last.
@@ -130,11 +136,11 @@ class Line:
 
     def _begin(self, frame: int) -> None:
         """Makes the end that hears the line."""
-        self._receiver = Receiver(frame_limit=frame)
+        self._receiver = Receiver(frame_limit=frame, careful=self._is_careful)
 
     def _feeds_of(self, frame: int) -> AsItComes:
         """What is between the line and the end that hears it."""
-        return LineFeeds(frame) if self._mender.names & LINE_FEEDS else AsItComes()
+        return LineFeeds(frame, self._is_careful) if self._mender.names & LINE_FEEDS else AsItComes()
 
     def _is_busy(self) -> bool:
         """Whether a session goes on."""
@@ -168,13 +174,15 @@ class Line:
 
     async def _heard(self, data: bytes, arrived: float) -> None:
         for heard in self._feeds.take(data):
+            before = self._receiver.noise
             for place, found in self._receiver.hear_placed(heard.data):
                 step = self._feeds.restored(heard, found)
                 self._watch.step(place + heard.start, step)
-                await self._step(step, arrived)
+                await self._step(step, arrived, heard.data[place] == ENQ)
                 await self._take_turns()
                 if self._is_through():
                     return
+            self._note_noise(self._receiver.noise - before)
 
     def _start_at(self) -> Optional[float]:
         """When a session of the host's own may start, if it has something to send."""
@@ -327,13 +335,32 @@ class Line:
             self._pause(self._read_at)
             await self._share.wait()
 
-    async def _step(self, step: Step, arrived: float) -> None:
+    def _note_noise(self, count: int) -> None:
+        """Notes how many ENQ and STX came inside a session or a frame, where no analyzer sends them."""
+        if count:
+            self._counts["noise"] += count
+            self._probe.noise(count)
+
+    def _note_enq(self, step: Step) -> None:
+        """Says of an ENQ whether it is noise: it came in a session, and had no reply. An analyzer that begins anew without
+        EOT sends the next one at once; noise is followed by the rest of its frame, or by EOT."""
+        at, before = self._watch.at, self._noise_at
+        self._noise_at = at if step.note is Note.ENDED else -1
+        if step.note is Note.ENDED:
+            self._say(f"noise on the line: byte {at} of the connection, in a session, is ENQ; it has no reply", NOISE)
+        elif 0 <= before == at - 1:
+            self._say(f"ENQ came again, with nothing between: if the analyzer begins anew without EOT, {ANEW}", NOISE)
+
+    async def _step(self, step: Step, arrived: float, is_enq: bool = False) -> None:
+        if is_enq:
+            self._note_enq(step)
         self.had_session = self.had_session or step.note is Note.OPENED
         if step.note in _COUNTED:
             self._counts[_COUNTED[step.note]] += 1
         if step.note in _ENDS:
             is_over = self._is_taken and arrived - self._replied < BROKEN * self._limits.scale
-            self._drop(_ENDS[step.note], is_over and step.note is Note.ENDED)
+            is_over = is_over and step.note is Note.ENDED and not is_enq
+            self._drop(_NOISE if is_enq and step.note is Note.ENDED else _ENDS[step.note], is_over)
         self._is_taken = step.note in _TAKEN or (self._is_taken and step.note not in REJECTED)
         if step.text is not None and not await self._keep(step.text):
             return

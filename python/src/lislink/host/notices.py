@@ -12,9 +12,9 @@ from .said import about
 AT_ONCE, SECONDS = 10, 30.0
 #: The kinds of notices: lines that came, went or may not connect; messages that aren't whole; rejected frames; replies
 #: that were late; sessions and bytes of which nothing was understood; codes that a table lacks; letters of another
-#: encoding; all else.
+#: encoding; noise on the line; all else.
 CONNECTION, MESSAGE, FRAME, REPLY, SESSION, OTHER = "connection", "message", "frame", "reply", "session", "other"
-CODES, LETTERS = "codes", "letters"
+CODES, LETTERS, NOISE = "codes", "letters", "noise"
 #: After so many bytes without a session that is said of a line that stays open; and after so many empty sessions.
 BYTES, EMPTY = 1000, 5
 REJECTED = (

@@ -48,6 +48,7 @@ class Listen(NamedTuple):
     allow: Tuple[Network, ...] = ()
     mend: Tuple[str, ...] = ()
     link: str = ""
+    careful: str = ""
     telnet: str = ""
     waits: str = ""
     codes: str = ""
@@ -71,6 +72,7 @@ class Connect(NamedTuple):
     none: str = NOTHINGS[0]
     mend: Tuple[str, ...] = ()
     link: str = ""
+    careful: str = ""
     telnet: str = ""
     waits: str = ""
     codes: str = ""
@@ -96,6 +98,7 @@ class Serial(NamedTuple):
     none: str = NOTHINGS[0]
     mend: Tuple[str, ...] = ()
     link: str = ""
+    careful: str = ""
     codes: str = ""
     sample: str = ""
     test: str = ""
@@ -204,6 +207,12 @@ def _telnet(word: str) -> str:
     return "" if word == "no" else word
 
 
+def _careful(word: str) -> str:
+    if word not in ("yes", "no"):
+        raise OptionError(f"careful is yes or no, not {word}")
+    return "" if word == "no" else word
+
+
 def _sample(word: str) -> str:
     if not _SAMPLE.match(word):
         raise OptionError(f"{word}: the sample is O.3, O.4 or a component of one, as O.4.3, or none")
@@ -243,6 +252,7 @@ READS: Dict[str, Callable[[str], Any]] = {
     "none": _none,
     "mend": _mend,
     "link": _link,
+    "careful": _careful,
     "telnet": _telnet,
     "waits": _waits,
     "codes": str,
@@ -254,7 +264,7 @@ READS: Dict[str, Callable[[str], Any]] = {
 }
 #: The settings that only a file of lines has: what a line's records mean, and how its queries are read.
 OF_FILES = ("codes", "sample", "test", "zone", "letters", "twice", *asks.READS)
-_WORDS = ("frame", "encoding", "orders", "none", "mend", "link")
+_WORDS = ("frame", "encoding", "orders", "none", "mend", "link", "careful")
 TCP_WORDS, SERIAL_WORDS = (*_WORDS, "telnet", "waits"), ("mode", "flow", *_WORDS)
 
 

@@ -25,6 +25,8 @@ WAITS = (5.0, 15.0, 60.0, 300.0)
 #: How often a query is looked up while the store gives no answer, a look apart, and while its orders are being sent over
 #: another connection from there; an answer that couldn't be sent waits so many seconds for its analyzer to connect anew.
 LOOKS, OTHERS, KEPT = 3, 30, 600.0
+#: Of so many messages of a connection the queries are known, for what their orders have from them.
+MESSAGES = 8
 #: Work of a thread, and what becomes of it.
 Work = Tuple["Future[Any]", Callable[[], Any]]
 
@@ -52,10 +54,12 @@ class Site(NamedTuple):
 
 
 class Batch(NamedTuple):
-    """What is sent in one session: its texts, the orders in them, and how often these were tried."""
+    """What is sent in one session: its texts, the orders in them with how often these were tried, and the queries that
+    asked for them."""
 
     texts: Sequence[bytes]
     placed: Sequence[Placed] = ()
+    queries: Sequence[Query] = ()
 
     @property
     def is_answer(self) -> bool:
@@ -63,14 +67,17 @@ class Batch(NamedTuple):
         return not self.placed or self.placed[0].asked != ""
 
     @property
-    def holds_orders(self) -> bool:
-        """Whether it has an order, or the store doesn't say whether there is one."""
-        return bool(self.placed) or any(text[:1] in b"Oo" or text[:5] == b"L|1|Q" for text in self.texts)
-
-    @property
     def told(self) -> str:
         """It in a few words."""
         return told_of(one.order for one in self.placed) or "the answer to a query"
+
+
+class Answer(NamedTuple):
+    """What there is for a query: what is sent, if it isn't in the store; and whether an order was found, or the store
+    doesn't say."""
+
+    batch: Optional[Batch]
+    is_any: bool
 
 
 class Desk:
@@ -126,10 +133,11 @@ class Outbox:
         self._failed = (0, 0.0)
         self._said, self._told = "", set()  # type: str, Set[str]
         self._codes: Callable[[str], Mapping[str, str]] = lambda line: {}
-        #: The queries of each place whose orders weren't taken yet.
-        self._queries: Dict[str, Sequence[Query]] = {}
-        #: The answers that wait for a place to connect anew, each with when it was made.
-        self._kept: Dict[str, Tuple[Batch, float]] = {}
+        #: The queries whose orders aren't sent yet, message by message, by their place and seat; the seat is empty once
+        #: the connection is over.
+        self._queries: Dict[Tuple[str, str], List[Sequence[Query]]] = {}
+        #: The answers that wait for a place to connect anew, by it and the seat that asked, each with when it was made.
+        self._kept: Dict[Tuple[str, str], Tuple[Batch, float]] = {}
         #: How often an analyzer was busy in a row, or asked for the line too, before a place was connected anew.
         self.put_off: Dict[str, Tuple[int, int]] = {}
         #: How many orders may be in one session with this one: fewer after a session that was rejected.
@@ -180,6 +188,8 @@ class Outbox:
     def forget(self, site: Site, woken: Callable[[str, str], None]) -> None:
         """The connection is over. What was asked for over it is sent over the next one from there."""
         self._woken.remove(woken)
+        for queries in self._queries.pop((site.place, site.seat), ()):
+            self._note(site.place, "", queries)
         if self._book is not None:
             self._work.begin(self._until_kept(self._book.leave, site.seat))
 
@@ -235,22 +245,34 @@ class Outbox:
 
     # ---- queries
 
-    async def answer(self, site: Site, queries: Sequence[Query], message: bytes) -> Optional[Batch]:
-        """The answer to the queries of a message, if it isn't in the store: there the orders are marked as asked for,
-        and `take` gives them, all in one session."""
-        command = site.asks.command or self._command
+    async def answer(self, site: Site, queries: Sequence[Query], message: bytes) -> Answer:
+        """The answer to the queries of a message. Orders of the store are marked as asked for, and `take` gives them,
+        all in one session."""
+        command, is_silent = site.asks.command or self._command, site.none == "silence"
         if command:
             texts = await self._asked_of_command(site, command, message)
-            return Batch(texts or self._nothing(site, queries)) if texts or site.none != "silence" else None
-        wanted = [one.wanted for one in queries]
-        found = await self._look_up(site, wanted)
-        if found is None:
-            return Batch(failure()) if site.none != "silence" else None
-        if found.found:
-            self._queries[site.place] = queries
-        if found.found or found.mine or site.none == "silence":
-            return None
-        return Batch(failure() if found.others else self._nothing(site, queries))
+            batch = Batch(texts or self._nothing(site, queries)) if texts or not is_silent else None
+            return Answer(batch, any(text[:1] in b"Oo" for text in texts))
+        found = await self._look_up(site, [one.wanted for one in queries])
+        if found is not None and found.found:
+            self._note(site.place, site.seat, queries)
+        if found is not None and (found.found or found.mine):
+            return Answer(None, True)
+        is_any = found is None or found.others > 0
+        if is_silent:
+            return Answer(None, is_any)
+        return Answer(Batch(failure() if is_any else self._nothing(site, queries)), is_any)
+
+    def _note(self, place: str, seat: str, queries: Sequence[Query]) -> None:
+        """Orders are to be sent for these queries."""
+        if queries:
+            self._queries[place, seat] = [*self._queries.get((place, seat), ()), queries][-MESSAGES:]
+
+    def _noted(self, site: Site) -> List[Query]:
+        """The queries for which orders are sent now, the last message's first. Another connection from there, as that
+        of a second analyzer of a terminal server, has its own."""
+        found = [one for seat in (site.seat, "") for one in reversed(self._queries.pop((site.place, seat), []))]
+        return [query for queries in found for query in queries]
 
     async def _look_up(self, site: Site, wanted: Sequence[Wanted]) -> Optional[Asked]:
         """The orders that are marked as asked for; None if the store doesn't say. What is on its way to the same place is
@@ -274,13 +296,14 @@ class Outbox:
     async def take_back(self, site: Site, batches: Sequence[Batch]) -> None:
         """The analyzer takes its query back: what it asked for waits as if it hadn't, also these batches, which are not
         sent."""
-        self._kept.pop(site.place, None)
-        self._queries.pop(site.place, None)
+        while self._kept_for(site) is not None:
+            pass
+        self._noted(site)
         if self._book is None:
             return
         numbers = [one.number for batch in batches for one in batch.placed]
         try:
-            await self._run(self._book.take_back, site.place, numbers)
+            await self._run(self._book.take_back, site.place, site.seat, numbers)
         except StoreError as error:
             self._say(f"{site.line}: a query can't be taken back: {error}")
         self._in_hand.difference_update(numbers)
@@ -308,9 +331,9 @@ class Outbox:
 
     async def take(self, site: Site) -> Optional[Batch]:
         """What is to be sent on a line now; None if there is nothing, or the store doesn't say."""
-        kept = self._kept.pop(site.place, None)
-        if kept is not None and time.monotonic() - kept[1] < KEPT:
-            return kept[0]
+        kept = self._kept_for(site)
+        if kept is not None:
+            return kept
         if self._book is None or site.asks.command:
             return None
         for place in [site.place, ""] if site.unasked else [site.place]:
@@ -318,12 +341,22 @@ class Outbox:
             if placed is None:
                 return None
             # None of what was asked for is taken: it is another connection's, or somebody has it for now.
-            queries = self._queries.pop(site.place, None) if place and placed else None
+            queries = self._noted(site) if place and placed else []
             good = [one for one in placed if self._can_be_written(site, one)]
-            if not good and queries is not None and site.none != "silence":
+            if not good and queries and site.none != "silence":
                 return Batch(self._nothing(site, queries))
             if good:
-                return await self._batch_of(site, good, place, queries or ())
+                return await self._batch_of(site, good, place, queries)
+        return None
+
+    def _kept_for(self, site: Site) -> Optional[Batch]:
+        """An answer that waits for this connection: it came after the one that asked, from the same place."""
+        over = time.monotonic() - KEPT
+        for (place, seat), (batch, at) in list(self._kept.items()):
+            if at <= over or (place == site.place and int(seat) < int(site.seat)):
+                del self._kept[place, seat]
+                if at > over:
+                    return batch
         return None
 
     async def _batch_of(self, site: Site, placed: List[Placed], place: str, queries: Sequence[Query]) -> Batch:
@@ -331,14 +364,14 @@ class Outbox:
         lot = min(self._lots.get(one.number, len(placed)) for one in placed)
         now, later = placed[:lot], placed[lot:]
         if later:
-            self._queries.update({site.place: queries} if place else {})
+            self._note(site.place, site.seat, queries)
             await self._give_back(later)
         report, end = (QUERIED, NORMAL if later else ANSWERED) if place else (ORDERED, NORMAL)
         beside = functools.partial(_beside, site, queries)
         orders = [self._coded(site, one.order) for one in now]
         how: Dict[str, Any] = {"report": report, "end": end, "beside": beside, "component": site.component}
         texts = texts_of(orders, site.encoding, **how)
-        return Batch(texts, now)
+        return Batch(texts, now, queries)
 
     async def _give_back(self, placed: Sequence[Placed]) -> None:
         """Orders that were taken, and of which none was begun, wait again."""
@@ -399,15 +432,17 @@ class Outbox:
     def unsent(self, site: Site, batch: Batch) -> None:
         """The connection is over before it was begun, or before anything came over it: that is no try. An answer that
         isn't in the store waits for its analyzer."""
+        self._note(site.place, site.seat, batch.queries)
         if batch.placed:
             self._work.begin(self._give_back(batch.placed))
         else:
-            self._kept[site.place] = batch, time.monotonic()
+            self._kept[site.place, site.seat] = batch, time.monotonic()
 
     def failed(self, site: Site, batch: Batch, why: str, is_rejected: bool = False) -> None:
         """It was sent in vain. Orders that were rejected together are sent in halves, and then alone: one that an
         analyzer rejects takes no other along."""
         self._say(f"{site.line}: not sent: {batch.told}: {why}")
+        self._note(site.place, site.seat, batch.queries)
         if is_rejected and len(batch.placed) > 1:
             self._lots.update((one.number, (len(batch.placed) + 1) // 2) for one in batch.placed)
             self._work.begin(self._give_back(batch.placed))

@@ -18,6 +18,8 @@ class PlainReceiver:
 
     def __init__(self) -> None:
         self.is_open, self._block, self._is_within, self._most = False, bytearray(), False, MOST
+        #: It hears no noise.
+        self.noise = 0
 
     @property
     def held(self) -> int:

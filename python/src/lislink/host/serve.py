@@ -210,7 +210,8 @@ class Host:
         intake = Intake(place.name, peer, place.encoding, self.limits.message, time.time, self._held, unknown)
         notice = functools.partial(self._notice, place.name, peer)
         probe = self.board.probe(place, self._tape(place.name), notice)
-        given = (wire, intake, self.committer, self.limits, counts, probe, place.frame, notice, self.turns, mender)
+        limits, careful = self.limits, bool(place.careful)
+        given = (wire, intake, self.committer, limits, counts, probe, place.frame, notice, self.turns, mender, careful)
         line = self._line(place, peer, given)
         line.asleep, line.room = self.asleep, self._texts
         notice("connected" if wire.is_tcp else "open", CONNECTION)

@@ -84,7 +84,7 @@ def rows_of(store: Store, state: Dict[str, Any]) -> List[Dict[str, Any]]:
     for name in sorted({*kept, *live}):
         row: Dict[str, Any] = {
             one: live.get(name, {}).get(one, 0)
-            for one in ("connected", "queries", "found_nothing", "rejected", "late", "not_kept")
+            for one in ("connected", "queries", "found_nothing", "rejected", "late", "not_kept", "noise")
         }
         row["came"] = live.get(name, {}).get("connections", 0)
         row["late"] += live.get(name, {}).get("late_replies", 0)

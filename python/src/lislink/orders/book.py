@@ -314,15 +314,16 @@ class OrderBook:
     def _seat(self, seat: str) -> str:
         return f"{self._host}/{seat}"
 
-    def take_back(self, place: str, numbers: Sequence[int] = ()) -> None:
-        """What was asked for at a place is asked for no more, but for what is being sent. Orders with these numbers are
-        in this host's hands and are not sent."""
+    def take_back(self, place: str, seat: str, numbers: Sequence[int] = ()) -> None:
+        """What was asked for at a place is asked for no more, but for what is being sent, and for what was asked for
+        over another connection of this host. Orders with these numbers are in this host's hands and are not sent."""
         ours = f" OR number IN ({', '.join('?' * len(numbers))})" if numbers else ""
         with self._store.changing():
             self._store.run(
                 f"UPDATE orders SET asked = '', seat = '', holder = '', state = {_BEFORE}"
-                f" WHERE state = '{WAITING}' AND asked = ? AND (holder = ''{ours})",
-                (place, *numbers),
+                f" WHERE state = '{WAITING}' AND asked = ? AND (holder = ''{ours})"
+                " AND (seat = ? OR substr(seat, 1, ?) <> ?)",
+                (place, *numbers, self._seat(seat), len(self._seat("")), self._seat("")),
             )
 
     def leave(self, seat: str) -> None:

@@ -199,6 +199,7 @@ _COUNTED = {
     "texts": "texts",
     "not_kept": "texts that could not be kept",
     "late": "replies that would have been late",
+    "noise": "ENQ and STX inside a session or a frame (noise)",
     "timeouts": "sessions that fell silent",
     "unknown_codes": "results with a code that the table of the line lacks",
 }

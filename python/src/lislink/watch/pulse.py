@@ -19,7 +19,8 @@ from .verdicts import BAD, GOOD, Verdict, Ways, advice_on, is_way, plain_hint, w
 #: For so many seconds nothing may follow an acknowledged ENQ, and stray bytes may be without an ENQ; after so many
 #: seconds without a message a line is quiet. They are as many times as long as the timers of a test.
 PATIENCE, QUIET = 10.0, 1800.0
-#: So many rejected frames in a row are bad; so many sessions in a row that end without a frame; so many echoes.
+#: So many rejected frames in a row are bad, and so many bytes that are noise before the next message; so many sessions in
+#: a row that end without a frame; so many echoes.
 IN_A_ROW, EMPTY, ECHOES = 3, 5, 3
 #: So many queries in a row for which there is no order.
 IN_VAIN = 5
@@ -169,7 +170,7 @@ class Pulse:
         """What is said of a kind of trouble, if it is bad by itself."""
         if kind == "hopeless":
             return None
-        looks = {"frames": self._frames, "echo": self._echo, "queries": self._queries}
+        looks = {"frames": self._frames, "echo": self._echo, "queries": self._queries, "noise": self._noise}
         return looks[kind]() if kind in looks else self._of(kind)
 
     def take_failed(self, found: Optional[Failed]) -> None:
@@ -193,7 +194,7 @@ class Pulse:
             verdict = Verdict.NO_CONNECTION if is_called else Verdict.NO_DEVICE
             return says(verdict, self.begun, why=unusable)
         host = self._of("store") or self._of("late") or self._of("own")
-        line = host or self._strange() or self._frames() or self._silent() or self._echo()
+        line = host or self._strange() or self._frames() or self._noise() or self._silent() or self._echo()
         return line or self._of("lost") or self._of("messages") or self._queries() or self._well()
 
     def _of(self, kind: str) -> Optional[Says]:
@@ -232,6 +233,10 @@ class Pulse:
         one = self.troubles.get("echo")
         return says(one.verdict, one.since, one.count) if one is not None and one.count >= ECHOES else None
 
+    def _noise(self) -> Optional[Says]:
+        one = self.troubles.get("noise")
+        return says(one.verdict, one.since, one.count) if one is not None and one.count >= IN_A_ROW else None
+
     def _queries(self) -> Optional[Says]:
         one = self.troubles.get("queries")
         return says(one.verdict, one.since, one.count) if one is not None and one.count >= IN_VAIN else None
@@ -267,8 +272,10 @@ def protocol_of(data: bytes, otherwise: Verdict) -> "tuple[Verdict, str]":
 class Probe:
     """Sees what a connection hears and sends, and what that means. It is the tape of the connection, too."""
 
-    def __init__(self, pulse: Pulse, tape: Optional[Tape], say: Callable[[str, str], None]) -> None:
-        self._pulse, self._file, self._notices = pulse, tape, Watch(say)
+    def __init__(
+        self, pulse: Pulse, tape: Optional[Tape], say: Callable[[str, str], None], is_careful: bool = False
+    ) -> None:
+        self._pulse, self._file, self._notices, self._is_careful = pulse, tape, Watch(say), is_careful
         pulse.connections += 1
         self._number = pulse.connections
         pulse.probes.append(self)
@@ -324,7 +331,7 @@ class Probe:
             self._carry.clear()
             self._start = place + 1
         if step.note in (Note.OPENED, Note.ENDED, Note.TIMED_OUT):
-            self._session(step.note)
+            self._session(step.note, step.note in _ALONE and self._now[place : place + 1] == b"\x05")
         elif step.note in (Note.ACCEPTED, Note.DUPLICATE):
             self._accept(step, raw)
         elif step.note is Note.REFUSED or step.note in _FRAMES:
@@ -363,16 +370,18 @@ class Probe:
             verdict = _FRAMES[step.note]
             cause = Cause(verdict, verdict.live.format(due=self._due))
         else:
-            body = raw[raw.rfind(2) + 1 : -1]
+            # Where the line is heard carefully, a frame that another one began inside of goes on.
+            begin = raw.find(2) if self._is_careful else raw.rfind(2)
+            body = raw[begin + 1 : -1]
             cause = cause_of_frame(body, FrameFault(step.detail), step.place, self._pulse.frame)
             cause = cause._replace(words=cause.verdict.live)  # the other words have bytes of the frame
         self._pulse.rejected[cause.verdict.key] += 1
         self._pulse.wrong("frames", Verdict.NONE_ACCEPTED).reject(cause)
 
-    def _session(self, note: Note) -> None:
-        """A session begins, or is over."""
+    def _session(self, note: Note, is_enq: bool) -> None:
+        """A session begins, or is over; by ENQ or otherwise."""
         found = self.silent() or self.strange()
-        self._over(note)
+        self._over(note, is_enq)
         if not {"silent", "strange"} & set(self._pulse.troubles):
             self._pulse.remember(found)
         if note is not Note.OPENED:
@@ -384,11 +393,11 @@ class Probe:
         self._since, self._stray = (self.opened, time.monotonic()), bytearray()
         self._got = bytearray(self._now[self._start : self._start + TOGETHER])
 
-    def _over(self, note: Optional[Note] = None) -> None:
+    def _over(self, note: Optional[Note] = None, is_enq: bool = False) -> None:
         """The session is over: what it says of the line, if no frame of it was accepted."""
         if not self.is_open:
             return
-        verdict, parity = self._without_frame(note is Note.OPENED)
+        verdict, parity = self._without_frame(is_enq)
         self.is_open, pulse = False, self._pulse
         if self.units:
             if not self._good:
@@ -451,6 +460,10 @@ class Probe:
         """A reply was not sent, since it would have been late."""
         self._pulse.wrong("late", Verdict.LATE)
 
+    def noise(self, count: int) -> None:
+        """So many ENQ and STX came where no analyzer sends them."""
+        self._pulse.wrong("noise", Verdict.DISTURBED).count += count - 1
+
     def kept(self) -> None:
         """A text is kept."""
         self._is_kept = True
@@ -469,7 +482,7 @@ class Probe:
         pulse.messages[end.state] += 1
         if end.state == WHOLE:
             pulse.last = end.at
-            pulse.right("messages", "lost")
+            pulse.right("messages", "lost", "noise")
         else:
             pulse.wrong("messages", Verdict.NOT_WHOLE, f"{end.state}: {end.reason}")
 

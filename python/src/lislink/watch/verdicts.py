@@ -496,6 +496,13 @@ class Verdict(enum.Enum):
         "says where a query has its sample",
         "{times} in a row since {since} there was no order for a query",
     )
+    DISTURBED = (
+        "disturbed",
+        BAD,
+        "",
+        "look at cable, shield and speed; if the analyzer begins sessions anew without EOT, set `careful = no` of its line",
+        "noise on the line: {times} since {since} ENQ or STX came inside a session or a frame, and no message since",
+    )
     HOST_DOWN = ("host-down", BAD, "", "start it: lislab serve", "the host isn't running")
     GOES_ON = ("goes-on", GOOD, "", "", "a session goes on, {frames} since {since}")
     WHOLE = ("whole", GOOD, "", "", "last message {ago} ago")

@@ -1,0 +1,188 @@
+"""A noisy wire: of each frame one byte is another when the host has it. What an analyzer holds as acknowledged must be
+kept, byte for byte. The analyzers are written from the standard, over no code of this repository."""
+import asyncio
+import hashlib
+import random
+from collections import Counter
+
+from lislink.watch.unix import ask
+from tests.host import hosts
+from tests.host.hosts import Found, Host, HostTest, wait_for
+from tests.host.plain import ACK, ENQ, EOT, ETB, ETX, NAK, frame
+from tests.host.test_lines import LATE, TEXTS, Client
+
+#: What a byte becomes, besides any other byte: the bytes that have a meaning on the link.
+MEANT = b"\x02\x03\x04\x05\x06\x0a\x0d\x15\x17"
+#: How many analyzers send at once.
+MANY = 40
+
+
+def frames_of(texts):
+    """The frames of a session: texts of over 240 bytes in several."""
+    found = []
+    for text in texts:
+        parts = [text[at : at + 240] for at in range(0, len(text), 240)]
+        found += [(part, ETX if part is parts[-1] else ETB) for part in parts]
+    return [frame(number, part, end) for number, (part, end) in enumerate(found, 1)]
+
+
+class Silent(Exception):
+    """No reply came in time, or the line is closed."""
+
+
+class Analyzer:
+    """An analyzer on a wire that changes one byte of each frame the first time that it is sent. It connects anew after a
+    session that failed."""
+
+    def __init__(self, port, seed):
+        self.port, self.rng, self.done, self.ends = port, random.Random(seed), [], Counter()
+        self.line = None
+
+    def damaged(self, data):
+        """A frame with one other byte."""
+        at = self.rng.randrange(len(data))
+        byte = self.rng.choice((self.rng.choice(MEANT), data[at] ^ (1 << self.rng.randrange(8)), self.rng.randrange(256)))
+        return data[:at] + bytes([byte if byte != data[at] else byte ^ 1]) + data[at + 1 :]
+
+    async def reply(self, data):
+        """The reply to these bytes."""
+        reader, writer = self.line
+        writer.write(data)
+        try:
+            found = await asyncio.wait_for(reader.read(1), 15 * LATE)
+        except (asyncio.TimeoutError, OSError):
+            raise Silent from None
+        if not found:
+            raise Silent
+        return found
+
+    async def session(self, texts):
+        """Sends a session (6.2 to 6.4)."""
+        if self.line is None:
+            self.line = await asyncio.open_connection("127.0.0.1", self.port)
+        while await self.reply(ENQ) != ACK:
+            await asyncio.sleep(10 * LATE)
+        for data in frames_of(texts):
+            answer = await self.reply(self.damaged(data))
+            for _ in range(5):
+                if answer in (ACK, EOT):
+                    break
+                answer = await self.reply(data)
+            else:
+                self.ends["given up after six tries"] += 1
+                raise Silent
+        self.line[1].write(EOT)
+
+    async def send(self, texts):
+        """Sends a session; whether it was acknowledged is noted."""
+        try:
+            await self.session(texts)
+            self.done.append(hashlib.sha256(b"".join(texts)).hexdigest())
+            self.ends["done"] += 1
+        except (Silent, OSError):
+            self.ends["broken off"] += 1
+            if self.line is not None:
+                self.line[1].write(EOT)
+                self.line[1].close()
+            self.line = None
+
+
+def message(rng, name):
+    """A message that no other one is like."""
+    value = "%".join(str(rng.randrange(10**9)) for _ in range(rng.choice((1, 1, 40))))
+    rows = ["H|\\^&|||noisy", f"P|1|{name}", "O|1|S%E5M||^^^GLU", f"R|1|^^^GLU|{value}|mmol/L", "L|1|N"]
+    return [f"{row}\r".encode() for row in rows]
+
+
+class Noise(HostTest):
+    """Sessions over a noisy wire."""
+
+    async def play(self, ports, count):
+        """So many sessions of many analyzers."""
+        async def sends(number):
+            one = Analyzer(ports[number % len(ports)], number)
+            for at in range(number, count, MANY):
+                await one.send(message(one.rng, f"{number}-{at}"))
+            if one.line is not None:
+                one.line[1].close()
+            return one
+
+        return await asyncio.gather(*(sends(number) for number in range(min(MANY, count))))
+
+    def test_one_byte(self):
+        """No session is done of which a text isn't kept, on lines of one direction and of both."""
+        store, count = self.path("noise.db"), hosts.size("noise")
+        words = [word for way in ("name=one", "name=both,orders=ask")
+                 for word in ("--listen", f"127.0.0.1:0,{way},careful=yes")]
+        host = Host(store, *words, each=2 * MANY, listen=False, scale=LATE)
+        ports = [int(row.split()[1].rsplit(":", 1)[1]) for row in host.rows if row.startswith("listening")]
+        ran = asyncio.run(self.play(ports, count))
+        self.same("the host's status", host.stop(), 0)
+        found, done, ends = Found(store), [key for one in ran for key in one.done], Counter()
+        for one in ran:
+            ends.update(one.ends)
+        lost = [key for key in done if key not in found.digests]
+        hosts.say(f"noise: {count} sessions, {dict(ends)}, {len(lost)} done and not kept")
+        self.same("done and not kept", lost, [])
+        self.true("some are done, some break off", ends["done"] > count / 9 and ends["broken off"] > count / 9, ends)
+
+
+class Careful(HostTest):
+    """What a host does about ENQ in a session, and about STX in a frame."""
+
+    def started(self, settings=""):
+        """A host with a line of each way that has these settings, and their ports."""
+        words = [word for name, way in (("one", ""), ("both", ",orders=ask"))
+                 for word in ("--listen", f"127.0.0.1:0,name={name}{way}{settings}")]
+        host = Host(self.path(f"{len(settings)}.db"), *words, listen=False, scale=0.3)
+        self.addCleanup(host.kill)
+        return host, {row.split()[2]: int(row.split()[1].rsplit(":", 1)[1]) for row in host.rows if "listening" in row}
+
+    def test_enq_and_stx(self):
+        """ENQ in a session ends it and has no reply; a frame that begins inside an unfinished one is rejected. It is said,
+        counted, and a row of `watch` until a message is whole."""
+        host, ports = self.started(",careful=yes")
+        one, two, *rest = [frame(number, text) for number, text in enumerate(TEXTS, 1)]
+        for name, port in ports.items():
+            with Client(port) as client:
+                self.same(f"{name}: a frame", [client.asks(ENQ), client.asks(one)], [ACK, ACK])
+                self.same(f"{name}: ENQ in one", client.asks(two[:4] + ENQ + two[5:], seconds=0.5), b"")
+                client.send(EOT)
+                self.same(f"{name}: ENQ between two", [client.asks(ENQ), client.asks(one), client.asks(ENQ, seconds=0.5)],
+                          [ACK, ACK, b""])
+                self.same(f"{name}: the next one", client.asks(ENQ), ACK)
+                self.same(f"{name}: STX in one", [client.asks(one[:4] + two), client.asks(one)], [NAK, ACK])
+                self.true(f"{name}: bad", wait_for(lambda name=name: seen(host, name)[:2] == ("bad", "disturbed")),
+                          str(seen(host, name)))
+                self.same(f"{name}: the others", [client.asks(each) for each in (two, *rest)], [ACK] * 4)
+                client.send(EOT)
+                self.true(f"{name}: good again", wait_for(lambda name=name: seen(host, name)[0] == "good"), host.says())
+        said = host.says()
+        self.same("each ENQ is said", said.count("is ENQ; it has no reply"), 4)
+        self.same("one that came again at once", said.count("careful=no of its line answers its first ENQ"), 2)
+        self.same("what is kept", [len(Found(host.store).whole), len(Found(host.store).others)], [2, 4])
+
+    def test_anew(self):
+        """Without the setting the first ENQ of an analyzer that begins anew without EOT is answered."""
+        _, ports = self.started()
+        for name, port in ports.items():
+            with Client(port) as client:
+                self.same(name, [client.asks(ENQ), client.asks(frame(1, TEXTS[0])), client.asks(ENQ)], [ACK] * 3)
+
+    def test_mends(self):
+        """Noise is no end of a message without L, and a frame that may hold LF is heard as carefully."""
+        host, ports = self.started(",mend=last-l+lf,careful=yes")
+        with Client(ports["one"]) as client:
+            self.same("frames", [client.asks(ENQ), *(client.asks(frame(at, text)) for at, text in enumerate(TEXTS[:4], 1))],
+                      [ACK] * 5)
+            client.send(ENQ)
+            self.same("STX", [client.asks(ENQ), client.asks(frame(1, TEXTS[0])[:5] + frame(1, b"C|1\n"))], [ACK, NAK])
+            client.send(EOT)
+            self.true("unfinished", wait_for(lambda: len(Found(host.store).others) == 1), host.says())
+        self.same("nothing is whole", Found(host.store).whole, [])
+
+
+def seen(host, name):
+    """The state, the verdict and the sentence of a line."""
+    one = ask(host.store + ".watch", ask="lines")[0]["lines"][name]
+    return one["state"], one["verdict"], one["says"]
