@@ -10,8 +10,8 @@ import programs
 DOCUMENT = os.path.join(programs.ROOT, "docs/PERFORMANCE.md")
 PLOT = os.path.join(programs.ROOT, "docs/performance.svg")
 BEGIN, END = "<!-- bench/run writes what follows -->", "<!-- bench/run wrote what is above -->"
-# How many times the speed of the independent program a row is to make, and of the tuned one.
-WANTED, WANTED_OF_TUNED = 1.5, 0.62
+# How many times the speed of the independent program a row is to make.
+WANTED = 1.5
 NONE = "–"
 
 
@@ -64,56 +64,35 @@ def table(heads, rows):
         yield "| " + " | ".join(row) + " |"
 
 
-def ratio_of(row, of="peer", who="ours"):
-    """How many times the speed of another program one makes, where both were timed."""
-    if not row.times or not {of, who} <= set(row.times[0]):
-        return None
-    return measured.spread([one[of] / one[who] for one in row.times])
+def ratio_of(row):
+    """How many times the speed of the peer lislink makes, where both were timed."""
+    return measured.spread([one["peer"] / one["ours"] for one in row.times]) if row.times else None
 
 
 def cells(row):
     """The cells of a command and an input."""
-    ratio, tuned, speeds = ratio_of(row), ratio_of(row, "tuned"), (None, None)
+    ratio, speeds = ratio_of(row), (None, None)
     if ratio:
         speeds = [row.size / 1e6 / statistics.median(one[who] for one in row.times) for who in ("ours", "peer")]
     resident, own = row.kibibytes
     counts = row.instructions or {}
     return [f"`{row.command}`", row.made.name, number(speeds[0]), number(speeds[1]),
             f"{ratio.middle:.2f}" if ratio else NONE, f"{ratio.low:.2f} to {ratio.high:.2f}" if ratio else NONE,
-            f"{tuned.middle:.2f}" if tuned else NONE,
             number(resident), number(own), number(counts.get("ours"), 2), number(counts.get("peer"), 2)]
 
 
 def of_commands(found):
     """The table of commands, and how many rows make what is wanted."""
-    heads = ["command", "input", "MB/s", "peer's", "times the peer", "middle half", "times the tuned", "KiB resident",
-             "its own", "instructions a byte", "peer's"]
+    heads = ["command", "input", "MB/s", "peer's", "times the peer", "middle half", "KiB resident", "its own",
+             "instructions a byte", "peer's"]
     yield from ["### Commands", "", *table(heads, map(cells, found.rows)), ""]
-    for of, wanted, whose in (("peer", WANTED, "the peer's"), ("tuned", WANTED_OF_TUNED, "the tuned program's")):
-        ratios = [(ratio_of(row, of).middle, row) for row in found.rows if ratio_of(row, of)]
-        if ratios:
-            least, row = min(ratios, key=lambda pair: pair[0])
-            enough = sum(ratio >= wanted for ratio, _ in ratios)
-            yield (f"{enough} of {len(ratios)} rows make at least {wanted} times {whose} speed; the least is "
-                   f"`{row.command}` of {row.made.name} with {least:.2f}.")
-            yield ""
-
-
-def of_limits(found):
-    """What the bare loops make, and the tuned program with and without newer instructions."""
-    def cells_of(row):
-        made = (ratio_of(row, *two) for two in (("peer", "ours"), ("peer", "bare"), ("peer", "same"), ("peer", "tuned"),
-                                                ("same", "ours")))
-        counts = row.instructions or {}
-        return [f"`{row.command}`", row.made.name, *(f"{it.middle:.2f}" if it else NONE for it in made),
-                number(counts.get("ours"), 2), number(counts.get("same"), 2)]
-    yield from ["### What other code makes", "",
-                "Times the peer; what `lislink` makes of the tuned program for x86-64-v2, its own level; and the "
-                "instructions a byte of both:", ""]
-    yield from table(["command", "input", "`lislink`", "bare loop", "tuned for v2", "tuned for v3",
-                      "`lislink`, times the tuned for v2", "instructions a byte", "tuned for v2"],
-                     map(cells_of, found.rows))
-    yield ""
+    ratios = [(ratio_of(row).middle, row) for row in found.rows if ratio_of(row)]
+    if ratios:
+        least, row = min(ratios, key=lambda pair: pair[0])
+        enough = sum(ratio >= WANTED for ratio, _ in ratios)
+        yield (f"{enough} of {len(ratios)} rows make at least {WANTED} times the peer's speed; the least is "
+               f"`{row.command}` of {row.made.name} with {least:.2f}.")
+        yield ""
 
 
 def of_sizes(found):
@@ -182,7 +161,7 @@ def written(found):
     """The lines that are written."""
     lines = [found.conditions, ""]
     if found.rows:
-        lines += [*of_commands(found), *of_limits(found)]
+        lines += of_commands(found)
     if found.start_up:
         lines += of_sizes(found)
     if found.trees:

@@ -1,27 +1,25 @@
-"""The programs that are measured: lislink, the calls of the crates (crates/vectors), and two independent programs: the
-peer, which is plain and safe, and the tuned one, which is made for vectors."""
+"""The programs that are measured: lislink, the calls of the crates (crates/vectors), and an independent program, the
+peer."""
 import hashlib
 import os
 import subprocess
 
 HERE = os.path.dirname(os.path.abspath(__file__))
 ROOT = os.path.dirname(HERE)
-# The instructions that the kit's compiler may use, so that all programs have the same.
-RUSTC = ["rustc", "--edition", "2024", "-O", "-C", "codegen-units=1", "-C", "panic=abort"]
-SAME = ["-C", "target-cpu=x86-64-v2"]
-# Those of newer processors, which the tuned program has, and some of them by the names that Linux gives them.
-NEWER = ["-C", "target-cpu=x86-64-v3"]
-NEEDED = {"avx2", "bmi1", "bmi2", "fma", "movbe", "abm"}
+# With the instructions that the kit's compiler may use, so that both programs have the same.
+RUSTC = ["rustc", "--edition", "2024", "-O", "-C", "codegen-units=1", "-C", "panic=abort", "-C",
+         "target-cpu=x86-64-v2"]
 
 
 def proved(name):
-    """A program of the repository, proved and built."""
-    program = os.path.join(ROOT, "build", name)
+    """A program of the repository, proved and built by the kit."""
+    program = os.path.join(ROOT, "build", "proved", name)
     subprocess.run([os.path.join(ROOT, "tools/prove"), name, program], check=True)
     return program
 
 
 def lislink():
+    """The program, as the kit builds it: the same code as that of dist/ but for instructions that do nothing."""
     return proved("lislink")
 
 
@@ -30,27 +28,11 @@ def vectors():
     return proved("vectors")
 
 
-def compiled(work, name, source, options):
-    program = os.path.join(work, name)
-    subprocess.run([*RUSTC, *options, "-o", program, os.path.join(HERE, source, "main.rs")], check=True)
-    return program
-
-
 def peer(work):
     """The independent program, compiled."""
-    return compiled(work, "peer", "peer", SAME)
-
-
-def tuned_same(work):
-    """The tuned program with the instructions that all others have."""
-    return compiled(work, "tuned-v2", "tuned", SAME)
-
-
-def tuned(work):
-    """The tuned program with those of newer processors; none on a processor that hasn't got them."""
-    with open("/proc/cpuinfo", encoding="ascii", errors="replace") as lines:
-        flags = next((set(line.split()) for line in lines if line.startswith("flags")), set())
-    return compiled(work, "tuned", "tuned", NEWER) if NEEDED <= flags else None
+    program = os.path.join(work, "peer")
+    subprocess.run([*RUSTC, "-o", program, os.path.join(HERE, "peer/main.rs")], check=True)
+    return program
 
 
 def printed_by(*words):

@@ -3,7 +3,6 @@
 //! for byte, and its speed is measured beside it. It reads 64 KiB at a time and writes what came of a read before the
 //! next one.
 
-mod bare;
 mod bytes;
 mod capture;
 mod link;
@@ -52,10 +51,6 @@ fn run(words: &[&str], output: &mut Output) -> Option<Result<Report, Stop>> {
         return run_trees(words, output);
     }
     let (command, limit) = match words {
-        ["bare", "show"] => return Some(bare::show(output)),
-        ["bare", "replay"] => return Some(bare::replay(output)),
-        ["bare", "texts"] => return Some(bare::texts(output)),
-        ["bare", "upgrade"] => return Some(bare::upgrade(output)),
         [command] => (*command, USUAL),
         [command @ ("show" | "replay" | "texts"), "--long"] => (*command, LONG),
         _ => return None,

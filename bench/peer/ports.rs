@@ -45,11 +45,6 @@ impl Output {
         self.lines.clear();
         sent.map_err(|_| Stop::Write)
     }
-
-    /// Sends these bytes, in one write.
-    pub fn send(&mut self, bytes: &[u8]) -> Result<(), Stop> {
-        self.sink.write_all(bytes).and_then(|()| self.sink.flush()).map_err(|_| Stop::Write)
-    }
 }
 
 /// Standard input, of which at most so many reads are made.
