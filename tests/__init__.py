@@ -1,5 +1,5 @@
-"""The tests, by what they try; each folder says so in its `__init__.py`. `tests/run` runs them, `tests/all` is the
-gate."""
+"""The tests, by what they try; each folder says so in its `__init__.py`. `tests/run` runs them. `tests/all`
+runs those over what `make` built, `tests/prove` the kit's gate and those of what it built."""
 import os
 import sys
 

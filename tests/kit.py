@@ -7,16 +7,17 @@ import unittest
 
 from tests import ROOT
 
-#: What is tested, and where the gate builds it; TESTED_NAME in the environment names another place.
+#: What is tested: what `make` builds, and what `rt ci` leaves of the crates, which tests/proofs asks alone. TESTED_NAME
+#: in the environment names another place.
 BUILT = {
-    "lislink": "crates/lislink/out/lislink",
+    "build": "build",
+    "lislink": "{build}/lislink",
+    "archive": "{build}/liblis_c.a",
     "lislink_by_rattle": "crates/lislink/out/lislink.by-rattle",
     "vectors": "crates/vectors/out/vectors",
     "vectors_by_rattle": "crates/vectors/out/vectors.by-rattle",
     "record_tests": "crates/record_tests/out/record_tests_tests",
     "link_tests": "crates/link_tests/out/link_tests_tests",
-    "archive": "crates/lis_c/out/liblis_c.a",
-    "build": "build",
 }
 #: The most characters that are printed of a failure.
 SHOWN = 600
@@ -25,7 +26,8 @@ LAST = re.compile(r"^\w+: (\d+) passed, (\d+) failed$", re.M)
 
 def place(name):
     """Where something is that is tested."""
-    return os.path.join(ROOT, os.environ.get(f"TESTED_{name.upper()}", BUILT[name]))
+    path = os.environ.get(f"TESTED_{name.upper()}") or BUILT[name]
+    return os.path.join(ROOT, path.replace("{build}", os.environ.get("TESTED_BUILD", BUILT["build"])))
 
 
 def built(name):

@@ -1,6 +1,6 @@
-"""The programs that lislink is measured against answer as it does: the peer and the tuned program (bench/peer and
-bench/tuned), by the benchmark's inputs, whole, in pieces and damaged, by the samples, by small inputs of which each bit
-is turned in its turn, and by the rows of commands."""
+"""The program that lislink is measured against answers as it does: the peer (bench/peer), by the benchmark's inputs,
+whole, in pieces and damaged, by the samples, by small inputs of which each bit is turned in its turn, and by the rows
+of commands."""
 import glob
 import os
 import random
@@ -102,44 +102,26 @@ def answers():
 
 
 def has_rustc():
-    """Whether the compiler knows what the programs are written in."""
+    """Whether the compiler knows what the peer is written in."""
     version = re.match(r"rustc 1\.(\d+)\.", programs.printed_by("rustc", "--version"))
     return version is not None and int(version[1]) >= 88
 
 
 class Peers(kit.Test):
-    #: What lislink answered.
-    answered = {}
-
-    def wanted(self, command, data):
-        if (command, data) not in self.answered:
-            self.answered[command, data] = test_cuts.whole(kit.built("lislink"), command, data)
-        return self.answered[command, data]
-
-    def compare(self, build, name):
-        """One of the programs, compiled by the benchmark's means."""
+    def test_peer(self):
+        """The peer, compiled as the benchmark compiles it."""
         asked = list(answers())
         rows = suite.files("commands")
         cases = sum(1 for path in rows for _ in suite.cases(path))
-        self.needs("rustc", has_rustc(), len(asked) + cases, f"the answers of {name}")
+        self.needs("rustc", has_rustc(), len(asked) + cases, "the answers of the peer")
+        lislink = kit.built("lislink")
         with tempfile.TemporaryDirectory(prefix="lis-test-") as work:
-            program = build(work)
-            if program is None:
-                self.skipTest(f"AVX2: {len(asked) + cases} checks: the answers of {name}")
+            peer = programs.peer(work)
             for what, command, data, length in asked:
-                found = test_cuts.whole(program, command, data) if length is None else \
-                    test_cuts.in_pieces(program, command, data, length)
-                self.check(found == self.wanted(command, data), f"{name} {command}, {what}")
+                found = test_cuts.whole(peer, command, data) if length is None else \
+                    test_cuts.in_pieces(peer, command, data, length)
+                self.check(found == test_cuts.whole(lislink, command, data), f"the peer's {command}, {what}")
             for path in rows:
-                for asked_rows, found in suite.commanded(program, path):
+                for asked_rows, found in suite.commanded(peer, path):
                     wrong = suite.first_wrong(path, asked_rows, found)
                     self.check(not wrong, *(wrong or [""]))
-
-    def test_peer(self):
-        self.compare(programs.peer, "the peer")
-
-    def test_tuned(self):
-        self.compare(programs.tuned, "the tuned program")
-
-    def test_tuned_same(self):
-        self.compare(programs.tuned_same, "the tuned program for x86-64-v2")

@@ -1,6 +1,8 @@
 """The pages that are made of the sources are up to date, and what they are made of is right; the scripts of tools/
 check."""
+import glob
 import os
+import re
 import shutil
 import subprocess
 import sys
@@ -108,11 +110,11 @@ class Tools(kit.Test):
         with tempfile.TemporaryDirectory() as folder:
             shutil.copytree(os.path.join(kit.ROOT, "tools"), f"{folder}/tools")
             shutil.copytree(os.path.join(kit.ROOT, "docs/pictures"), f"{folder}/docs/pictures")
-            wrong = kit.read("crates.txt").replace("lis_link lis_station lis_record", "lis_link lis_record")
+            wrong = kit.read("crates.txt").replace("lis_careful lis_careful_station lis_record", "lis_careful lis_record")
             with open(f"{folder}/crates.txt", "w", encoding="utf-8") as file:
                 file.write(wrong)
             ran = subprocess.run([sys.executable, "tools/crates"], cwd=folder, capture_output=True, text=True)
-        good = "lis_c -> lis_station: one has it" in ran.stdout and ran.returncode == 1
+        good = "lis_c -> lis_careful_station: one has it" in ran.stdout and ran.returncode == 1
         self.check(good, "a missing arrow", ran.stdout)
 
     def test_crates_are_timed(self):
@@ -194,7 +196,7 @@ class Prove(kit.Test):
 
     def test_what_is_built_is_known(self):
         with tempfile.TemporaryDirectory() as folder:
-            for it in ("tools", "crates", "tests/proofs"):
+            for it in ("tools", "crates"):
                 out = shutil.ignore_patterns("out")
                 shutil.copytree(os.path.join(kit.ROOT, it), os.path.join(folder, it), ignore=out)
             for it in ("crates.txt", "HANDLES"):
@@ -226,3 +228,61 @@ class Prove(kit.Test):
         ran = subprocess.run([sys.executable, "tools/prove", "lislink", "build/lislink"], cwd=folder, env=env,
                              capture_output=True, text=True)
         self.check(ran.returncode == 0 and ("1 of " in ran.stdout) == wanted, f"{why}: {ran.stdout}{ran.stderr}")
+
+
+def folders_run(script):
+    """The folders whose tests a script runs, as it names them."""
+    text = kit.read(script)
+    found = re.findall(r"tests/run (\w+)", text)
+    for names in re.findall(r"for folder in ([\w ]+);", text):
+        found += names.split()
+    return sorted(found)
+
+
+class Targets(kit.Test):
+    def test_each_runs_once(self):
+        """The tests of each folder are run by one of tests/all and tests/prove, and once there."""
+        folders = {os.path.dirname(it) for it in glob.glob("*/test_*.py", root_dir=os.path.join(kit.ROOT, "tests"))}
+        self.same("what is run", sorted(folders_run("tests/all") + folders_run("tests/prove")), sorted(folders))
+
+    def test_sums(self):
+        """What a script of tests prints is added up; one that prints no last line is a failure."""
+        with tempfile.TemporaryDirectory() as folder:
+            for said, wanted in (
+                    ("a: 2 passed, 0 failed", "2 passed, 0 failed"), ("a: 2 passed, 3 failed", "2 passed, 3 failed"),
+                    ("arm64: 4 passed, 0 failed", "4 passed, 0 failed"), ("a: 2 passed", "0 passed, 1 failed"),
+                    ("skipped: x: 3 checks: y\na: 1 passed, 0 failed", "left out, x: 3 checks (y)\n1 passed, 0 failed")):
+                script = f"{folder}/said"
+                with open(script, "w", encoding="utf-8") as file:
+                    file.write(f"#!/bin/sh\ncat << 'END'\n{said}\nEND\n")
+                os.chmod(script, 0o755)
+                words = ["bash", "-uc", f". tests/counted; count {script} > /dev/null; ends"]
+                ran = subprocess.run(words, cwd=kit.ROOT, capture_output=True, text=True)
+                self.same(said, (ran.stdout, ran.returncode), (f"{wanted}\n", int(" 0 failed" not in wanted)))
+
+    def test_gate(self):
+        """.ci/run adds up both targets; one that fails or prints no last line is a failure. Where dist/ is not what the
+        proofs give, the tests are over what they give."""
+        make = ('#!/bin/sh\necho "$*" >> ../calls\ncase $* in *prove*) echo "$PROVED"; exit "$STATUS" ;; esac\n'
+                'echo "4 passed, 0 failed"\n')
+        rows = (("3 passed, 0 failed", 0, "7 passed, 0 failed", "dist"),
+                ("3 passed, 2 failed", 1, "7 passed, 2 failed", "build/dist"),
+                ("3 passed, 0 failed", 2, "7 passed, 1 failed", "build/dist"),
+                ("", 2, "4 passed, 1 failed", "build/dist"))
+        with tempfile.TemporaryDirectory() as folder:
+            for it in ("bin", "copy/.ci", "copy/build/dist"):
+                os.makedirs(f"{folder}/{it}")
+            shutil.copy(os.path.join(kit.ROOT, ".ci/run"), f"{folder}/copy/.ci/run")
+            for path, text in ((f"{folder}/copy/build/dist/SUMS", ""), (f"{folder}/bin/make", make)):
+                with open(path, "w", encoding="utf-8") as file:
+                    file.write(text)
+            os.chmod(f"{folder}/bin/make", 0o755)
+            for proved, status, wanted, dist in rows:
+                path = f"{folder}/bin:{os.environ['PATH']}"
+                env = {**os.environ, "PATH": path, "PROVED": proved, "STATUS": str(status)}
+                ran = subprocess.run([f"{folder}/copy/.ci/run"], capture_output=True, text=True, env=env)
+                with open(f"{folder}/calls", encoding="utf-8") as file:
+                    last = file.read().splitlines()[-1]
+                found = (ran.stdout.splitlines()[-1], ran.returncode, last)
+                due = (wanted, int(" 0 failed" not in wanted), f"-s test DIST={dist}")
+                self.same(f"{proved!r} with {status}", found, due)

@@ -14,13 +14,13 @@ import tokenize
 
 from tests import ROOT, kit
 from tests.docs.test_pages import pages
+from tests.proofs.edit import edits
 
 # Made of comments in the code, which are looked at there.
 MADE = {"docs/API.md"}
 SOURCES = ["src/**/*.rt", "specs/**/*.antt", "proofs/**/*.antt"]
-MUTANTS = ["must-fail/*.edit", "mutants/*.edit", "harmless/*.edit"]
 # The code around the crates, whose comments and docstrings are looked at.
-AROUND = ["include/*", "src/c/*", "examples/**/*.*", "bindings/rust/*/**/*.rs", "python/**/*.py", "conformance/*.py",
+AROUND = ["include/*", "src/c/**/*.*", "examples/**/*.*", "bindings/rust/*/**/*.rs", "python/**/*.py", "conformance/*.py",
           "bench/*.py", "tools/*.py", "tests/**/*.py", "tests/**/*.[ch]", "tests/**/*.cpp"]
 NAME = re.compile(r"[^\W\d]\w*(?:-[^\W\d]\w*)*")
 PART = re.compile(r"[A-Z]+(?![a-z])|[A-Z]?[a-z]+")
@@ -137,9 +137,9 @@ def of_crate(crate, forms, parts, kept):
         found = [(code.count("\n", 0, place) + 1, name, plain) for place, name, plain in of_names(code, parts, kept)]
         for line, word, plain in sorted(found + list(of_comments(comments, forms))):
             yield path, line, word, plain
-    for path in sorted(path for form in MUTANTS for path in glob.glob(form, root_dir=base)):
-        for _, word, plain in of_names(os.path.basename(path)[:-5], parts, kept):
-            yield path, 0, word, plain
+    for edit in edits(("must-fail", "mutants", "harmless"), [crate]):
+        for _, word, plain in of_names(edit.name, parts, kept):
+            yield edit.name, 0, word, plain
 
 
 class Words(kit.Test):

@@ -51,10 +51,11 @@ def is_killed(sample, path, cut):
 
 
 def is_whole(sample, path):
-    """A session that is given up after a text, and sent again whole, to its end; and what is printed."""
+    """A session that is given up after a text, and sent again whole, to its end; and what is printed. The first ENQ
+    ends the session that was open, and gets no reply."""
     it = sample.start(path)
     good = ask(it.line, ENQ, ACK) and ask(it.line, frame(1, TEXTS[0]), ACK)
-    good = good and takes_session(it.line) and it.end() == 0
+    good = good and ask(it.line, ENQ, b"") and takes_session(it.line) and it.end() == 0
     return good and kept(path) == TEXTS[0] + b"".join(TEXTS) and it.process.stdout.read() == sample.said
 
 
@@ -66,6 +67,7 @@ def keeps_no_half(sample, path, start, give_room, before=b""):
     good = good and ask(it.line, frame(2, TEXTS[1]), b"")
     if sample.goes_on:  # what came together with that text is dropped with it, so ENQ is sent again if need be
         good = good and any(ask(it.line, ENQ, ACK) for _ in range(4)) and kept(path) == before + TEXTS[0]
+        it.line.sendall(EOT)
         give_room(it)
     else:
         good = good and told(it.line, 1, 20.0) == b"" and it.end() is not None and kept(path) == before + TEXTS[0]
@@ -103,7 +105,8 @@ def of_half_a_text(sample, path):
     with open(path, "wb") as file:
         file.write(TEXTS[0] + HALF)
     it = sample.start(path)
-    good = ask(it.line, ENQ, ACK) and ask(it.line, frame(1, b"H|\\^&"), ACK) and takes_session(it.line)
+    good = ask(it.line, ENQ, ACK) and ask(it.line, frame(1, b"H|\\^&"), ACK)
+    good = good and ask(it.line, ENQ, b"") and takes_session(it.line)
     return good and it.end() == 0 and kept(path) == TEXTS[0] + b"H|\\^&\r" + b"".join(TEXTS)
 
 
@@ -226,7 +229,7 @@ class Keeps(kit.Test):
         how = python_over(os.path.join(self.build, "liblislink.so.1"))
         self.tried([Sample(f"{name}.py", functools.partial(
             start, InPython, [sys.executable, f"{IN_PYTHON}/{name}.py", "0"], **how), goes_on=False,
-            is_timed=name != "quick_receive", said=b"H P O R L\n" if name == "quick_receive" else b"")
+            is_timed=name != "quick_receive", said=b"H\nH P O R L\n" if name == "quick_receive" else b"")
             for name in ("quick_receive", "async_receive", "answer_query")])
 
 

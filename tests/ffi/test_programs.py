@@ -7,6 +7,7 @@ import sys
 
 from tests import ROOT, kit
 from tests.ffi.c import BARE, C11, IN_PYTHON, RESULTS, SANITIZERS, compilers, python_over, shared, source
+from tests.install.test_build import dist_of
 
 VALUES = "".join(" ".join(line.split(" ")[:2]) + " \n" for line in RESULTS.splitlines())
 #: The same with the patient and the specimen of the sample, by hand.
@@ -19,6 +20,7 @@ PROGRAMS = {"values": (["values.c", "names.c", "pieces.c", "heap.c"], re.escape(
             "long": (["../../tests/ffi/long.c"], r"\d+ compared\n"),
             "within": (["../../tests/ffi/within.c", "heap.c"], r"\d+ compared\n"),
             "station": (["../../tests/ffi/station.c"], r"\d+ compared\n"),
+            "careful": (["../../tests/ffi/careful.c", "heap.c"], r"\d+ compared\n"),
             "parts": (["../../tests/ffi/parts.c", "heap.c"], r"\d+ compared\n"),
             "stack": (["../../tests/ffi/stack.c", "heap.c"], "lis_long_frame_write: under 64 KiB\n"
                       "the usual limit: under 16 KiB\nthe long limit: under 1000 KiB\n"),
@@ -104,9 +106,15 @@ class Programs(kit.Test):
         self.check(re.fullmatch(r"record \d+: .*\n", ran.stderr), f"{words[-1]}: what it names", ran.stderr)
 
     def test_bare(self):
+        """The assembler and no C library; without one of the three copies it doesn't link."""
         work = kit.folder_of(self)
-        if self.runs([*BARE, source("bare.c"), self.archive, "-o", f"{work}/bare"]):
+        code = os.path.join(dist_of(kit.built("build")), "x86_64-linux/lis_c.s")
+        if self.runs([*BARE, source("bare.c"), code, "-o", f"{work}/bare"]):
             self.runs([f"{work}/bare"], "")
+        with open(f"{work}/less.c", "w", encoding="utf-8") as file:
+            file.write(kit.read(source("bare.c")).replace("memmove", "another"))
+        ran = subprocess.run([*BARE, f"{work}/less.c", code, "-o", f"{work}/less"], capture_output=True, text=True)
+        self.has("a copy is missing", ran.stderr, "undefined reference to `memmove'")
 
     def test_python(self):
         work = kit.folder_of(self)

@@ -1,1 +1,1 @@
-"""What is installed, and the package of Debian."""
+"""What is built of dist/, what is installed, and the package of Debian."""

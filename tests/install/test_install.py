@@ -1,16 +1,19 @@
 """What is installed, and the package of Debian.
 
-`make install` into a prefix of its own, without rt; programs in C and C++ built by pkg-config, also --static, and by
-CMake, and Python, as a user would with what the end of `make install` says; `make uninstall`, which leaves nothing.
+`make install` into a prefix of its own, of dist/ and without rt; programs in C and C++ built by pkg-config, also
+--static, and by CMake, and Python, as a user would with what the end of `make install` says; `make uninstall`, which
+leaves nothing.
 `make deb`: lintian reports no error, and dpkg installs the package into a root of its own, where it works, and removes
 it. What a machine has no tool for is skipped.
 """
+import glob
 import os
 import re
 import shutil
 import sys
 
 from tests import ROOT, kit
+from tests.install.test_build import dist_of
 
 PROGRAM = '#include <{}>\n#include <stdio.h>\nint main(void) {{ return puts(lis_version()) < 0; }}\n'
 CMAKE = """cmake_minimum_required(VERSION 3.13)
@@ -137,14 +140,14 @@ def in_its_root(test, package, work):
 
 class Install(kit.Test):
     def setUp(self):
-        self.work, build = kit.folder_of(self), kit.built("build")
-        os.makedirs(f"{self.work}/build")
-        for path in (kit.built("lislink"), f"{build}/liblislink.a", f"{build}/liblislink.so.1"):
-            shutil.copy(path, f"{self.work}/build/")
+        self.work = kit.folder_of(self)
+        # Also while dist/ is older than crates/.
+        dist = dist_of(kit.built("build"))
+        self.make = ["make", "-s", "-C", ROOT, "OLD=1", f"DIST={dist}", f"BUILD={self.work}/build"]
 
     def test_prefix(self):
         work, prefix = self.work, f"{self.work}/prefix"
-        words = ["make", "-s", "-C", ROOT, f"PREFIX={prefix}", f"BUILD={work}/build"]
+        words = [*self.make, f"PREFIX={prefix}"]
         env = without_rt(work)
         said = printed(self, [*words, "install"], env=env)
         how = {"env": {**env, **advice(said)}}
@@ -172,10 +175,24 @@ class Install(kit.Test):
         work = self.work
         if not has("dpkg-deb", "dpkg", "strip", "objdump"):
             return
-        self.runs(["make", "-s", "-C", ROOT, f"BUILD={work}/build", "deb"], env=without_rt(f"{work}/deb-tools"))
+        self.runs([*self.make, "deb"], env=without_rt(f"{work}/deb-tools"))
         package = f"{work}/build/lislink_{version()}_amd64.deb"
         if not self.check(os.path.exists(package), f"{package} is not there"):
             return
         in_its_root(self, package, work)
+        packages = [package]
+        if has("aarch64-linux-gnu-gcc"):
+            packages.append(f"{work}/build/aarch64-linux-gnu-gcc/lislink_{version()}_arm64.deb")
+            self.for_arm64(packages[1])
         if has("lintian"):
-            self.runs(["lintian", "--allow-root", "--fail-on", "error", package])
+            for it in packages:
+                self.runs(["lintian", "--allow-root", "--fail-on", "error", it])
+
+    def for_arm64(self, package):
+        """The other package has the other processor's program and library, in its folder, and says so."""
+        self.same("what it is for", printed(self, ["dpkg-deb", "--field", package, "Architecture"]), "arm64\n")
+        root = f"{self.work}/arm64"
+        self.runs(["dpkg-deb", "--extract", package, root])
+        for path in ("usr/bin/lislink", "usr/lib/aarch64-linux-gnu/liblislink.so.1"):
+            self.has(path, printed(self, ["readelf", "-h", f"{root}/{path}"]), "AArch64")
+        self.same("libraries of the other processor", glob.glob(f"{root}/usr/lib/x86_64*"), [])

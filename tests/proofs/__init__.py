@@ -1,1 +1,2 @@
-"""Mutants and harmless rewrites: what the prover and the tests notice. Long runs, but for the lists' check."""
+"""What the gate built; and mutants and harmless rewrites: what the prover and the tests notice. Of these two the gate
+has the lists' check, the others are long runs."""

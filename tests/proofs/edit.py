@@ -1,9 +1,10 @@
 """Edits of the code, as mutants and harmless rewrites: how they are read, listed and made in a copy of the crates.
 
-An edit is a file NAME.edit with the lines 'file: src/x.rt' and then pairs 'old: TEXT' and 'new: TEXT', each TEXT one
-line; each old text is in its file exactly once. Lines that begin with '#' say more of it: '# call:' the public calls
-whose mistake a mutant is, '# unseen:' why no test can notice it, '# only:' the functions that a rewrite must leave
-proved.
+An edit has the lines 'file: src/x.rt' and then pairs 'old: TEXT' and 'new: TEXT', each TEXT one line; each old text is
+in its file exactly once. In must-fail/ it is a file NAME.edit, as the kit reads it; the others of a crate are in two
+files of mutants/, mutants.txt and harmless.txt, each of them after a line 'edit: NAME'. Lines that begin with '#' say
+more of it: '# call:' the public calls whose mistake a mutant is, '# unseen:' why no test can notice it, '# only:' the
+functions that a rewrite must leave proved.
 """
 import glob
 import os
@@ -12,30 +13,28 @@ import shutil
 
 ROOT = os.path.dirname(os.path.dirname(os.path.dirname(os.path.abspath(__file__))))
 # What a copy of the crates for a trial leaves out.
-LEFT_OUT = ("out", "must-fail", "mutants", "harmless")
+LEFT_OUT = ("out", "must-fail", "mutants")
 PUBLIC = re.compile(r"^\s*pub (?:(?:const|unsafe|extern \"C\") )*fn (\w+)")
 NAME = r"\w+(?:::\w+)*"
 BLOCK = re.compile(r"^(?:unsafe )?(impl\b|pub trait )(.*)")
 
 
 class Edit:
-    def __init__(self, path):
-        self.path, self.name = path, os.path.basename(path).removesuffix(".edit")
-        self.folder = os.path.dirname(os.path.dirname(path))
-        self.crate = os.path.basename(self.folder)
+    def __init__(self, crate, kind, name, text):
+        self.crate, self.kind, self.name, self.text = crate, kind, name, text
+        self.folder = f"{ROOT}/crates/{crate}"
         self.pairs, self.said = [], {}
         file = old = ""
-        with open(path, encoding="utf-8") as lines:
-            for line in lines.read().splitlines():
-                if line.startswith("file: "):
-                    file = line[6:]
-                elif line.startswith("old: "):
-                    old = line[5:]
-                elif line.startswith("new:"):
-                    self.pairs.append((file, old, line[5:]))
-                elif ": " in line:
-                    word, _, text = line.removeprefix("# ").partition(": ")
-                    self.said[word] = text
+        for line in text.splitlines():
+            if line.startswith("file: "):
+                file = line[6:]
+            elif line.startswith("old: "):
+                old = line[5:]
+            elif line.startswith("new:"):
+                self.pairs.append((file, old, line[5:]))
+            elif ": " in line:
+                word, _, said = line.removeprefix("# ").partition(": ")
+                self.said[word] = said
 
     def words(self, word):
         """What a line '# WORD: ..' names, separated by commas."""
@@ -60,12 +59,20 @@ def crates():
     return sorted(os.path.basename(it) for it in glob.glob(f"{ROOT}/crates/*"))
 
 
+def read(path):
+    with open(path, encoding="utf-8") as file:
+        return file.read()
+
+
 def edits(kinds, names=()):
-    """The edits of these folders (must-fail, mutants, harmless), of the crates that are named or of all."""
+    """The edits of these kinds (must-fail, mutants, harmless), of the crates that are named or of all."""
     for crate in names or crates():
         for kind in kinds:
             for path in sorted(glob.glob(f"{ROOT}/crates/{crate}/{kind}/*.edit")):
-                yield Edit(path)
+                yield Edit(crate, kind, os.path.basename(path).removesuffix(".edit"), read(path))
+            for path in glob.glob(f"{ROOT}/crates/{crate}/mutants/{kind}.txt"):
+                words = re.split(r"(?m)^edit: (.*)\n", read(path))[1:]
+                yield from (Edit(crate, kind, *it) for it in zip(words[::2], words[1::2]))
 
 
 def copy_crates(to, also=()):
