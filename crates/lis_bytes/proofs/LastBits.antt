@@ -26,7 +26,7 @@ module _ (f : ℕ → Bool) where
       ∙ sym (div-div-eq-div-mul (mask_l (map f (x ∷ xs))) 2 (2 ^ k))
       ∙ ap (λ (n : ℕ). n / 2 ^ k) (halved (f x) (mask_l (map f xs))) ∙ mask_l-drop k xs
 
-  pub last-bits : (text : List ℕ) (count : ℕ) → 16 ≤ length text → count ≤ 16
+  last-bits : (text : List ℕ) (count : ℕ) → 16 ≤ length text → count ≤ 16
       → mask_l (map f (take 16 (drop (length text - 16) text))) / 2 ^ (16 - count)
       ≡ mask_l (map f (drop (length text - count) text))
   last-bits text count room few =
@@ -37,6 +37,12 @@ module _ (f : ℕ → Bool) where
       ∙ mask_l-drop (16 - count) last
       ∙ ap (λ (l : List ℕ). mask_l (map f l)) (drop-drop (16 - count) (length text - 16) text
       ∙ ap (λ (n : ℕ). drop n text) following)
+
+  -- by the bits of the last sixteen
+  pub last_shifted : (text last : List ℕ) (count bits : ℕ) → 16 ≤ length text → count ≤ 16
+      → last ≡ drop (length text - 16) text → bits ≡ mask_l (map f (take 16 last))
+      → bits / 2 ^ (16 - count) ≡ mask_l (map f (drop (length text - count) text))
+  last_shifted text last count bits room few is are = rw (are, is) (last-bits text count room few)
 
   -- what they say about the bytes that are left after a place
   module _ (place bits : ℕ) (rest text : List ℕ) (fits : place + length rest ≡ length text)

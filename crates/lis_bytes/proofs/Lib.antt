@@ -5,3 +5,4 @@ pub mod SumLemmas
 pub mod LastBits
 pub mod MarkLemmas
 pub mod PassedLemmas
+pub mod SummedLemmas

@@ -1,14 +1,16 @@
 -- The places of a byte among the first bytes of a text, as bits.
-use Rattle.std.proofs.Common.{◌≡◌, ◌≤◌, ◌<◌, ℕ, zero, suc, ◌+◌, ◌*◌, ◌-◌, ◌/◌, ◌^◌, ◌==◌, Bool, Some}
+use Rattle.std.proofs.Common.{◌≡◌, ◌≤◌, ◌<◌, ℕ, zero, suc, ◌+◌, ◌*◌, ◌-◌, ◌/◌, ◌%◌, ◌^◌, ◌==◌, Bool, Some}
 use Rattle.std.proofs.Common.{List, [], ◌∷◌, length, map, take, drop, ap, subst, sym, ◌∙◌, arith, refl, length-take}
+use Rattle.std.proofs.Common.{cond, eqb, replicate}
 use Rattle.std.specs.List.{position}
 use Rattle.std.specs.Int.Count.{count_trailing_zeros}
-use Rattle.std.specs.Simd.Lanes.{mask_l}
+use Rattle.std.specs.Simd.Lanes.{mask_l, top, zip2}
 use Rattle.std.proofs.Math.Nat.{div-le_self, pow-succ', mul_assoc}
 use Rattle.std.proofs.Math.Pow.{pow_mono}
 use Rattle.std.proofs.lemmas.Iterator.Adapters.{position_from-zero}
 use Rattle.std.proofs.lemmas.List.{drop-drop, drop-take, length-drop, length-map, take-take}
-use Rattle.std.proofs.lemmas.Simd.{mask_l-lt}
+use Rattle.std.proofs.lemmas.Simd.{bitmask_splat, mask_l-lt}
+use mir.Syntax.{w8}
 use Rattle.lis_bytes.proofs.SearchLemmas.{found-chunk, found-within}
 use Rattle.lis_bytes.specs.Marks.{AreMarks}
 use Rattle.lis_bytes.proofs.LastBits.{mask_l-drop}
@@ -110,27 +112,74 @@ pub marks-next : (mark byte bits : ℕ) (text following : List ℕ) → text ≡
 marks-next mark byte bits text following is m =
     subst (λ (l : List ℕ). AreMarks mark (drop 1 l) (bits / 2 ^ 1)) is (marks-following mark text bits m 1)
 
--- those of the first bytes, by two windows
-module _ (mark lanes count : ℕ) (text : List ℕ) where
-  pub marks-windows : (first window bits : ℕ) → count ≤ lanes → lanes ≤ 32 → lanes + count ≤ length text
-      → first ≡ mask_l (map (λ b. b == mark) (take lanes text))
-      → window ≡ mask_l (map (λ b. b == mark) (take lanes (drop count text)))
-      → bits ≡ first + 2 ^ lanes * (window / 2 ^ (lanes - count)) → AreMarks mark text bits
-  marks-windows first window bits few most room first_is window_is is = record {
+-- those of the first bytes, by two windows, the second after those of the first that are new
+module _ (mark lanes count : ℕ) (text rest : List ℕ) (first window bits : ℕ) where
+  pub marks_windows : first ≡ mask_l (map (λ b. b == mark) (take lanes text))
+      → window ≡ mask_l (map (λ b. b == mark) (take lanes rest)) → rest ≡ drop count text → count ≤ lanes → lanes ≤ 32
+      → lanes + count ≤ length text → bits ≡ first + 2 ^ lanes * (window / 2 ^ (lanes - count))
+      → AreMarks mark text bits
+  marks_windows first_is window_is following few most room is = record {
     count = lanes + count;
     few = omega arith;
     within = room;
     are =
         is
-        ∙ rw (first_is, window_is, window-bits (λ b. b == mark) lanes count text few)
+        ∙ rw (first_is, rw following at window_is, window-bits (λ b. b == mark) lanes count text few)
         (front-bits (λ b. b == mark) lanes count text few room);
   }
 
-  pub first-small : (first : ℕ) → first ≡ mask_l (map (λ b. b == mark) (take lanes text)) → first < 2 ^ lanes
-  first-small first is = rw is (bits-small (λ b. b == mark) lanes text)
+-- how large they are
+following_small : (f : ℕ → Bool) (lanes count window : ℕ) (rest : List ℕ) → window ≡ mask_l (map f (take lanes rest))
+    → window / 2 ^ (lanes - count) < 2 ^ lanes
+following_small f lanes count window rest window_is =
+    let small : window < 2 ^ lanes = rw window_is (bits-small f lanes rest) in
+    omega (arith, small, div-le_self window (2 ^ (lanes - count)))
 
-  pub following-small : (window : ℕ) → window ≡ mask_l (map (λ b. b == mark) (take lanes (drop count text)))
-      → window / 2 ^ (lanes - count) < 2 ^ lanes
-  following-small window is =
-      let small : window < 2 ^ lanes = rw is (bits-small (λ b. b == mark) lanes (drop count text)) in
-      omega (arith, small, div-le_self window (2 ^ (lanes - count)))
+pub following_fits_32 : (f : ℕ → Bool) (count window : ℕ) (rest : List ℕ) → window ≡ mask_l (map f (take 32 rest))
+    → 4294967296 * (window / 2 ^ (32 - count)) < 18446744073709551616
+following_fits_32 f count window rest window_is = omega (arith, following_small f 32 count window rest window_is)
+
+pub fit_32 : (f : ℕ → Bool) (count first window : ℕ) (text rest : List ℕ) → first ≡ mask_l (map f (take 32 text))
+    → window ≡ mask_l (map f (take 32 rest)) → first + 4294967296 * (window / 2 ^ (32 - count)) < 18446744073709551616
+fit_32 f count first window text rest first_is window_is =
+    let small : first < 2 ^ 32 = rw first_is (bits-small f 32 text) in
+    omega (arith, small, following_small f 32 count window rest window_is)
+
+pub turned_fit_32 : (f : ℕ → Bool) (count first window : ℕ) (text rest : List ℕ)
+    → first ≡ mask_l (map f (take 32 text)) → window ≡ mask_l (map f (take 32 rest))
+    → 4294967296 * (window / 2 ^ (32 - count)) + first < 18446744073709551616
+turned_fit_32 f count first window text rest first_is window_is =
+    omega (arith, fit_32 f count first window text rest first_is window_is)
+
+pub following_fits_16 : (f : ℕ → Bool) (count window : ℕ) (rest : List ℕ) → window ≡ mask_l (map f (take 16 rest))
+    → 65536 * (window / 2 ^ (16 - count)) < 18446744073709551616
+following_fits_16 f count window rest window_is = omega (arith, following_small f 16 count window rest window_is)
+
+pub fit_16 : (f : ℕ → Bool) (count first window : ℕ) (text rest : List ℕ) → first ≡ mask_l (map f (take 16 text))
+    → window ≡ mask_l (map f (take 16 rest)) → first + 65536 * (window / 2 ^ (16 - count)) < 18446744073709551616
+fit_16 f count first window text rest first_is window_is =
+    let small : first < 2 ^ 16 = rw first_is (bits-small f 16 text) in
+    omega (arith, small, following_small f 16 count window rest window_is)
+
+pub turned_fit_16 : (f : ℕ → Bool) (count first window : ℕ) (text rest : List ℕ)
+    → first ≡ mask_l (map f (take 16 text)) → window ≡ mask_l (map f (take 16 rest))
+    → 65536 * (window / 2 ^ (16 - count)) + first < 18446744073709551616
+turned_fit_16 f count first window text rest first_is window_is =
+    omega (arith, fit_16 f count first window text rest first_is window_is)
+
+-- by the comparison of so many lanes with a vector of this byte
+module _ (mark : ℕ) (bytes : List ℕ) where
+  compared : (n : ℕ) → n ≤ 32 → n ≤ length bytes
+      → mask_l (map (top 7) (zip2 {C = ℕ} (λ a b. cond (eqb a b) 255 0) (take n bytes) (replicate n mark))) % 2 ^ 64
+      ≡ mask_l (map (λ b. b == mark) (take n bytes))
+  compared n few many = bitmask_splat w8 eqb (take n bytes) n mark (omega (arith, length-take n bytes, many)) (omega arith)
+
+  pub compared_16 : 16 ≤ length bytes
+      → mask_l (map (top 7) (zip2 {C = ℕ} (λ a b. cond (eqb a b) 255 0) (take 16 bytes) (replicate 16 mark))) % 2 ^ 64
+      ≡ mask_l (map (λ b. b == mark) (take 16 bytes))
+  compared_16 many = compared 16 (omega arith) many
+
+  pub compared_32 : 32 ≤ length bytes
+      → mask_l (map (top 7) (zip2 {C = ℕ} (λ a b. cond (eqb a b) 255 0) (take 32 bytes) (replicate 32 mark))) % 2 ^ 64
+      ≡ mask_l (map (λ b. b == mark) (take 32 bytes))
+  compared_32 many = compared 32 (omega arith) many

@@ -1,5 +1,5 @@
 -- Sixty-four bytes that are over a limit, by the least of each four that are sixteen apart.
-use Rattle.std.proofs.Common.{◌≡◌, ℕ, zero, suc, ◌+◌, ◌*◌, ◌%◌, ◌^◌, ◌≤◌, Bool, true, false, cond, leb, ltb}
+use Rattle.std.proofs.Common.{◌≡◌, ℕ, zero, suc, ◌+◌, ◌*◌, ◌%◌, ◌^◌, ◌≤◌, Bool, true, false, cond, eqb, leb, ltb}
 use Rattle.std.proofs.Common.{List, [], ◌∷◌, ◌++◌, length, map, take, drop, replicate, length-take, length-drop}
 use Rattle.std.proofs.Common.{refl, ap, ◌∙◌, ◌↔◌, arith}
 use Rattle.std.proofs.Math.Seq.{take-add}
@@ -8,7 +8,7 @@ use Rattle.std.specs.Simd.Lanes.{mask_l, sel_l, top, zip2}
 use mir.Syntax.{w8}
 use Rattle.std.proofs.lemmas.Simd.{bitmask_splat}
 use Rattle.std.proofs.lemmas.Bool.Decides.{nat_tests}
-use Rattle.lis_bytes.specs.inside.Search.{AreOver}
+use Rattle.lis_bytes.specs.inside.Search.{AreOver, IsLesser}
 
 -- the lesser of two vectors
 abbrev pub lesser : List ℕ → List ℕ → List ℕ
@@ -119,17 +119,23 @@ four_parts bytes =
     (ap (take 32) (drop-drop 16 16 bytes) ∙ take-add 16 16 (drop 32 bytes)
     ∙ ap (λ (l : List ℕ). take 16 (drop 32 bytes) ++ take 16 l) (drop-drop 16 32 bytes)))
 
--- the lesser is over the limit if both are
-pub both_low : (limit : ℕ) (xs ys : List ℕ) → length xs ≡ 16 → length ys ≡ 16
-    → AreOver limit (lesser xs ys) ↔ (AreOver limit xs × AreOver limit ys)
-both_low limit xs ys one two =
-    (none_low limit 16 xs ys one two, λ both. lesser_low limit 16 xs ys one two both.0 both.1)
+-- the lesser is over a limit if both are
+pub is_lesser : (xs ys : List ℕ) → length xs ≡ 16 → length ys ≡ 16 → IsLesser (lesser xs ys) xs ys
+is_lesser xs ys one two = record {
+  over = λ limit. (none_low limit 16 xs ys one two, λ both. lesser_low limit 16 xs ys one two both.0 both.1);
+  long = length-lesser 16 xs ys one two;
+}
 
-pub lesser_long : (xs ys : List ℕ) → length xs ≡ 16 → length ys ≡ 16 → length (lesser xs ys) ≡ 16
-lesser_long xs ys one two = length-lesser 16 xs ys one two
+pub turned : (result one other : List ℕ) → IsLesser result one other → IsLesser result other one
+turned result one other least = record {
+  over = λ limit.
+      let both = least.over limit in
+      (λ over. let two = both.0 over in (two.1, two.0), λ over. both.1 (over.1, over.0));
+  long = least.long;
+}
 
 -- sixty-four bytes are, if each sixteen are
-pub four_over : (limit : ℕ) (bytes second third fourth : List ℕ) → second ≡ drop 16 bytes → third ≡ drop 16 second
+four_over : (limit : ℕ) (bytes second third fourth : List ℕ) → second ≡ drop 16 bytes → third ≡ drop 16 second
     → fourth ≡ drop 16 third
     → AreOver limit (take 64 bytes) ↔ ((AreOver limit (take 16 bytes) × AreOver limit (take 16 second))
     × (AreOver limit (take 16 third) × AreOver limit (take 16 fourth)))
@@ -148,7 +154,23 @@ four_over limit bytes second third fourth is_second is_third is_fourth =
     )
 
 -- as the comparison of a vector's lanes says it
-pub over_bits : (limit : ℕ) (lanes : List ℕ) → length lanes ≡ 16
+over_bits : (limit : ℕ) (lanes : List ℕ) → length lanes ≡ 16
     → mask_l (map (top 7) (zip2 {C = ℕ} (λ a b. cond (leb a b) 255 0) lanes (replicate 16 limit))) % 2 ^ 64
     ≡ low limit lanes
 over_bits limit lanes long = bitmask_splat w8 leb lanes 16 limit long (omega arith)
+
+-- the least of four times sixteen bytes, compared with a limit
+pub least_over : (limit : ℕ) (bytes second third fourth front back least : List ℕ) → second ≡ drop 16 bytes
+    → third ≡ drop 16 second → fourth ≡ drop 16 third → IsLesser front (take 16 bytes) (take 16 second)
+    → IsLesser back (take 16 third) (take 16 fourth) → IsLesser least front back
+    → eqb (mask_l (map (top 7) (zip2 {C = ℕ} (λ a b. cond (leb a b) 255 0) least (replicate 16 limit))) % 2 ^ 64) 0 ≡ true
+    ↔ mask_l (map (λ b. leb b limit) (take 64 bytes)) ≡ 0
+least_over limit bytes second third fourth front back least is_second is_third is_fourth front_is back_is least_is =
+    let all = four_over limit bytes second third fourth is_second is_third is_fourth in
+    let first = front_is.over limit in
+    let last = back_is.over limit in
+    let both = least_is.over limit in
+    let bits = over_bits limit least least_is.long in (
+      λ is. grind (arith, nat_tests, is, all, first, last, both, bits),
+      λ none. grind (arith, nat_tests, none, all, first, last, both, bits),
+    )

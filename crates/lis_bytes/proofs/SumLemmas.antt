@@ -105,40 +105,55 @@ wrapped-before place count bytes lanes more total added =
     omega (arith, fold-lanes lanes, total, added, sum-before place count bytes)
 
 -- four times sixteen bytes, added lane by lane
-pub four-summed :
-    (bytes second third fourth : List ℕ) → 64 ≤ length bytes → second ≡ drop 16 bytes → third ≡ drop 16 second
-    → fourth ≡ drop 16 third
-    → (sum_l (zip2 {C = ℕ} (λ (a b : ℕ). (a + b) % 256)
-    (zip2 {C = ℕ} (λ (a b : ℕ). (a + b) % 256) (take 16 bytes) (take 16 second))
-    (zip2 {C = ℕ} (λ (a b : ℕ). (a + b) % 256) (take 16 third) (take 16 fourth))) % 256
-    ≡ sum (take 64 bytes) % 256)
-    × (length (zip2 {C = ℕ} (λ (a b : ℕ). (a + b) % 256)
-    (zip2 {C = ℕ} (λ (a b : ℕ). (a + b) % 256) (take 16 bytes) (take 16 second))
-    (zip2 {C = ℕ} (λ (a b : ℕ). (a + b) % 256) (take 16 third) (take 16 fourth))) ≡ 16)
-four-summed bytes second third fourth many is_second is_third is_fourth =
-    let plus : ℕ → ℕ → ℕ = λ (a b : ℕ). (a + b) % 256 in
-    let at = parts_are bytes second third fourth is_second is_third is_fourth in
-    let a = part_long 0 bytes bytes refl (omega arith) in
-    let b = part_long 16 bytes second is_second (omega arith) in
-    let c = part_long 32 bytes third at.0 (omega arith) in
-    let d = part_long 48 bytes fourth at.1 (omega arith) in
-    let front_long = length-zip2 plus (take 16 bytes) (take 16 second) (a ∙ sym b) ∙ a in
-    let back_long = length-zip2 plus (take 16 third) (take 16 fourth) (c ∙ sym d) ∙ c in
-    let all_long = length-zip2 plus (zip2 plus (take 16 bytes) (take 16 second))
-    (zip2 plus (take 16 third) (take 16 fourth)) (front_long ∙ sym back_long) ∙ front_long in
-    let front = zip-wrapped (take 16 bytes) (take 16 second) (a ∙ sym b) in
-    let back = zip-wrapped (take 16 third) (take 16 fourth) (c ∙ sym d) in
-    let all = zip-wrapped (zip2 plus (take 16 bytes) (take 16 second)) (zip2 plus (take 16 third) (take 16 fourth))
-    (front_long ∙ sym back_long) in
-    let first = sum_l-sum (take 16 bytes) in
-    let next = sum_l-sum (take 16 second) ∙ ap (λ (l : List ℕ). sum (take 16 l)) is_second in
-    let further = sum_l-sum (take 16 third) ∙ ap (λ (l : List ℕ). sum (take 16 l)) at.0 in
-    let last = sum_l-sum (take 16 fourth) ∙ ap (λ (l : List ℕ). sum (take 16 l)) at.1 in (
+abbrev plus : ℕ → ℕ → ℕ
+plus a b = (a + b) % 256
+
+abbrev pub four : List ℕ → List ℕ → List ℕ → List ℕ → List ℕ
+four bytes second third fourth =
+    zip2 plus (zip2 plus (take 16 bytes) (take 16 second)) (zip2 plus (take 16 third) (take 16 fourth))
+
+module _ (bytes second third fourth : List ℕ) (many : 64 ≤ length bytes) (is_second : second ≡ drop 16 bytes)
+    (is_third : third ≡ drop 16 second) (is_fourth : fourth ≡ drop 16 third) where
+  at : (third ≡ drop 32 bytes) × (fourth ≡ drop 48 bytes)
+  at = parts_are bytes second third fourth is_second is_third is_fourth
+
+  front_parts : (length (take 16 bytes) ≡ 16) × (length (take 16 second) ≡ 16)
+  front_parts = (part_long 0 bytes bytes refl (omega arith), part_long 16 bytes second is_second (omega arith))
+
+  back_parts : (length (take 16 third) ≡ 16) × (length (take 16 fourth) ≡ 16)
+  back_parts = (part_long 32 bytes third at.0 (omega arith), part_long 48 bytes fourth at.1 (omega arith))
+
+  front_same : length (take 16 bytes) ≡ length (take 16 second)
+  front_same = front_parts.0 ∙ sym front_parts.1
+
+  back_same : length (take 16 third) ≡ length (take 16 fourth)
+  back_same = back_parts.0 ∙ sym back_parts.1
+
+  front_long : length (zip2 plus (take 16 bytes) (take 16 second)) ≡ 16
+  front_long = length-zip2 plus (take 16 bytes) (take 16 second) front_same ∙ front_parts.0
+
+  back_long : length (zip2 plus (take 16 third) (take 16 fourth)) ≡ 16
+  back_long = length-zip2 plus (take 16 third) (take 16 fourth) back_same ∙ back_parts.0
+
+  all_same : length (zip2 plus (take 16 bytes) (take 16 second)) ≡ length (zip2 plus (take 16 third) (take 16 fourth))
+  all_same = front_long ∙ sym back_long
+
+  pub four_long : length (four bytes second third fourth) ≡ 16
+  four_long =
+      length-zip2 plus (zip2 plus (take 16 bytes) (take 16 second)) (zip2 plus (take 16 third) (take 16 fourth)) all_same
+      ∙ front_long
+
+  pub four_sum : sum_l (four bytes second third fourth) % 256 ≡ sum (take 64 bytes) % 256
+  four_sum =
+      let first = sum_l-sum (take 16 bytes) in
+      let next = sum_l-sum (take 16 second) ∙ ap (λ (l : List ℕ). sum (take 16 l)) is_second in
+      let further = sum_l-sum (take 16 third) ∙ ap (λ (l : List ℕ). sum (take 16 l)) at.0 in
+      let last = sum_l-sum (take 16 fourth) ∙ ap (λ (l : List ℕ). sum (take 16 l)) at.1 in
       omega (
         arith,
-        all,
-        front,
-        back,
+        zip-wrapped (zip2 plus (take 16 bytes) (take 16 second)) (zip2 plus (take 16 third) (take 16 fourth)) all_same,
+        zip-wrapped (take 16 bytes) (take 16 second) front_same,
+        zip-wrapped (take 16 third) (take 16 fourth) back_same,
         first,
         next,
         further,
@@ -146,6 +161,4 @@ four-summed bytes second third fourth many is_second is_third is_fourth =
         sum-before 16 16 bytes,
         sum-before 32 16 bytes,
         sum-before 48 16 bytes,
-      ),
-      all_long,
-    )
+      )

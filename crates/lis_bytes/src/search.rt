@@ -5,7 +5,7 @@ ghost use Rattle.std.specs.Prelude.{true};
 ghost use Rattle.std.specs.List.{position_from, sum};
 ghost use Rattle.std.specs.Option.{unwrap_or};
 ghost use Rattle.std.specs.Simd.Lanes.{mask_l, sum_l};
-ghost use Rattle.lis_bytes.specs.inside.Search.{AreOver, Passed, Summed};
+ghost use Rattle.lis_bytes.specs.inside.Search.{IsLesser, Passed, Summed};
 
 use std::simd::prelude::*;
 
@@ -52,8 +52,7 @@ pub fn are_over(bytes: &[u8], limit: u8) -> bool
 /// The lesser of two bytes, in each of sixteen lanes. All are over a limit if both are in each lane.
 #[inline(always)]
 fn lesser(one: u8x16, other: u8x16) -> u8x16
-    ensures over { (limit : ℕ) → AreOver limit result ↔ (AreOver limit one × AreOver limit other) }
-    ensures lanes { length result ≡ 16 }
+    ensures { IsLesser result one other }
 {
     one.simd_min(other)
 }

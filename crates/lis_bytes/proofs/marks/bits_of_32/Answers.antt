@@ -1,9 +1,5 @@
-use Rattle.std.proofs.Common.{take, arith, length-take, eqb}
-use mir.Syntax.{w8}
-use Rattle.std.proofs.lemmas.Simd.{bitmask_splat}
+use Rattle.lis_bytes.proofs.MarkLemmas.{compared_32}
 use Rattle.lis_bytes.proofs.marks.bits_of_32.Goals as goal
 
 pub returns : goal.returns
-returns c =
-    bitmask_splat w8 eqb (take 32 c.args.bytes.now) 32 c.args.mark (omega (arith, length-take 32 c.args.bytes.now))
-    (omega arith)
+returns c = search (compared_32)
