@@ -1,6 +1,6 @@
 -- What an ENQ on an open line costs, and why no bit of NAK makes an acknowledgement of it.
-use Rattle.std.proofs.Common.{◌≡◌, ◌≢◌, ℕ, zero, suc, ◌+◌, ◌<◌, Bool, true, false, List, [], ◌∷◌, Some, refl, ap, sym}
-use Rattle.std.proofs.Common.{◌∙◌, arith}
+use Rattle.std.proofs.Common.{◌≡◌, ◌≢◌, ℕ, zero, suc, ◌+◌, ◌<◌, Bool, true, false, List, [], ◌∷◌, Some, refl, ap}
+use Rattle.std.proofs.Common.{arith}
 use Rattle.std.specs.Prelude.{nat_lt, ◌==◌, ◌&&◌, ◌||◌, if◌then◌else◌}
 use Rattle.std.proofs.lemmas.Bool.Decides.{nat_tests}
 use Rattle.lis_text.specs.Control.{EOT, ENQ, ACK, NAK}
@@ -13,7 +13,7 @@ use Rattle.lis_link.specs.declared.sender.Outcome.TheVariants.{SixTries}
 use Rattle.lis_link.specs.declared.sender.Phase.{Phase}
 use Rattle.lis_link.specs.declared.sender.Phase.TheVariants.{Neutral, AwaitLine, Busy, Contention, AwaitReply}
 use Rattle.lis_link.specs.Receiver.{ReceiverState, answers, answered_request}
-use Rattle.lis_link.specs.Sender.{SenderState, gives, ends, most_tries, on_accepted, on_reply, reply_in, sends_again}
+use Rattle.lis_link.specs.Sender.{SenderState, gives, ends, most_tries, reply_in, sends_again}
 use Rattle.lis_link.specs.Sender.{sends_first}
 use Rattle.lis_careful.specs.Careful.{careful_by, on_byte_carefully, session_ended}
 use Rattle.lis_careful.specs.Cost.{CostsOneEnquiry, NakStaysNak, flipped}

@@ -24,12 +24,12 @@ given_of [] = []
 given_of (ends ∷ signals) = given_of signals
 given_of (gives signal ∷ signals) = signal ∷ given_of signals
 
-later_no_end : {limit : ℕ} (signal : Option (SignalOf limit)) (rest : List (CarefulSignal limit))
+pub later_no_end : {limit : ℕ} (signal : Option (SignalOf limit)) (rest : List (CarefulSignal limit))
     → no_end (with_heard_first (option_map gives signal) rest) ≡ true → no_end rest ≡ true
 later_no_end None rest e = e
 later_no_end (Some signal) rest e = e
 
-given_first : {limit : ℕ} (signal : Option (SignalOf limit)) (rest : List (CarefulSignal limit))
+pub given_first : {limit : ℕ} (signal : Option (SignalOf limit)) (rest : List (CarefulSignal limit))
     → with_signal signal (given_of rest) ≡ given_of (with_heard_first (option_map gives signal) rest)
 given_first None rest = refl
 given_first (Some signal) rest = refl
@@ -92,7 +92,7 @@ pub record EndsThen (limit s : ℕ) (after : ComputerState) (d : ComputerState) 
   pub same : after ≡ hears limit s bytes (closed_side d)
   pub silent : signals_after limit [] bytes ≡ []
 
-rest_is : {limit : ℕ} (rest : List (CarefulSignal limit)) → ends ∷ rest ≡ ends ∷ [] → rest ≡ []
+pub rest_is : {limit : ℕ} (rest : List (CarefulSignal limit)) → ends ∷ rest ≡ ends ∷ [] → rest ≡ []
 rest_is rest e = cc
 
 pub ended : (limit s : ℕ) (bytes : List ℕ) (d : ComputerState)

@@ -97,7 +97,7 @@ pub data Noticed {limit : ℕ} (load : Load) (signals : List (CarefulSignal limi
   one_bad : (frame : FrameContent) → (fault : FrameFault) → load ≡ one_frame frame → signals ≡ gives (Bad fault) ∷ []
       → Noticed load signals
 
-noticed_cases : {limit : ℕ} (load : Load) (signals : List (CarefulSignal limit))
+pub noticed_cases : {limit : ℕ} (load : Load) (signals : List (CarefulSignal limit))
     → is_noticed_carefully load signals ≡ true → Noticed load signals
 noticed_cases load [] e = nothing refl
 noticed_cases load (ends ∷ []) e = ending_in refl
@@ -179,7 +179,7 @@ one_byte limit s b d special other = by d.receiver.is_open refl
         inl (ap (λ t. booked s (careful_by t limit b d.receiver) d) goes
         ∙ ap (λ c. hears limit s (c ∷ []) d) same)
 
-none_within : (past : List ℕ) → open_body past ≡ None → begins_within (open_body past) STX ≡ false
+pub none_within : (past : List ℕ) → open_body past ≡ None → begins_within (open_body past) STX ≡ false
 none_within past e = rw e refl
 
 comes : (limit s : ℕ) (load : Load) (d : ComputerState) → HasContent limit load → Comes limit s load d
@@ -302,7 +302,7 @@ without_room limit u us w are has_room (comes_bad bytes frame fault load_is same
 
 -- ---- each event
 
-content_of_load : (limit : ℕ) (w : World) (u : Travelling) (us : List Travelling) → IsLimit limit → Holds limit w
+pub content_of_load : (limit : ℕ) (w : World) (u : Travelling) (us : List Travelling) → IsLimit limit → Holds limit w
     → w.units ≡ u ∷ us → HasContent limit u.load
 content_of_load limit w u us is_limit h are = by u.load (leads_of limit w u us h are)
   where

@@ -5,4 +5,6 @@ pub mod Frames
 pub mod Histories
 pub mod OneByte
 pub mod OneByteRows
+pub mod Follows
 pub mod Cost
+pub mod Carried

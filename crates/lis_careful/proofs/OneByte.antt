@@ -1,7 +1,6 @@
 -- Why one damaged byte of a frame is noticed.
 use Rattle.std.proofs.Common.{◌≡◌, ◌≢◌, ℕ, ◌+◌, ◌%◌, ◌≤◌, Bool, true, false, List}
-use Rattle.std.proofs.Common.{[]}
-use Rattle.std.proofs.Common.{◌∷◌, ◌++◌, Option, None, Some, refl, ap, sym, ◌∙◌, subst, arith, append_assoc}
+use Rattle.std.proofs.Common.{◌⊎◌, inl, inr, [], ◌∷◌, ◌++◌, Option, None, Some, refl, ap, sym, ◌∙◌, subst, arith, append_assoc}
 use Rattle.std.proofs.Common.{append-nil, map}
 use Rattle.std.specs.Prelude.{◌==◌, ◌||◌, ◌&&◌}
 use Rattle.std.specs.List.{sum}
@@ -20,7 +19,7 @@ use Rattle.lis_frame.specs.Stream.{ended_body, stream_with, with_signal}
 use Rattle.lis_frame.proofs.FrameLaws.{found}
 use Rattle.lis_link.specs.Receiver.{ReceiverState, heard, on_byte, with_heard}
 use Rattle.lis_careful.specs.Careful.{DLE, ends_session, heard_as, careful_by}
-use Rattle.lis_careful.specs.World.{ends, gives, careful_signal_by, careful_signals}
+use Rattle.lis_careful.specs.World.{CarefulSignal, ends, gives, careful_signal_by, careful_signals}
 use Rattle.lis_careful.specs.World.{with_heard_first}
 use Rattle.lis_careful.specs.OneByte.{IsHeardAs, nothing, session_end, bad_frame, itself, OneByteIsNoticed}
 use Rattle.lis_careful.specs.Careful.{is_special}
@@ -49,7 +48,7 @@ not_longer : (xs : List ℕ) (a : ℕ) → [] ≡ xs ++ a ∷ [] → ⊥
 not_longer [] a e = cc
 not_longer (x ∷ xs) a e = cc
 
-cancel_last : (xs ys : List ℕ) (a b : ℕ) → xs ++ a ∷ [] ≡ ys ++ b ∷ [] → (xs ≡ ys) × (a ≡ b)
+pub cancel_last : (xs ys : List ℕ) (a b : ℕ) → xs ++ a ∷ [] ≡ ys ++ b ∷ [] → (xs ≡ ys) × (a ≡ b)
 cancel_last [] [] a b e = (refl, cc)
 cancel_last [] (y ∷ ys) a b e = absurd (not_longer ys b cc)
 cancel_last (x ∷ xs) [] a b e =
@@ -300,7 +299,7 @@ inner_passes limit (x ∷ xs) ys r inner plain =
     ∙ inner_passes limit xs ys (with_heard (x ∷ []) r) inner.1 plain.1
 
 -- an STX that begins a frame
-start_outside : (limit : ℕ) (ys : List ℕ) (r : ReceiverState) → open_body r.past ≡ None
+pub start_outside : (limit : ℕ) (ys : List ℕ) (r : ReceiverState) → open_body r.past ≡ None
     → careful_signals limit (STX ∷ ys) r ≡ careful_signals limit ys (with_heard (STX ∷ []) r)
 unfolding signal_after
 start_outside limit ys r outside =
@@ -392,17 +391,44 @@ first_byte limit is frame inner r is_open outside marks specials differ = by (ki
 
 -- ---- it is the frame's LF
 
-last_byte : (limit is : ℕ) (frame : FrameContent) (inner : List ℕ) (r : ReceiverState) → r.is_open ≡ true
+-- nothing, or the end of the session
+abbrev pub NoFrame : {limit : ℕ} → List (CarefulSignal limit) → Type 0
+NoFrame signals = (signals ≡ []) ⊎ (signals ≡ ends ∷ [])
+
+last_byte : (limit is : ℕ) (inner : List ℕ) (r : ReceiverState) → r.is_open ≡ true
     → open_body r.past ≡ Some inner → LF ≢ is
-    → IsHeardAs frame (careful_signals limit (is ∷ []) r)
+    → NoFrame (careful_signals limit (is ∷ []) r)
 unfolding signal_after
-last_byte limit is frame inner r is_open within differ = by (kind_of is)
+last_byte limit is inner r is_open within differ = by (kind_of is)
   where
-    by : Kind is → IsHeardAs frame (careful_signals limit (is ∷ []) r)
-    by (stops e) = session_end (ends_here limit is [] r is_open e)
-    by (starts e) = nothing (ap (λ b. careful_signals limit (b ∷ []) r) e ∙ start_within limit [] inner r within)
+    by : Kind is → NoFrame (careful_signals limit (is ∷ []) r)
+    by (stops e) = inr (ends_here limit is [] r is_open e)
+    by (starts e) = inl (ap (λ b. careful_signals limit (b ∷ []) r) e ∙ start_within limit [] inner r within)
     by (feeds e) = absurd (differ (sym e))
-    by (ordinary inner_is plain) = nothing (inner_step limit is [] r inner_is plain)
+    by (ordinary inner_is plain) = inl (inner_step limit is [] r inner_is plain)
+
+of_no_frame : {limit : ℕ} (frame : FrameContent) (signals : List (CarefulSignal limit)) → NoFrame signals
+    → IsHeardAs frame signals
+of_no_frame frame signals (inl none) = nothing none
+of_no_frame frame signals (inr ended) = session_end ended
+
+-- the whole frame but for its LF
+pub last_place : (limit is : ℕ) (bytes : List ℕ) (frame : FrameContent) (is_frame : IsFrame limit bytes frame)
+    (f : List ℕ) (was : ℕ) (r : ReceiverState)
+    → f ++ was ∷ [] ≡ inner_of frame is_frame.high is_frame.low ++ LF ∷ []
+    → was ≢ is → r.is_open ≡ true → open_body r.past ≡ Some []
+    → NoFrame (careful_signals limit (f ++ is ∷ []) r)
+last_place limit is bytes frame is_frame f was r e differ is_open opened =
+    let inner : List ℕ = inner_of frame is_frame.high is_frame.low in
+    let same = cancel_last f inner was LF e in
+    let marks : NonePass is_mark f = subst (NonePass is_mark) (sym same.0)
+    (none_pass-frame is_mark no_mark end_no_mark limit bytes frame is_frame) in
+    let specials : NonePass is_special f = subst (NonePass is_special) (sym same.0)
+    (none_pass-frame is_special unspecial end_unspecial limit bytes frame is_frame) in
+    subst (λ (signals : List (CarefulSignal limit)). NoFrame signals)
+    (sym (inner_passes limit f (is ∷ []) r marks specials))
+    (last_byte limit is f (with_heard f r) is_open (open-inner r.past f [] marks opened)
+    (λ same_byte. differ (same.1 ∙ same_byte)))
 
 -- ---- it is between them
 
@@ -501,12 +527,12 @@ module _ (limit was is : ℕ) (bytes : List ℕ) (frame : FrameContent) (is_fram
 
 -- ---- any byte
 
-record EndsWith (a : ℕ) (xs : List ℕ) : Type 0 where
-  front : List ℕ
-  last : ℕ
-  list_is : a ∷ xs ≡ front ++ last ∷ []
+pub record EndsWith (a : ℕ) (xs : List ℕ) : Type 0 where
+  pub front : List ℕ
+  pub last : ℕ
+  pub list_is : a ∷ xs ≡ front ++ last ∷ []
 
-ends_with : (a : ℕ) (xs : List ℕ) → EndsWith a xs
+pub ends_with : (a : ℕ) (xs : List ℕ) → EndsWith a xs
 ends_with a [] = record { front = []; last = a; list_is = refl }
 ends_with a (x ∷ xs) =
     let rest = ends_with x xs in
@@ -518,15 +544,8 @@ after_start : (limit was is : ℕ) (bytes : List ℕ) (frame : FrameContent) (is
     → was ≢ is → was ≤ 255 → is ≤ 255 → r.is_open ≡ true → open_body r.past ≡ Some []
     → IsHeardAs frame (careful_signals limit (f ++ is ∷ rest) r)
 after_start limit was is bytes frame is_frame f [] r e differ small small' is_open opened =
-    let inner : List ℕ = inner_of frame is_frame.high is_frame.low in
-    let same = cancel_last f inner was LF e in
-    let marks : NonePass is_mark f = subst (NonePass is_mark) (sym same.0)
-    (none_pass-frame is_mark no_mark end_no_mark limit bytes frame is_frame) in
-    let specials : NonePass is_special f = subst (NonePass is_special) (sym same.0)
-    (none_pass-frame is_special unspecial end_unspecial limit bytes frame is_frame) in
-    subst (IsHeardAs frame) (sym (inner_passes limit f (is ∷ []) r marks specials))
-    (last_byte limit is frame f (with_heard f r) is_open (open-inner r.past f [] marks opened)
-    (λ same_byte. differ (same.1 ∙ same_byte)))
+    of_no_frame frame (careful_signals limit (f ++ is ∷ []) r)
+    (last_place limit is bytes frame is_frame f was r e differ is_open opened)
 after_start limit was is bytes frame is_frame f (a ∷ rest) r e differ small small' is_open opened =
     let inner : List ℕ = inner_of frame is_frame.high is_frame.low in
     let end = ends_with a rest in

@@ -3,5 +3,7 @@ pub mod Careful
 pub mod World
 pub mod OneByte
 pub mod Laws
+pub mod Follows
 pub mod Cost
+pub mod Carried
 pub mod inside

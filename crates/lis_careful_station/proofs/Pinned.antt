@@ -1,5 +1,5 @@
 -- Each careful step of a station is one of a station as the profile has it, or two.
-use Rattle.std.proofs.Common.{◌≡◌, ℕ, Bool, true, false, [], Option, None, refl, ap, sym, ◌∙◌, subst}
+use Rattle.std.proofs.Common.{◌≡◌, ℕ, Bool, true, false, Option, None, ap, sym, ◌∙◌}
 use Rattle.std.specs.Prelude.{◌==◌, ◌&&◌, ◌||◌}
 use Rattle.lis_text.specs.Control.{EOT, ENQ}
 use Rattle.lis_frame.specs.Stream.{open_body}
@@ -8,6 +8,7 @@ use Rattle.lis_careful.specs.Careful.{ends_session, heard_as, careful_by}
 use Rattle.lis_careful.proofs.Receiving.{not_ended, open_then}
 use Rattle.lis_station.specs.Station.{StationState, StationStep, awaits_reply, heard, routed, timed_by, line_closed}
 use Rattle.lis_station.specs.Station.{on_station_byte, on_station_timer}
+use Rattle.lis_station.specs.Line.{roomed}
 use Rattle.lis_careful_station.specs.Station.{routed_carefully, on_station_byte_carefully}
 use Rattle.lis_careful_station.specs.Laws.{IsAsPinned, reply_of}
 
@@ -21,26 +22,22 @@ pub as_heard : (limit b : ℕ) (s : StationState) → awaits_reply s.sender.phas
     → on_station_byte_carefully limit b s ≡ heard (careful_by (ends_session s.receiver b) limit b s.receiver) s
 as_heard limit b s rests = ap (λ a. routed_carefully limit a b s) rests
 
-as_ended : (limit b : ℕ) (s : StationState) → awaits_reply s.sender.phase ≡ false
+pub as_ended : (limit b : ℕ) (s : StationState) → awaits_reply s.sender.phase ≡ false
     → ends_session s.receiver b ≡ true
     → on_station_byte_carefully limit b s ≡ heard (careful_by true limit b s.receiver) s
 as_ended limit b s rests ends =
     as_heard limit b s rests ∙ ap (λ t. heard {limit = limit} (careful_by t limit b s.receiver) s) ends
 
 pub closed_is : (limit b : ℕ) (s : StationState) → awaits_reply s.sender.phase ≡ false
-    → ends_session s.receiver b ≡ true → s.receiver.room ≡ true
-    → (on_station_byte_carefully limit b s).after ≡ line_closed (on_station_timer {limit = limit} s).after
-closed_is limit b s rests ends has_room =
+    → ends_session s.receiver b ≡ true
+    → (on_station_byte_carefully limit b s).after
+    ≡ roomed s.receiver.room (line_closed (on_station_timer {limit = limit} s).after)
+closed_is limit b s rests ends =
     let is_open : s.receiver.is_open ≡ true = open_then s.receiver.is_open (b == ENQ || b == EOT) ends in
-    let with_room : (heard {limit = limit} (careful_by true limit b s.receiver) s).after
-    ≡ line_closed (heard {limit = limit} (timer_by true s.receiver) s).after =
-    ap (λ (room : Bool). record (heard {limit = limit} (careful_by true limit b s.receiver) s).after {
-      receiver = record s.receiver { is_open = false; room = room; past = [] };
-    }) has_room in
+    let room : Bool = s.receiver.room in
     ap (λ (step : StationStep limit). step.after) (as_ended limit b s rests ends)
-    ∙ with_room
-    ∙ ap (λ t. line_closed (heard {limit = limit} (timer_by t s.receiver) s).after) (sym is_open)
-    ∙ ap (λ t. line_closed (timed_by {limit = limit} t s).after) (sym is_open)
+    ∙ ap (λ t. roomed room (line_closed (heard {limit = limit} (timer_by t s.receiver) s).after)) (sym is_open)
+    ∙ ap (λ t. roomed room (line_closed (timed_by {limit = limit} t s).after)) (sym is_open)
 
 pub silent_is : (limit b : ℕ) (s : StationState) → awaits_reply s.sender.phase ≡ false
     → ends_session s.receiver b ≡ true → reply_of (on_station_byte_carefully limit b s).answer ≡ None

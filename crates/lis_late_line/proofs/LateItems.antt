@@ -19,7 +19,7 @@ use Rattle.lis_station.specs.Station.{StationState, awaits_reply, routed}
 use Rattle.lis_station.specs.Line.{Item, sent, answered, TwoWay, turned, units_of, steps, comes, left_line, arrives}
 use Rattle.lis_station.specs.Line.{is_single, is_noise_to_sender, is_noise, damaged_in, lost_in}
 use Rattle.lis_station.proofs.Damaged.{EndsAtMost}
-use Rattle.lis_station.proofs.Both.{AllAnswers, answer_ends, Near, comes_near, IsNoise, unit_noise}
+use Rattle.lis_station.proofs.Both.{AllAnswers, answer_ends, Near, comes_near, IsLoad, IsNoise, unit_load, unit_noise}
 use Rattle.lis_station.proofs.Events.{HoldsBoth, turned_both, arrives_both, damaged_both, lost_both}
 use Rattle.lis_late_line.proofs.Hushed.{kept, dropped, heard_as, hushed, kept_front, Silent, IsAs, comes_as, reply_as}
 use Rattle.lis_late_line.proofs.Hushed.{StaysAtRest, comes_at_rest}
@@ -126,6 +126,9 @@ module _ (limit : ℕ) (is_limit : IsLimit limit) (u : Travelling) (items : List
   -- its bytes, as a sender hears them
   pub front_noise : IsNoise u.load
   front_noise = unit_noise limit is_limit u (kept near_deaf items) (line_heard []) front_holds.back
+
+  pub front_load : IsLoad limit u.load
+  front_load = unit_load limit is_limit u (kept near_deaf items) (line_heard []) front_holds.back
 
   came_late : (bytes : List ℕ) → HoldsBoth limit (unit_heard bytes) → HoldsLate limit (unit_came bytes)
   came_late bytes held =

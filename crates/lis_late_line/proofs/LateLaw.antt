@@ -60,7 +60,7 @@ tested_quiet t e =
 -- ---- an event at a station whose ENQ is in time
 
 -- a rule is enough if each ENQ after a session to which a reply may come finds the line new or quiet
-abbrev IsEnough : Rule → Type 0
+abbrev pub IsEnough : Rule → Type 0
 IsEnough rule =
     (event : StationEvent) (t : TwoWay) (is_new : Bool)
     → rule event t is_new ≡ true
@@ -75,12 +75,12 @@ must_be true true false e asked owes = cc
 must_be true false free e asked owes = cc
 must_be false owed free e asked owes = cc
 
-enough_new : IsEnough (on_new_lines on_each_enquiry)
+pub enough_new : IsEnough (on_new_lines on_each_enquiry)
 enough_new event t is_new in_time asks owes new =
     inl (new (must_be (on_each_enquiry event t.near.station) (reply_may_come t.near.station.sender.outcome) is_new
     in_time asks owes))
 
-enough_quiet : IsEnough (on_quiet_lines on_each_enquiry)
+pub enough_quiet : IsEnough (on_quiet_lines on_each_enquiry)
 enough_quiet event t is_new in_time asks owes new =
     inr (tested_quiet t (must_be (on_each_enquiry event t.near.station)
     (reply_may_come t.near.station.sender.outcome) (is_quiet t) in_time asks owes))
@@ -139,12 +139,12 @@ module _ (limit : ℕ) (is_limit : IsLimit limit) (rule : Rule) (enough : IsEnou
 
 -- ---- all events
 
-record HoldsByRule (limit : ℕ) (t : TwoWay) (is_new : IsNewTo) : Type 0 where
+pub record HoldsByRule (limit : ℕ) (t : TwoWay) (is_new : IsNewTo) : Type 0 where
   pub late : HoldsLate limit t
   pub analyzer : is_new.analyzer ≡ true → IsNew t
   pub computer : is_new.computer ≡ true → IsNew (turned t)
 
-late_event :
+pub late_event :
     (limit : ℕ) (is_limit : IsLimit limit) (rule : Rule) (enough : IsEnough rule) (event : LateEvent) (t : TwoWay)
     (is_new : IsNewTo)
     → is_in_time rule event t is_new ≡ true
@@ -177,7 +177,7 @@ safe_late limit t h =
     let x : TwoWay = hushed (is_deaf t.near.station) (is_deaf t.far.station) t in
     (safe_out limit x h.holds.out, safe_out limit (turned x) h.holds.back)
 
-new_by_rule : (limit : ℕ) → HoldsByRule limit new_two_way new_to_both
+pub new_by_rule : (limit : ℕ) → HoldsByRule limit new_two_way new_to_both
 new_by_rule limit = record {
   late = record {
     near_drops_none = refl;

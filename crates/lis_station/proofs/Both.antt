@@ -239,7 +239,7 @@ comes_near limit item (b ∷ bytes) t0 t h =
 
 -- ---- the bytes of a unit, as noise to a sender
 
-abbrev IsLoad : ℕ → Load → Type 0
+abbrev pub IsLoad : ℕ → Load → Type 0
 IsLoad limit enquiry = Unit {0}
 IsLoad limit ending = Unit {0}
 IsLoad limit (one_frame f) = IsContent limit f
@@ -303,7 +303,10 @@ module _ (limit : ℕ) (is_limit : IsLimit limit) (u : Travelling) (items : List
       leads_load u.load w w.receiver.is_open w.opened u.session h (leads_of limit w u us h are)
   load_in phase (suc n) us x h are frames = lost_load u.load (take n us) frames
 
-  pub unit_noise : HoldsOut limit (turned (record t { inward = sent u ∷ items })) → IsNoise u.load
-  unit_noise h =
+  pub unit_load : HoldsOut limit (turned (record t { inward = sent u ∷ items })) → IsLoad limit u.load
+  unit_load h =
       let x : TwoWay = turned (record t { inward = sent u ∷ items }) in
-      load_noise limit u.load (load_in x.near.station.sender.phase h.lost (units_of items) x h.holds refl h.lost_frames)
+      load_in x.near.station.sender.phase h.lost (units_of items) x h.holds refl h.lost_frames
+
+  pub unit_noise : HoldsOut limit (turned (record t { inward = sent u ∷ items })) → IsNoise u.load
+  unit_noise h = load_noise limit u.load (unit_load h)

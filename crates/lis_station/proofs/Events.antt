@@ -56,7 +56,7 @@ answers_after : (front : Item) (items : List Item) → AllAnswers (front ∷ ite
 answers_after (sent u) items h = h
 answers_after (answered b) items h = h.1
 
-shut_if_awaits : (s : StationState) → IsExclusive s → awaits_reply s.sender.phase ≡ true → s.receiver.is_open ≡ false
+pub shut_if_awaits : (s : StationState) → IsExclusive s → awaits_reply s.sender.phase ≡ true → s.receiver.is_open ≡ false
 shut_if_awaits s exclusive awaits = go s.receiver.is_open refl
   where
     go : (is_open : Bool) → s.receiver.is_open ≡ is_open → is_open ≡ false
@@ -273,7 +273,7 @@ pub record IsSenderNoise (b : ℕ) (bytes : List ℕ) : Type 0 where
   pub lacks_ack : has_byte ACK bytes ≡ false
   pub lacks_enq : has_byte ENQ bytes ≡ false
 
-sender_noise : (b : ℕ) (bytes : List ℕ) → is_noise_to_sender (b ∷ bytes) ≡ true → IsSenderNoise b bytes
+pub sender_noise : (b : ℕ) (bytes : List ℕ) → is_noise_to_sender (b ∷ bytes) ≡ true → IsSenderNoise b bytes
 sender_noise b bytes e =
     let last = and_parts (not (b == ACK) && not (has_byte ACK bytes)) (not (has_byte ENQ bytes)) e in
     let both = and_parts (not (b == ACK)) (not (has_byte ACK bytes)) last.0 in

@@ -67,10 +67,10 @@ signal_quiet {limit} (Some Eot) r shut quiet = ap (λ o. heard_by {limit = limit
 signal_quiet {limit} (Some (Good f)) r shut quiet = ap (λ o. heard_by {limit = limit} o (Good f) r) shut
 signal_quiet {limit} (Some (Bad fault)) r shut quiet = ap (λ o. heard_by {limit = limit} o (Bad fault) r) shut
 
-abbrev heard_past : ℕ → ReceiverState → ReceiverState
+abbrev pub heard_past : ℕ → ReceiverState → ReceiverState
 heard_past b r = record r { past = b ∷ r.past }
 
-quiet_byte : (limit b : ℕ) (r : ReceiverState) → r.is_open ≡ false → (ENQ == b) ≡ false
+pub quiet_byte : (limit b : ℕ) (r : ReceiverState) → r.is_open ≡ false → (ENQ == b) ≡ false
     → on_byte limit b r ≡ answers None Quiet (heard_past b r)
 quiet_byte limit b r shut other =
     signal_quiet (signal_after limit r.past b) (heard_past b r) shut (byte_quiet limit r.past b other)
@@ -79,10 +79,10 @@ pub no_reply_out : (to_drop : ℕ) (t : TwoWay) → reply_out to_drop None t ≡
 no_reply_out zero t = refl
 no_reply_out (suc to_drop) t = refl
 
-abbrev pasted : ℕ → StationState → StationState
+abbrev pub pasted : ℕ → StationState → StationState
 pasted b s = record s { receiver = heard_past b s.receiver }
 
-quiet_step :
+pub quiet_step :
     (limit b : ℕ) (item : Item) (t : TwoWay)
     → t.near.station.receiver.is_open ≡ false
     → (ENQ == b) ≡ false
