@@ -12,7 +12,7 @@ from collections import Counter
 from lislink import FrameFault, frame_bytes
 from lislink.link import LONG_FRAME_TEXT
 from lislink.host import line, options, serve
-from tests.host.hosts import Found, Host, HostTest, lislab, sending, wait_for
+from tests.host.hosts import NEVER, Found, Host, HostTest, lislab, sending, wait_for
 
 #: The timers of tests in which they run out while a frame is answered in time: 15 seconds are 0.75.
 LATE = 0.05
@@ -404,8 +404,8 @@ class Lines(HostTest):
 
     def test_capture(self):
         """What went over a line is a capture that replays without a difference."""
-        host = Host(self.path("capture.db"), "--capture", self.path("tape"))
-        one = sending(host.port, "--made", "3", "--noise", "0.001", "--seed", "3")
+        host = Host(self.path("capture.db"), "--capture", self.path("tape"), scale=NEVER)
+        one = sending(host.port, "--made", "3", "--noise", "0.001", "--seed", "3", scale=NEVER)
         one.communicate()
         host.stop()
         names = sorted(
