@@ -69,6 +69,9 @@ FAULTS = {
     "test_connect.Connect.test_gone_and_back": Edit(
         "host/serve.py", "pause = min(2 * pause, MOST)", "pause = min(pause, MOST)"
     ),
+    "test_connect.Connect.test_pause_that_ends": Edit(
+        "host/serve.py", "await asyncio.wait_for(self._changed.wait(), seconds)", "await asyncio.sleep(seconds)"
+    ),
     "test_connect.Connect.test_nothing_listens": Edit(
         "host/serve.py", "if self._said.get(name) != why:", "if why:"
     ),

@@ -1,4 +1,5 @@
 """Bare roots by debootstrap. Those that are made once are kept in roots/ of what was built."""
+import glob
 import os
 import shutil
 import subprocess
@@ -13,6 +14,8 @@ KINDS = {
     "compiler": ("make", "gcc", "libc6-dev", "python3"),
     "tests": ("make", "gcc", "g++", "libc6-dev", "python3", "git"),
 }
+#: One whose programs qemu runs, one at a time: its packages are unpacked alone.
+ARM64 = "arm64"
 MIRROR = "http://deb.debian.org/debian"
 #: What is mounted goes when the last process of the command has ended.
 WITHIN = ('mount -t proc proc "$0/proc" && mount --bind /dev/pts "$0/dev/pts" && mount -t tmpfs tmpfs "$0/dev/shm" && '
@@ -61,7 +64,12 @@ def kept(kind):
     os.makedirs(folder, exist_ok=True)
     shutil.rmtree(f"{path}.part", ignore_errors=True)
     print(f"roots: {path} is made of Debian's packages", flush=True)
-    if kind == "bare":
+    if kind == ARM64:
+        done("debootstrap", "--arch=arm64", "--foreign", "--variant=minbase", "--include=python3", "bookworm",
+             f"{path}.part", MIRROR)
+        for package in glob.glob(f"{path}.part/var/cache/apt/archives/*.deb"):
+            done("dpkg-deb", "--extract", package, f"{path}.part")
+    elif kind == "bare":
         done("debootstrap", "--variant=minbase", "bookworm", f"{path}.part", MIRROR)
         done(*within(f"{path}.part", "apt-get -q update"))
     else:

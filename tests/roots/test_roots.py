@@ -47,7 +47,7 @@ class Roots(kit.Test):
         if lacking:
             self.skipTest(f"{lacking}: some checks: what is released, in bare roots")
 
-    def root(self, kind):
+    def bare(self, kind):
         """A root of a kind, which has no kit and no checkout."""
         made = root.Root(self, kind)
         self.ran("no kit and no checkout", made, "! command -v rt && ! find / -xdev -name crates.txt | grep .")
@@ -90,12 +90,12 @@ class Released(Roots):
         """Each file has its sum, and is named there."""
         folder = os.path.dirname(released("SHA256SUMS"))
         self.runs(["sha256sum", "--quiet", "--strict", "-c", "SHA256SUMS"], "", cwd=folder)
-        named = re.findall(r"(?m)^\w+  (.*)$", open(f"{folder}/SHA256SUMS", encoding="utf-8").read())
+        named = re.findall(r"(?m)^\w+  (.*)$", kit.read(f"{folder}/SHA256SUMS"))
         self.same("the files", sorted([*named, "SHA256SUMS"]), sorted(os.listdir(folder)))
 
     def test_package(self):
         """The package of Debian, with what it depends on."""
-        made = self.root("bare")
+        made = self.bare("bare")
         made.put(released("lislink_*_amd64.deb"), "/tmp/lislink.deb")
         self.ran("apt-get installs it", made, "apt-get -q -y --no-install-recommends install /tmp/lislink.deb")
         self.same("commands of the tour", self.tours_in(made), 7)
@@ -104,7 +104,7 @@ class Released(Roots):
 
     def test_wheel(self):
         """The wheel, by pip in an environment of its own, without a network. It has no program `lislink`."""
-        made, wheel = self.root("python"), released("lislink-*x86_64.whl")
+        made, wheel = self.bare("python"), released("lislink-*x86_64.whl")
         made.put(wheel, f"/tmp/{os.path.basename(wheel)}")
         self.ran("pip installs it", made, "python3 -m venv /venv && /venv/bin/pip install -q --no-index /tmp/*.whl")
         path = f"/venv/bin:{root.PATH}"
@@ -113,7 +113,7 @@ class Released(Roots):
 
     def test_archive(self):
         """The source archive: built by a C compiler, tried in its folder, installed, and tried without its folder."""
-        made, archive = self.root("compiler"), released("lislink-*.tar.gz")
+        made, archive = self.bare("compiler"), released("lislink-*.tar.gz")
         made.put(archive, "/tmp/source.tar.gz")
         name = os.path.basename(archive)[:-len(".tar.gz")]
         self.ran("unpacked", made, "tar -xzf /tmp/source.tar.gz")
@@ -133,12 +133,7 @@ class Arm64(Roots):
         super().setUp()
         if not shutil.which(QEMU):
             self.skipTest(f"{QEMU}: some checks: what is released, in bare roots")
-        self.folder = kit.folder_of(self)
-        self.path = f"{self.folder}/root"
-        root.done("debootstrap", "--arch=arm64", "--foreign", "--variant=minbase", "--include=python3", "bookworm",
-                  self.path, root.MIRROR)
-        for package in glob.glob(f"{self.path}/var/cache/apt/archives/*.deb"):
-            root.done("dpkg-deb", "--extract", package, self.path)
+        self.folder, self.path = kit.folder_of(self), root.Root(self, root.ARM64).path
 
     def program(self, name, *words):
         """A command on the path that qemu runs."""
@@ -165,14 +160,15 @@ class Arm64(Roots):
 
     def test_wheel(self):
         shutil.unpack_archive(released("lislink-*aarch64.whl"), f"{self.folder}/wheel", "zip")
-        self.same("commands of the tour", self.tours_by_qemu(f"{self.folder}/wheel", "build/lislink"), 4)
+        packages = f"{self.folder}/wheel/lislink-{kit.read('VERSION').strip()}.data/purelib"
+        self.same("commands of the tour", self.tours_by_qemu(packages, "build/lislink"), 4)
 
 
 class Clone(Roots):
     """A fresh clone, with the assembler that was built here."""
 
     def test_clone(self):
-        made = self.root("tests")
+        made = self.bare("tests")
         root.done("git", "clone", "-q", "--no-hardlinks", ROOT, f"{made.path}/lislink")
         dist = f"{made.path}/lislink/dist"
         if not os.path.exists(f"{dist}/SUMS"):
