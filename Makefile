@@ -22,6 +22,7 @@
 # make fuzz     [EACH=600]               harnesses of libFuzzer over the library for C, so many seconds each
 # make both     [LISTS=100000]           random lists of events on a line between two stations, as the model answers them
 # make arm64                             all rows, programs and calls on ARM64, by qemu
+# make roots                             what `make release` makes, and a clone, in bare roots (root, debootstrap)
 # make soak     [PARTS="kills=1000 .."]  the host by fire, for hours (tests/host/more soak)
 # make plant CRATE=lis_link              wrong bodies that the kit makes up: what a crate's contracts let through
 # make bench                             speed, memory and instructions; writes docs/PERFORMANCE.md (ten minutes at most)
@@ -39,7 +40,7 @@ PROGRAM = $(BUILD)/lislink
 VERSION = $(shell cat VERSION)
 
 .PHONY: build prove dist check debug demo test mutants harmless both soak plant bench bench-check install uninstall \
-  deb release arm64 docs fuzz FORCE
+  deb release roots arm64 docs fuzz FORCE
 
 build: $(PROGRAM) $(BUILD)/liblis_c.a $(BUILD)/liblislink.a $(BUILD)/liblislink.so
 
@@ -129,6 +130,9 @@ both:
 
 arm64: build
 	tests/arm64/more $(BUILD)
+
+roots: build release
+	tests/run roots build=$(BUILD)
 
 soak: build
 	tests/host/more build=$(BUILD) soak $(PARTS)

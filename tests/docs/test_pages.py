@@ -162,17 +162,22 @@ def free_port():
         return str(one.getsockname()[1])
 
 
-def output_of(command, folder, environment, groups):
-    """The lines that a command prints within a minute; what it leaves running is in its process group."""
-    with subprocess.Popen(["bash", "-c", f"{{ {command}\n}} 2>&1"], cwd=folder, env=environment, text=True,
+def by_bash(command):
+    """The words that run a command here."""
+    return ["bash", "-c", command]
+
+
+def output_of(command, folder, environment, groups, words=by_bash):
+    """The lines that a command prints; what it leaves running is in its process group."""
+    with subprocess.Popen(words(f"{{ {command}\n}} 2>&1"), cwd=folder, env=environment, text=True,
                           errors="replace", stdout=subprocess.PIPE, stdin=subprocess.DEVNULL,
                           start_new_session=True) as ran:
         groups.append(ran.pid)
         try:
-            text = ran.communicate(timeout=60)[0]
+            text = ran.communicate(timeout=600)[0]
         except subprocess.TimeoutExpired:
             end_all(groups)
-            return ["not over after 60 seconds"]
+            return ["not over after 10 minutes"]
     return text.rstrip("\n").split("\n") if text.strip("\n") else []
 
 

@@ -232,18 +232,16 @@ class Prove(kit.Test):
 
 def folders_run(script):
     """The folders whose tests a script runs, as it names them."""
-    text = kit.read(script)
-    found = re.findall(r"tests/run (\w+)", text)
-    for names in re.findall(r"for folder in ([\w ]+);", text):
-        found += names.split()
-    return sorted(found)
+    found = re.findall(r"(?m)^.*tests/run (\w+(?: \w+)*)(?= |$)", kit.read(script))
+    return [it for names in found for it in names.split()]
 
 
 class Targets(kit.Test):
     def test_each_runs_once(self):
-        """The tests of each folder are run by one of tests/all and tests/prove, and once there."""
+        """The tests of each folder are run by one of tests/all, tests/prove and `make roots`, and once there."""
         folders = {os.path.dirname(it) for it in glob.glob("*/test_*.py", root_dir=os.path.join(kit.ROOT, "tests"))}
-        self.same("what is run", sorted(folders_run("tests/all") + folders_run("tests/prove")), sorted(folders))
+        found = [it for script in ("tests/all", "tests/prove", "Makefile") for it in folders_run(script)]
+        self.same("what is run", sorted(found), sorted(folders))
 
     def test_sums(self):
         """What a script of tests prints is added up; one that prints no last line is a failure."""

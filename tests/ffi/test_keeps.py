@@ -13,7 +13,7 @@ from typing import Callable, NamedTuple
 
 from tests import ROOT, kit
 from tests.ffi.c import C11, IN_C, IN_PYTHON, SANITIZERS, python_over
-from tests.ffi.test_samples import ACK, CPP, ENQ, EOT, TEXTS, InC, InPython, ask, frame, kept, told
+from tests.ffi.test_samples import ACK, CPP, ENQ, EOT, PATIENCE, TEXTS, InC, InPython, ask, frame, kept, told
 
 HALF = b"R|1|^^^GLU|1"
 PAGE = 4096
@@ -66,11 +66,11 @@ def keeps_no_half(sample, path, start, give_room, before=b""):
     good = ask(it.line, ENQ, ACK) and ask(it.line, frame(1, TEXTS[0]), ACK)
     good = good and ask(it.line, frame(2, TEXTS[1]), b"")
     if sample.goes_on:  # what came together with that text is dropped with it, so ENQ is sent again if need be
-        good = good and any(ask(it.line, ENQ, ACK) for _ in range(4)) and kept(path) == before + TEXTS[0]
+        good = good and any(ask(it.line, ENQ, ACK, 10.0) for _ in range(4)) and kept(path) == before + TEXTS[0]
         it.line.sendall(EOT)
         give_room(it)
     else:
-        good = good and told(it.line, 1, 20.0) == b"" and it.end() is not None and kept(path) == before + TEXTS[0]
+        good = good and told(it.line, 1) == b"" and it.end() is not None and kept(path) == before + TEXTS[0]
         give_room(it)
         it = sample.start(path)
     good = good and takes_session(it.line) and it.end() == 0
@@ -113,7 +113,7 @@ def of_half_a_text(sample, path):
 def leaves(sample, path, words):
     """It doesn't start with this file, and leaves it as it is."""
     before = kept(path)
-    ran = subprocess.run([*words, path], stdin=subprocess.DEVNULL, capture_output=True, timeout=60,
+    ran = subprocess.run([*words, path], stdin=subprocess.DEVNULL, capture_output=True, timeout=PATIENCE,
                          **sample.start.keywords)
     return ran.returncode not in (0, -signal.SIGSEGV) and kept(path) == before
 
@@ -138,7 +138,7 @@ def keeps_nothing(sample):
     it = sample.start("/dev/full")
     good = ask(it.line, ENQ, ACK) and ask(it.line, frame(1, TEXTS[0]), b"")
     if sample.goes_on:
-        good = good and ask(it.line, frame(1, TEXTS[0]), b"") and any(ask(it.line, ENQ, ACK) for _ in range(4))
+        good = good and ask(it.line, frame(1, TEXTS[0]), b"") and any(ask(it.line, ENQ, ACK, 10.0) for _ in range(4))
     it.end()
     return good
 
@@ -159,7 +159,7 @@ def is_silent_late(sample, it, good, since):
     it.process.send_signal(signal.SIGCONT)
     good = good and told(it.line, 1, 3.0) == b""
     if "answer_query" in sample.name:
-        good = good and it.process.wait(10) is not None
+        good = good and it.process.wait(PATIENCE) is not None
     else:
         good = good and ask(it.line, ENQ, ACK)
     it.end()

@@ -22,18 +22,12 @@ def build(test, archive, host, program):
 def tally(test, program, mode, sessions, slower=1):
     """How many sessions were done too early, and how often the machine was too slow for the line's promise; the sessions
     are as many as asked for, and some of them fail."""
-    try:
-        words = [program, mode, str(sessions), str(slower)]
-        ran = subprocess.run(words, capture_output=True, text=True, timeout=120 * slower)
-    except subprocess.TimeoutExpired:
-        test.check(False, f"late {mode}: not over after {120 * slower} seconds")
-        return 0, 1
+    ran = subprocess.run([program, mode, str(sessions), str(slower)], capture_output=True, text=True, timeout=1200)
     found = TALLY.fullmatch(ran.stdout)
-    if not test.check(ran.returncode == 0 and found, f"late {mode}: {ran.returncode} {ran.stdout}{ran.stderr}"):
-        return 0, 1
+    test.need(ran.returncode == 0 and found, lambda: f"late {mode}: {ran.returncode} {ran.stdout}{ran.stderr}")
     all_of_them, done, wrong, failed, slow = (int(it) for it in found.groups())
-    power = all_of_them >= sessions and done > sessions / 10 and failed > sessions / 20
-    test.check(power, f"late {mode}: too few sessions, or too few of a kind: {ran.stdout}")
+    test.need(all_of_them >= sessions and done > sessions / 10 and failed > sessions / 20,
+              lambda: f"late {mode}: too few sessions, or too few of a kind: {ran.stdout}")
     return wrong, slow
 
 

@@ -8,12 +8,12 @@ import threading
 import time
 
 from tests import ROOT, kit
-from tests.ffi.test_samples import ACK, CPP, ENQ, EOT, InPython, ask, frame, kept, told
+from tests.ffi.test_samples import ACK, CPP, ENQ, EOT, PATIENCE, InPython, ask, frame, kept, told
 
 NAK = b"\x15"
 PANEL = os.path.join(ROOT, "samples/panel.records")
 #: How long a sender takes that asks a busy computer three times: at least, and at most.
-LEAST, MOST = 29, 60
+LEAST, MOST = 29, 300
 
 
 class Host:
@@ -21,12 +21,12 @@ class Host:
 
     def __init__(self, program, file, env):
         with socket.create_server(("127.0.0.1", 0)) as server:
-            server.settimeout(10)
+            server.settimeout(PATIENCE)
             words = [program, f"127.0.0.1:{server.getsockname()[1]}", file]
             self.process = subprocess.Popen(words, stdout=subprocess.PIPE, stderr=subprocess.PIPE, env=env)
             self.line, self.begun = server.accept()[0], time.monotonic()
 
-    def end(self, seconds=10):
+    def end(self, seconds=PATIENCE):
         """The status that it ends with, and what it says."""
         try:
             said = b"".join(self.process.communicate(timeout=seconds))
@@ -48,7 +48,7 @@ class Busy(threading.Thread):
 
     def run(self):
         asked = 0
-        while asked < 4 and told(self.host.line, 1, 12) == ENQ:
+        while asked < 4 and told(self.host.line, 1) == ENQ:
             asked += 1
             self.host.line.sendall(NAK)
         status, said = self.host.end()
@@ -107,7 +107,7 @@ class Pairs(kit.Test):
         with subprocess.Popen(words, stdout=subprocess.PIPE, stderr=subprocess.DEVNULL, env=self.env) as receives:
             port = int(receives.stdout.readline().split()[1])
             ran = subprocess.run([self.senders[sender], f"127.0.0.1:{port}", PANEL], capture_output=True, text=True,
-                                 timeout=60, env=self.env)
+                                 timeout=PATIENCE, env=self.env)
             receives.wait(10)
         with open(PANEL, "rb") as file:
             sent = file.read()

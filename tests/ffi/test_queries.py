@@ -9,7 +9,7 @@ import time
 
 from tests import ROOT, kit
 from tests.ffi.c import C11, IN_C, SANITIZERS, python_over
-from tests.ffi.test_samples import ACK, CPP, ENQ, EOT, InC, InPython, ask, frame, kept, told
+from tests.ffi.test_samples import ACK, CPP, ENQ, EOT, PATIENCE, InC, InPython, ask, frame, kept, told
 
 NAK = b"\x15"
 RUST = os.path.join(ROOT, "bindings/rust")
@@ -80,7 +80,7 @@ def of_contention(test, name, start, path):
     test.check(good and ask(sample.line, ENQ, b""), f"{name}: ENQ in reply to ENQ isn't answered")
     good = asks(sample.line, query(b"S8"))
     since = time.monotonic()
-    test.check(good and told(sample.line, 1) == ENQ and time.monotonic() - since < 5, f"{name}: ENQ after contention")
+    test.check(good and told(sample.line, 1) == ENQ and time.monotonic() - since < 19, f"{name}: ENQ after contention")
     test.check(takes(sample.line, orders(b"S7")), f"{name}: the orders that contention put off")
     test.check(told(sample.line, 1) == ENQ and takes(sample.line, orders(b"S8")), f"{name}: those of the second query")
     sample.end()
@@ -119,7 +119,7 @@ def of_failures(test, name, start, path):
 def gives_up(sample):
     """Whether it ends by itself."""
     try:
-        sample.process.wait(10)
+        sample.process.wait(PATIENCE)
     except subprocess.TimeoutExpired:
         sample.process.kill()
         return False

@@ -23,7 +23,11 @@ def frame(number, text):
     return b"\x02" + inside + b"%02X\r\n" % (sum(inside) % 256)
 
 
-def told(line, count, seconds=5.0):
+#: How long what a sample does may take on a busy machine, in seconds.
+PATIENCE = 120.0
+
+
+def told(line, count, seconds=PATIENCE):
     """So many bytes of a line, or those that come in time."""
     line.settimeout(seconds)
     data = b""
@@ -38,7 +42,7 @@ def told(line, count, seconds=5.0):
     return data
 
 
-def ask(line, data, wanted, seconds=5.0):
+def ask(line, data, wanted, seconds=PATIENCE):
     """Whether the line answers data so; with nothing wanted, it is silent for a while."""
     line.sendall(data)
     return told(line, max(len(wanted), 1), seconds if wanted else 0.3) == wanted
@@ -54,7 +58,7 @@ class InC:
 
     def end(self):
         self.line.close()
-        return self.process.wait(10)
+        return self.process.wait(PATIENCE)
 
 
 class InPython(InC):
@@ -92,20 +96,20 @@ def of_sender(test, work, how):
     path, text = f"{work}/sent", b"H|\\^&|||" + b"x" * 500 + b"\r"
     receiver = InPython([sys.executable, RECEIVE, "0", path], **how)
     with receiver.line:
-        ran = subprocess.run([f"{work}/quick_send", text.decode()], stdin=receiver.line, timeout=30)
-    receiver.process.wait(10)
+        ran = subprocess.run([f"{work}/quick_send", text.decode()], stdin=receiver.line, timeout=PATIENCE)
+    receiver.process.wait(PATIENCE)
     test.check(ran.returncode == 0 and kept(path) == text, "quick_send.c to quick_receive.py")
     sender = InC([f"{work}/quick_send", "text"])
     good = told(sender.line, 1) == ENQ and ask(sender.line, ACK, frame(1, b"text"))
     for _ in range(5):
         good = good and ask(sender.line, b"\x15", frame(1, b"text"))
     good = good and ask(sender.line, b"\x15", EOT)
-    test.check(good and sender.process.wait(10) == 1, "quick_send.c to a host that takes nothing")
+    test.check(good and sender.process.wait(PATIENCE) == 1, "quick_send.c to a host that takes nothing")
     sender.line.close()
     sender = InC([f"{work}/quick_send", "text"])
     good = told(sender.line, 1) == ENQ and sender.line.sendall(b"\x15") is None
     sender.line.close()
-    test.check(good and sender.process.wait(10) == 1, "quick_send.c to a host that is busy and closes the line")
+    test.check(good and sender.process.wait(PATIENCE) == 1, "quick_send.c to a host that is busy and closes the line")
 
 
 def busy(sample):
@@ -113,7 +117,7 @@ def busy(sample):
     heard = []
 
     def reply():
-        while told(sample.line, 1, 20.0) == ENQ:
+        while told(sample.line, 1) == ENQ:
             heard.append(ENQ)
             sample.line.sendall(b"\x15")
 
@@ -124,7 +128,7 @@ def busy(sample):
 
 def gives_up(sample, host, heard):
     """After three ENQs."""
-    status = sample.process.wait(60)
+    status = sample.process.wait(PATIENCE)
     sample.line.shutdown(socket.SHUT_RDWR)
     host.join()
     return (status, len(heard)) == (1, 3)

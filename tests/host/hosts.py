@@ -22,6 +22,8 @@ from tests.host import SOURCE
 
 #: Each timer of the standard is so many times as long: 15 seconds are 0.3.
 SCALE = 0.02
+#: The scale of a test in which no timer may run out, however busy the machine is: 15 seconds are 5 minutes.
+NEVER = 20
 ENV = {**os.environ, "PYTHONPATH": SOURCE, "PYTHONDONTWRITEBYTECODE": "1"}
 FAULTY = os.path.join(ROOT, "tests", "host", "faulty.py")
 

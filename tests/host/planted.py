@@ -69,6 +69,9 @@ FAULTS = {
     "test_connect.Connect.test_gone_and_back": Edit(
         "host/serve.py", "pause = min(2 * pause, MOST)", "pause = min(pause, MOST)"
     ),
+    "test_connect.Connect.test_pause_that_ends": Edit(
+        "host/serve.py", "await asyncio.wait_for(self._changed.wait(), seconds)", "await asyncio.sleep(seconds)"
+    ),
     "test_connect.Connect.test_nothing_listens": Edit(
         "host/serve.py", "if self._said.get(name) != why:", "if why:"
     ),
@@ -154,7 +157,9 @@ FAULTS = {
     "test_lines.Lines.test_late": Edit(
         "host/line.py", "age > self._limits.reply * self._limits.scale", "age > self._limits.idle"
     ),
-    "test_lines.Lines.test_slow_lines": Edit("host/line.py", "TOGETHER = 1 << 16,", "TOGETHER = 1 << 40,"),
+    "test_lines.Lines.test_slow_lines": Edit(
+        "host/line.py", "self._paused_at = since\n            self._wire.pause()\n", "self._paused_at = since\n"
+    ),
     "test_lines.Lines.test_limits": Edit(
         "host/serve.py", "self._lines.values())) < limits.lines:", "self._lines.values())) <= limits.lines:"
     ),

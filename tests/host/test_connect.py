@@ -1,4 +1,5 @@
 """Lines that the host connects: analyzers that listen, go, and come back."""
+import contextlib
 import os
 import signal
 import socket
@@ -9,7 +10,7 @@ from lislink.host import lines, options, serve
 from lislink.host.store import open_store
 from lislink.orders.book import open_book
 from lislink.orders.order import Order
-from tests.host.hosts import Found, Host, HostTest, lislab, trouble, wait_for
+from tests.host.hosts import NEVER, Found, Host, HostTest, lislab, trouble, wait_for
 from tests.host.plain import ACK, ENQ, EOT, Gone, Plain, frame, samples_of
 from tests.host.test_lines import TEXTS, Client
 from tests.host.test_orders import states
@@ -48,7 +49,7 @@ class Listening:
         """Listens no more."""
         self.socket.close()
 
-    def accept(self, seconds=10.0):
+    def accept(self, seconds=120.0):
         """The analyzer on the next connection; Gone if there is none in this time."""
         self.socket.settimeout(seconds)
         try:
@@ -66,7 +67,7 @@ class Listening:
 def is_closed(one):
     """Whether the host closes an analyzer's line in time."""
     one.left = b""
-    one.line.settimeout(5)
+    one.line.settimeout(120)
     return one.line.recv(1) == b""
 
 
@@ -121,42 +122,61 @@ class Connect(HostTest):
         host = self.begun("--lines", file)
         times = []  # when the host was connected
         for _ in range(4):
-            analyzer.accept().close()
+            one = analyzer.accept()
             times.append(time.monotonic())
+            one.close()
         pauses = [after - before for before, after in zip(times, times[1:])]
         self.true("pauses", all(n * SCALE * 0.9 < one for n, one in zip((1, 2, 4), pauses)), repr(pauses))
-        time.sleep(SCALE)
-        os.kill(host.process.pid, signal.SIGHUP)
         one = analyzer.accept()
-        self.true("read again", time.monotonic() < times[-1] + 7 * SCALE)
         one.send(TEXTS)
         one.put(ENQ)
-        self.same("the next session", one.byte(15), ACK)
+        self.same("the next session", one.byte(300), ACK)
         one.put(frame(1, TEXTS[0]))
-        self.same("a text", one.byte(15), ACK)
-        one.close()
+        self.same("a text", one.byte(300), ACK)
         begun = time.monotonic()
-        analyzer.accept().send([*TEXTS[:-1], b"C|1|I|back\r", TEXTS[-1]])
-        self.true("connected anew after a second", SCALE * 0.9 < time.monotonic() - begun < 4 * SCALE)
-        self.true("both are kept", wait_for(lambda: len(Found(host.store).whole) == 2))
+        one.close()
+        pauses = []
+        for turn in range(5):  # if the machine is busy, one pause or another gets longer
+            one = analyzer.accept()
+            pauses.append(time.monotonic() - begun)
+            one.send([*TEXTS[:-1], b"C|1|I|back %d\r" % turn, TEXTS[-1]])
+            begun = time.monotonic()
+            one.close()
+        self.true("connected anew after a second", SCALE * 0.9 < min(pauses) < 4 * SCALE, repr(pauses))
+        self.true("all are kept", wait_for(lambda: len(Found(host.store).whole) == 6))
         self.same("the host's status", host.stop(), 0)
         found = [one.reason.split(",")[0] for one in Found(host.store).others]
         self.same("the session that broke off", found, ["the line was closed before its L record"])
+
+    def test_pause_that_ends(self):
+        """A pause that would take minutes ends when the file is read again."""
+        analyzer = Listening(self)
+        host = Host(self.path("pause.db"), "--lines", self.written(a=f"connect = {analyzer.word()}"), scale=10 * NEVER,
+                    listen=False)
+        analyzer.accept().close()
+        found, over = None, time.monotonic() + 60
+        while found is None and time.monotonic() < over:  # the host may hear of the end after it has read the file
+            os.kill(host.process.pid, signal.SIGHUP)
+            with contextlib.suppress(Gone):
+                found = analyzer.accept(1)
+        self.true("connected anew", found is not None)
+        host.kill()
 
     def test_nothing_listens(self):
         """That is said once, and once more when it was connected since. A name that nobody has is said too."""
         analyzer = Listening(self)
         analyzer.close()
         host = self.begun("--connect", analyzer.word("name=a"), "--connect", "no..name:1,name=b")
-        time.sleep(2.5 * SCALE)
-        for _ in range(2):
-            analyzer.open()
-            one = analyzer.accept()
-            time.sleep(1.2 * SCALE)
-            analyzer.close()
-            one.send(TEXTS)
-            one.close()
+        for turn in range(3):
+            refused = wait_for(lambda: host.says().count("Connection refused") == turn + 1)
+            self.true(f"refused {turn}", refused, host.says())
             time.sleep(1.5 * SCALE)
+            if turn < 2:
+                analyzer.open()
+                one = analyzer.accept()
+                analyzer.close()
+                one.send(TEXTS)
+                one.close()
         self.same("the host's status", host.stop(), 0)
         said = [row for row in trouble(host.errors[0]) if not row.startswith("lislab: b: no..name:1: ")]
         self.same("what is said", said, [f"lislab: a: 127.0.0.1:{analyzer.port}: Connection refused"] * 3)
@@ -171,14 +191,14 @@ class Connect(HostTest):
         host = self.begun(*(f"--connect={one.word()}" for one in (busy, idle, gone)))
         one, other = busy.accept(), idle.accept()
         one.put(ENQ)
-        self.same("a session", one.byte(15), ACK)
+        self.same("a session", one.byte(300), ACK)
         host.process.send_signal(signal.SIGTERM)
         self.true("a line without a session is closed", is_closed(other))
         with self.assertRaises(Gone):
             idle.accept(3 * SCALE)
         for number, text in enumerate(TEXTS, 1):
             one.put(frame(number, text))
-            self.same(f"text {number}", one.byte(15), ACK)
+            self.same(f"text {number}", one.byte(300), ACK)
         one.put(EOT)
         self.true("it is closed at its end", is_closed(one))
         self.same("the host's status", host.stop(), 0)
@@ -191,7 +211,7 @@ class Connect(HostTest):
         host = self.begun("--lines", self.written(**rows))
         same, old, leaves = stays.accept(), changes.accept(), goes.accept()
         old.put(ENQ)
-        self.same("a session", old.byte(15), ACK)
+        self.same("a session", old.byte(300), ACK)
         del rows["g"]
         self.written(**{**rows, "c": rows["c"] + "\nencoding = gbk", "n": f"connect = {comes.word()}"})
         os.kill(host.process.pid, signal.SIGHUP)
@@ -199,7 +219,7 @@ class Connect(HostTest):
         comes.accept().send(TEXTS)
         for number, text in enumerate(TEXTS, 1):
             old.put(frame(number, text))
-            self.same(f"an open session goes on, text {number}", old.byte(15), ACK)
+            self.same(f"an open session goes on, text {number}", old.byte(300), ACK)
         old.put(EOT)
         self.true("it is closed at its end", is_closed(old))
         changes.accept().send(TEXTS)

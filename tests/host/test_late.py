@@ -126,7 +126,7 @@ class Suspended(HostTest):
         said = "the machine was suspended for 3600 s: each line is taken anew\n"
         self.true("said", wait_for(lambda: host.says().count(said) == 1), host.says())
         closed = "closed since the machine was suspended"
-        self.true("both", wait_for(lambda: host.says().count(closed) == 2), host.says())
+        self.true("both", wait_for(lambda: host.says().count(f": {closed}; bytes ") == 2), host.says())
         self.true("the device is opened again", wait_for(lambda: host.says().count(f"wire: {device}: open") == 2
                                                          or host.says().count("wire: open") == 2), host.says())
         one = Plain(ports_of(host)["lab"], 1.0)

@@ -12,7 +12,7 @@ from collections import Counter
 from lislink import FrameFault, frame_bytes
 from lislink.link import LONG_FRAME_TEXT
 from lislink.host import line, options, serve
-from tests.host.hosts import Found, Host, HostTest, lislab, sending, wait_for
+from tests.host.hosts import NEVER, Found, Host, HostTest, lislab, sending, wait_for
 
 #: The timers of tests in which they run out while a frame is answered in time: 15 seconds are 0.75.
 LATE = 0.05
@@ -47,7 +47,7 @@ class Client:
         """Sends bytes."""
         self.socket.sendall(data)
 
-    def heard(self, wanted, seconds=5.0):
+    def heard(self, wanted, seconds=60.0):
         """So many bytes, or those that come in time."""
         self.socket.settimeout(seconds)
         data = b""
@@ -61,7 +61,7 @@ class Client:
             pass
         return data
 
-    def asks(self, data, wanted=1, seconds=5.0):
+    def asks(self, data, wanted=1, seconds=60.0):
         """What is answered to bytes."""
         self.send(data)
         return self.heard(wanted, seconds)
@@ -72,7 +72,7 @@ class Client:
         self.send(EOT)
         return good
 
-    def is_closed(self, seconds=5.0):
+    def is_closed(self, seconds=60.0):
         """Whether the host closes the connection."""
         self.socket.settimeout(seconds)
         try:
@@ -93,13 +93,14 @@ def late_reply(host, client, frame, place):
     return client.heard(1, 0.2)
 
 
-def flood(client, seconds):
-    """Sends ENQ as fast as it is taken, and reads no reply."""
+def flood(client, most):
+    """Sends ENQ so many times, or until none was taken for two seconds, and reads no reply."""
     client.setblocking(False)
-    over = time.monotonic() + seconds
-    while time.monotonic() < over:
+    over, sent = time.monotonic() + 2, 0
+    while time.monotonic() < over and sent < most:
         try:
-            client.send(ENQ * 4096)
+            sent += client.send(ENQ * 4096)
+            over = time.monotonic() + 2
         except BlockingIOError:
             time.sleep(0.001)
         except OSError:
@@ -232,21 +233,17 @@ class Lines(HostTest):
             )
 
     def test_slow_lines(self):
-        """Lines that stall, or read no reply, delay no other."""
-        host = Host(self.path("slow.db"), scale=1.0)
+        """Lines that stall, or read no reply, delay no other: no timer of theirs runs out meanwhile."""
+        host = Host(self.path("slow.db"), scale=NEVER)
         with Client(host.port) as stalled, Client(host.port) as deaf, Client(host.port) as client:
             stalled.asks(ENQ)
             stalled.send(frames(TEXTS)[0][:5])
             deaf.socket.setsockopt(socket.SOL_SOCKET, socket.SO_RCVBUF, 1)
             before = host.memory()
-            flood(deaf.socket, 2)
-            begun = time.monotonic()
-            good = all([client.whole(TEXTS) for _ in range(20)])
-            seconds = time.monotonic() - begun
-            self.true("another line is answered", good)
-            self.true("another line is answered at once", seconds < 20, f"{seconds:.1f} s for 20 messages")
+            flood(deaf.socket, 1 << 25)
+            self.true("another line is answered", all([client.whole(TEXTS) for _ in range(20)]))
             grown = host.memory() - before
-            self.true("who reads no reply fills no memory", grown < 4096, f"{grown} KiB")
+            self.true("who reads no reply fills no memory", grown < 2048, f"{grown} KiB")
             self.same("the stalled line goes on", stalled.asks(frames(TEXTS)[0][5:]), ACK)
         self.same("the host's status", host.stop(), 0)
 
@@ -404,8 +401,8 @@ class Lines(HostTest):
 
     def test_capture(self):
         """What went over a line is a capture that replays without a difference."""
-        host = Host(self.path("capture.db"), "--capture", self.path("tape"))
-        one = sending(host.port, "--made", "3", "--noise", "0.001", "--seed", "3")
+        host = Host(self.path("capture.db"), "--capture", self.path("tape"), scale=NEVER)
+        one = sending(host.port, "--made", "3", "--noise", "0.001", "--seed", "3", scale=NEVER)
         one.communicate()
         host.stop()
         names = sorted(

@@ -138,9 +138,15 @@ class Build(kit.Test):
 
 class Compared(kit.Test):
     def test_folders(self):
-        """What tools/dist --check compares: the same files; one byte, one file more, one less."""
+        """What tools/dist --check compares: the same files; one byte, one file more, one less; another kit's files."""
         dist, folder = tool("dist"), kit.folder_of(self)
         again = lambda: dist.put(f"{folder}/one", f"{folder}/two")
+
+        def sums(kit, text):
+            """SUMS of a kit on the one side, and of this kit and text on the other."""
+            return lambda: [write(f"{folder}/{side}/SUMS", f"# kit: {it}\n{rest}\n" if it else f"{rest}\n")
+                            for side, it, rest in (("one", "kit 1", "a"), ("two", kit, text))]
+
         for name, text in (("one/SUMS", "a"), ("one/x/a.s", "b\n")):
             os.makedirs(os.path.dirname(f"{folder}/{name}"), exist_ok=True)
             write(f"{folder}/{name}", text)
@@ -151,7 +157,12 @@ class Compared(kit.Test):
                 ("made as the other", again, "dist: 2 passed, 0 failed\n", 0),
                 ("a file more", lambda: write(f"{folder}/two/b.s", ""), "FAILED: dist/b.s is not", 1),
                 ("put away", again, "dist: 2 passed, 0 failed\n", 0),
-                ("a file less", lambda: os.remove(f"{folder}/two/SUMS"), "FAILED: dist/SUMS is not", 1)):
+                ("a file less", lambda: os.remove(f"{folder}/two/SUMS"), "FAILED: dist/SUMS is not", 1),
+                ("of a kit", sums("kit 1", "a"), "dist: 2 passed, 0 failed\n", 0),
+                ("of another kit", sums("kit 2", "a"), "made by kit 2, this is kit 1: all is the same\ndist: 2 passed", 0),
+                ("and a sum", sums("kit 2", "b"), "kit 1: not all is the same\nFAILED: dist/SUMS is not", 1),
+                ("of a kit, and a sum", sums("kit 1", "b"), "FAILED: dist/SUMS is not", 1),
+                ("of no kit", sums("", "a"), "FAILED: dist/SUMS is not", 1)):
             change()
             with redirect_stdout(io.StringIO()) as out:
                 ended = dist.compare(f"{folder}/one", f"{folder}/two")
