@@ -241,9 +241,9 @@ FAULTS = {
     "test_mends.Mends.test_words": Edit(
         "host/options.py", "tuple(one for one in NAMES if one in given)", "tuple(given)"
     ),
-    "test_noise.Noise.test_one_byte": Edit("host/serve.py", "bool(place.careful)", "False"),
+    "test_noise.Noise.test_one_byte": Edit("host/serve.py", 'place.careful != "no"', "False"),
     "test_noise.Careful.test_enq_and_stx": Edit("host/line.py", "            self._probe.noise(count)\n", ""),
-    "test_noise.Careful.test_anew": Edit("host/serve.py", "bool(place.careful)", "True"),
+    "test_noise.Careful.test_anew": Edit("host/serve.py", 'place.careful != "no"', "True"),
     "test_noise.Careful.test_mends": Edit("host/feeds.py", "_ENDS if is_careful else _BREAKS", "_BREAKS"),
     "test_notices.Said.test_a_bad_line": Edit(
         "host/notices.py",

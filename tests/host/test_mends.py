@@ -372,7 +372,7 @@ class Mends(HostTest):
             bad = sent[3].replace(b"5.4", b"5.5")
             self.same("a bad frame", [client.asks(unit) for unit in (ENQ, *sent[:3], bad)], [ACK] * 4 + [NAK])
             client.send(EOT)
-            self.same("a new session", [client.asks(unit) for unit in (ENQ, *sent, ENQ)], [ACK] * 6)
+            self.same("a new session", [client.asks(unit) for unit in (ENQ, *sent, ENQ)], [ACK] * 5 + [b""])
         self.true("all are kept", wait_for(lambda: len(Found(host.store).others) == 5, 60))
         self.same("the host's status", host.stop(), 0)
         found = Found(host.store)

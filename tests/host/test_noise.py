@@ -113,7 +113,7 @@ class Noise(HostTest):
         """No session is done of which a text isn't kept, on lines of one direction and of both."""
         store, count = self.path("noise.db"), hosts.size("noise")
         words = [word for way in ("name=one", "name=both,orders=ask")
-                 for word in ("--listen", f"127.0.0.1:0,{way},careful=yes")]
+                 for word in ("--listen", f"127.0.0.1:0,{way}")]
         host = Host(store, *words, each=2 * MANY, listen=False, scale=LATE)
         ports = [int(row.split()[1].rsplit(":", 1)[1]) for row in host.rows if row.startswith("listening")]
         ran = asyncio.run(self.play(ports, count))
@@ -141,7 +141,7 @@ class Careful(HostTest):
     def test_enq_and_stx(self):
         """ENQ in a session ends it and has no reply; a frame that begins inside an unfinished one is rejected. It is said,
         counted, and a row of `watch` until a message is whole."""
-        host, ports = self.started(",careful=yes")
+        host, ports = self.started()
         one, two, *rest = [frame(number, text) for number, text in enumerate(TEXTS, 1)]
         for name, port in ports.items():
             with Client(port) as client:
@@ -163,15 +163,15 @@ class Careful(HostTest):
         self.same("what is kept", [len(Found(host.store).whole), len(Found(host.store).others)], [2, 4])
 
     def test_anew(self):
-        """Without the setting the first ENQ of an analyzer that begins anew without EOT is answered."""
-        _, ports = self.started()
+        """With `careful=no` the first ENQ of an analyzer that begins anew without EOT is answered."""
+        _, ports = self.started(",careful=no")
         for name, port in ports.items():
             with Client(port) as client:
                 self.same(name, [client.asks(ENQ), client.asks(frame(1, TEXTS[0])), client.asks(ENQ)], [ACK] * 3)
 
     def test_mends(self):
         """Noise is no end of a message without L, and a frame that may hold LF is heard as carefully."""
-        host, ports = self.started(",mend=last-l+lf,careful=yes")
+        host, ports = self.started(",mend=last-l+lf")
         with Client(ports["one"]) as client:
             self.same("frames", [client.asks(ENQ), *(client.asks(frame(at, text)) for at, text in enumerate(TEXTS[:4], 1))],
                       [ACK] * 5)

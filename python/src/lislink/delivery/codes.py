@@ -336,14 +336,6 @@ def _encoded(letter: str, encoding: str) -> bytes:
         return {"\u03bc": "\u00b5", "\u00b5": "\u03bc"}.get(letter, letter).encode(encoding)
 
 
-def _can_be(letter: str, one: Stored) -> bool:
-    """Whether a letter can be written in a message's encoding."""
-    try:
-        return bool(letter.encode(one.encoding))
-    except UnicodeEncodeError:
-        return False
-
-
 def _with(row: Row, changes: Dict[int, bytes]) -> bytes:
     """A record with other fields, by the standard's numbers; the letter is field 1."""
     field = _marks(row)[0]
@@ -364,7 +356,7 @@ def _test(row: Row, code: str, one: Stored) -> bytes:
 
 
 def _comment(row: Row, number: int, why: str, one: Stored) -> bytes:
-    words = "".join(letter if _can_be(letter, one) else "?" for letter in MARK + why)
+    words = (MARK + why).encode(one.encoding, "replace").decode(one.encoding)
     cells = [b"C", str(number).encode(), b"L", _bytes(words, row, one), b"G"]
     return _marks(row)[0].join(cells)
 

@@ -95,7 +95,11 @@ def wishes_of(words: Sequence[str]) -> Wishes:
 
 def escaped(text: str) -> str:
     """A text in which what has a meaning in HL7 is an escape."""
-    return _SPECIAL.sub(lambda found: _ESCAPES.get(found[0]) or f"\\X{ord(found[0]):02X}\\", text)
+    return _SPECIAL.sub(_escape, text)
+
+
+def _escape(found: "re.Match[str]") -> str:
+    return _ESCAPES.get(found[0]) or f"\\X{ord(found[0]):02X}\\"
 
 
 def segment(name: str, fields: Mapping[int, Field]) -> str:
@@ -104,7 +108,7 @@ def segment(name: str, fields: Mapping[int, Field]) -> str:
     if name == "MSH":  # MSH-1 is the delimiter itself
         out, last = "MSH|^~\\&", 2
     for number, value in fields.items():
-        text = value if isinstance(value, str) and value.isalnum() else _field(value) if value else ""
+        text = _field(value) if value else ""
         if text:
             out += "|" * (number - last) + text
             last = number
@@ -113,9 +117,9 @@ def segment(name: str, fields: Mapping[int, Field]) -> str:
 
 def _field(value: Field) -> str:
     if isinstance(value, str):
-        return escaped(value)
+        return value if value.isalnum() else escaped(value)
     if isinstance(value[0], str):
-        return "^".join([one if one.isalnum() else escaped(one) for one in map(str, value)]).rstrip("^")
+        return "^".join([_field(one) for one in value]).rstrip("^")
     return "~".join([_field(one) for one in value]).rstrip("~")
 
 

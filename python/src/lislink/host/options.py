@@ -210,7 +210,7 @@ def _telnet(word: str) -> str:
 def _careful(word: str) -> str:
     if word not in ("yes", "no"):
         raise OptionError(f"careful is yes or no, not {word}")
-    return "" if word == "no" else word
+    return "" if word == "yes" else word
 
 
 def _sample(word: str) -> str:

@@ -210,7 +210,7 @@ class Host:
         intake = Intake(place.name, peer, place.encoding, self.limits.message, time.time, self._held, unknown)
         notice = functools.partial(self._notice, place.name, peer)
         probe = self.board.probe(place, self._tape(place.name), notice)
-        limits, careful = self.limits, bool(place.careful)
+        limits, careful = self.limits, place.careful != "no"
         given = (wire, intake, self.committer, limits, counts, probe, place.frame, notice, self.turns, mender, careful)
         line = self._line(place, peer, given)
         line.asleep, line.room = self.asleep, self._texts

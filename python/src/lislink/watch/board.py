@@ -23,7 +23,7 @@ class Board:
         """What sees a connection of a line."""
         pulse = self._pulse(place)
         pulse.frame = place.frame
-        return Probe(pulse, tape, say, bool(place.careful))
+        return Probe(pulse, tape, say, place.careful != "no")
 
     def _pulse(self, place: Place) -> Pulse:
         if place.name not in self._pulses:

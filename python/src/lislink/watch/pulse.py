@@ -194,7 +194,7 @@ class Pulse:
             verdict = Verdict.NO_CONNECTION if is_called else Verdict.NO_DEVICE
             return says(verdict, self.begun, why=unusable)
         host = self._of("store") or self._of("late") or self._of("own")
-        line = host or self._strange() or self._frames() or self._noise() or self._silent() or self._echo()
+        line = host or self._strange() or self._frames() or self._silent() or self._noise() or self._echo()
         return line or self._of("lost") or self._of("messages") or self._queries() or self._well()
 
     def _of(self, kind: str) -> Optional[Says]:
