@@ -1,5 +1,4 @@
-"""The pages that are made of the sources are up to date, and what they are made of is right; the scripts of tools/
-check."""
+"""What tools/ makes of the sources is up to date, and what it is made of is right; its scripts notice what is wrong."""
 import glob
 import os
 import re
@@ -12,11 +11,11 @@ from tests import kit
 
 # What tools/trust must say of a wrong change: the file, its text, the wrong one, and a part of what is said.
 WRONG = [
-    ("docs/promises.table", "`laws::safe_of` of `lis_world` (over", "`laws::safe_of` of `lis_link` (over",
+    ("docs/TRUST.md", "`laws::safe_of` of `lis_world` (over", "`laws::safe_of` of `lis_link` (over",
      "laws::safe_of, which lis_link has not"),
-    ("docs/promises.table", "`failed`; `split`, `next_place`", "`failed`; `cut`, `next_place`",
+    ("docs/TRUST.md", "`failed`; `split`, `next_place`", "`failed`; `cut`, `next_place`",
      "cut, which is no public function"),
-    ("docs/promises.table", "`read_sent`: `sent`", "`read_sent`: `empty`", "empty, which is no clause"),
+    ("docs/TRUST.md", "`read_sent`: `sent`", "`read_sent`: `empty`", "empty, which is no clause"),
     ("docs/DEFINITIONS.md", "## `Steps`:", "## `LeadsTo`:", "LeadsTo, which no public contract cites"),
     ("crates/lis_engine/src/print.rt", "use Rattle.lis_engine.specs.Output.{IsPut, IsWorking};",
      "use Rattle.lis_engine.specs.Output.{IsPut, IsWorking};\nghost use Rattle.lis_run.specs.inside.Show.{heard_line};",
@@ -54,7 +53,7 @@ WAYS = [
 ]
 # What changes nothing that is promised.
 HARMLESS = [
-    ("docs/promises.table", "`lis_port`: `ok`, `err`", "`lis_port`: `err`, `ok`"),
+    ("docs/TRUST.md", "`lis_port`: `ok`, `err`", "`lis_port`: `err`, `ok`"),
     ("crates/lis_report/src/refused.rt", "    ghost text = { λ it. refused_line it.message it.fault };",
      "    ghost text = { λ one. refused_line one.message one.fault };"),
     ("docs/pinned.table", "| Sink for Discard | taken, sent, failed |", "| Sink for Discard | failed, sent, taken |"),
@@ -101,6 +100,18 @@ class Tools(kit.Test):
 
     def test_api(self):
         self.counts("tools/api")
+
+    def test_pages_of_the_crates(self):
+        """Each link of the pages that `make docs` makes of the crates leads to a file; one to a file that is gone fails."""
+        with tempfile.TemporaryDirectory() as folder:
+            words = ["tools/docs", folder, "crates"]
+            ran = subprocess.run([sys.executable, *words], cwd=kit.ROOT, capture_output=True, text=True)
+            self.check(ran.returncode == 0 and not ran.stderr, "tools/docs crates", ran.stderr)
+            for name in ("api", "rules", "reading"):
+                with open(f"{folder}/crates/{name}.md", encoding="utf-8") as file:
+                    links = set(re.findall(r"\]\(([^)#]+)\)", file.read()))
+                gone = [it for it in links if not os.path.exists(os.path.join(f"{folder}/crates", it))]
+                self.check(len(links) > 30 and not gone, f"links of {name}.md", gone[:5])
 
     def test_crates(self):
         self.counts("tools/crates")

@@ -16,8 +16,6 @@ from tests import ROOT, kit
 from tests.docs.test_pages import pages
 from tests.proofs.edit import edits
 
-# Made of comments in the code, which are looked at there.
-MADE = {"docs/API.md"}
 SOURCES = ["src/**/*.rt", "specs/**/*.antt", "proofs/**/*.antt"]
 # The code around the crates, whose comments and docstrings are looked at.
 AROUND = ["include/*", "src/c/**/*.*", "examples/**/*.*", "bindings/rust/*/**/*.rs", "python/**/*.py", "conformance/*.py",
@@ -146,8 +144,6 @@ class Words(kit.Test):
     def test_pages(self):
         forms = list(banned())
         for page, text in pages():
-            if page in MADE:
-                continue
             text = prose(text)
             found = sorted((text.count("\n", 0, it.start()) + 1, " ".join(it[0].split()), plain)
                            for form, plain in forms for it in form.finditer(text))
