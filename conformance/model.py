@@ -233,6 +233,48 @@ class Receiver:
         return None
 
 
+MARK = re.compile(rb"[\x02\x04\x05\x0a]")
+
+
+class CarefulReceiver(Receiver):
+    """A receiver that hears carefully, by docs/LINK.md. While the line is open ENQ ends the session as EOT does, with no
+    reply, and what came before it is forgotten. A frame goes from its STX to the next LF, so an STX within it is one of
+    its bytes, which no frame may hold. `noise` counts each such ENQ and STX on an open line."""
+
+    def restart(self):
+        super().restart()
+        self.unfinished = None
+
+    def __init__(self, limit, refusals=()):
+        super().__init__(limit, refusals)
+        self.noise = 0
+
+    def hear(self, data):
+        steps, begin = [], 0
+        for mark in MARK.finditer(data):
+            place, byte = mark.start(), mark[0][0]
+            if byte == STX and self.unfinished is not None:
+                self.noise += self.is_open
+            elif byte == STX:
+                self.unfinished, begin = b"", place + 1
+            elif byte == LF and self.unfinished is not None:
+                steps.append(self.step(place, read_frame(self.unfinished + data[begin:place], self.limit)))
+                self.unfinished = None
+            elif byte != LF:
+                self.unfinished = None
+                steps.append(self.ends_or_begins(place, byte))
+        if self.unfinished is not None:
+            self.unfinished += data[begin:]
+        return [step for step in steps if step]
+
+    def ends_or_begins(self, place, byte):
+        """The step of ENQ or EOT."""
+        if not self.is_open:
+            return self.step(place, byte)
+        self.noise += byte == ENQ
+        return self.step(place, EOT)
+
+
 # The link between them
 
 class Session:
@@ -633,6 +675,13 @@ class Answers:
     def receiver_new(self):
         self.receiver = Receiver(self.limit)
         return self.receiver.state()
+
+    def receiver_careful(self):
+        self.receiver = CarefulReceiver(self.limit)
+        return self.receiver.state()
+
+    def receiver_noise(self):
+        return f"noise={self.receiver.noise}"
 
     def receiver_bytes(self, data):
         return self.steps(self.receiver.hear(bytes_of(data)))

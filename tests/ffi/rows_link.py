@@ -336,6 +336,13 @@ class Ends:
         self.receiver = Receiver()
         return self.receiver_state()
 
+    def receiver_careful(self):
+        self.receiver = Receiver(careful=True)
+        return self.receiver_state()
+
+    def receiver_noise(self):
+        return f"noise={self.receiver.noise}"
+
     def receiver_bytes(self, data):
         return self.receiver_state(list(self.receiver.hear_placed(bytes_of(data))))
 

@@ -87,7 +87,8 @@ class Vectors(kit.Test):
     def test_calls(self):
         for answering in self.BUILDS:
             program = shlex.quote(kit.built(answering))
-            for kind in suite.kinds():
+            # `vectors` doesn't hear carefully: tests/ffi asks the library those rows.
+            for kind in (kind for kind in suite.kinds() if kind != "careful"):
                 for path in suite.files(kind):
                     compare(self, path, suite.asked(program, path))
 

@@ -100,11 +100,11 @@ unmarked_unspecial (b ∷ body) none = (
 module _ (limit s : ℕ) (d : ComputerState) (p q : List ℕ) (p_outside : open_body p ≡ None)
     (q_outside : open_body q ≡ None) where
   -- what gives the same signals, whatever came before it
-  stretch_alike : (xs : List ℕ) (signals : List (SignalOf limit)) → AreUnspecial (xs ++ LF ∷ [])
+  body_alike : (xs : List ℕ) (signals : List (SignalOf limit)) → AreUnspecial (xs ++ LF ∷ [])
       → ((past : List ℕ) → signals_after limit past (STX ∷ (xs ++ LF ∷ [])) ≡ signals)
       → Alike (hears_carefully limit s (STX ∷ (xs ++ LF ∷ [])) (at_past p d))
       (hears limit s (STX ∷ (xs ++ LF ∷ [])) (at_past q d))
-  stretch_alike xs signals plain given =
+  body_alike xs signals plain given =
       let bytes : List ℕ = STX ∷ (xs ++ LF ∷ []) in
       record {
         side = hears_signals s signals d;
@@ -128,7 +128,7 @@ module _ (limit s : ℕ) (d : ComputerState) (p q : List ℕ) (p_outside : open_
       let inner : List ℕ = inner_of f is_frame.high is_frame.low in
       let are : frame_bytes f ≡ STX ∷ (inner ++ LF ∷ []) = encoding_of limit (frame_bytes f) f is_frame in
       subst (λ bytes. Alike (hears_carefully limit s bytes (at_past p d)) (hears limit s bytes (at_past q d))) (sym are)
-      (stretch_alike inner (Good f ∷ []) (unspecial_after_start limit (frame_bytes f) f is_frame)
+      (body_alike inner (Good f ∷ []) (unspecial_after_start limit (frame_bytes f) f is_frame)
       (λ past. ap (signals_after limit past) (sym are) ∙ signals-frame_bytes limit past f content))
 
   ending_alike : (is_open : Bool) → d.receiver.is_open ≡ is_open
@@ -166,7 +166,7 @@ module _ (limit s : ℕ) (d : ComputerState) (p q : List ℕ) (p_outside : open_
       → Alike (hears_carefully limit s (STX ∷ (body ++ LF ∷ [])) (at_past p d))
       (hears limit s (STX ∷ (body ++ LF ∷ [])) (at_past q d))
   bad_alike body bad =
-      stretch_alike body (Bad bad.fault ∷ []) (unmarked_unspecial body bad.no_mark)
+      body_alike body (Bad bad.fault ∷ []) (unmarked_unspecial body bad.no_mark)
       (λ past. signals-bad_body limit past body bad.fault bad.no_mark bad.is_bad)
 
 -- ---- the link: two worlds that are the same but for the receiver's stream, between frames

@@ -1,4 +1,4 @@
--- What comes to a careful station is one of these for a station as the profile has it: the same, nothing, damage, or
+-- What reaches a careful station is one of these for a station as the profile has it: the same, nothing, damage, or
 -- its timer and `close_line` before what comes is lost or comes damaged.
 use Rattle.std.proofs.Common.{◌≡◌, ℕ, ◌⊎◌, inl, inr, Bool, true, false, List, [], ◌∷◌, ◌++◌, Option, None, Some, refl}
 use Rattle.std.proofs.Common.{ap, sym, ◌∙◌, subst}

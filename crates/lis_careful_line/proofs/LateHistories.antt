@@ -122,7 +122,7 @@ module _ (rule : Rule) (lenient : IsLenient rule) (limit : ℕ) where
         new_is = ap (new_from limit evs next) stays ∙ later.new_is;
       }
 
--- ---- what comes to a careful station
+-- ---- what reaches a careful station
 
 -- what happens instead on a line that answers in time happens on this one too
 record BecomesLate (limit : ℕ) (after t : TwoWay) : Type 0 where

@@ -18,7 +18,7 @@ pub record Care : Type 0 where
   pub analyzer : Bool
   pub computer : Bool
 
--- ---- what comes to a careful station
+-- ---- what reaches a careful station
 
 -- bytes come in the place of an item, one by one
 abbrev pub comes_carefully : ℕ → Item → List ℕ → TwoWay → TwoWay
