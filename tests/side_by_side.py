@@ -79,7 +79,7 @@ def left(names, running, times, jobs):
 
 def run(files):
     """Runs the files; how many checks passed and failed."""
-    jobs = int(os.environ.get("JOBS", len(os.sched_getaffinity(0))))
+    jobs = int(os.environ.get("JOBS") or 3 * len(os.sched_getaffinity(0)) / 2)
     times, running, passed, failed = Times(), {}, 0, 0
     names = sorted((f"{folder}/{name}" for folder, name in files), key=lambda it: -(times.of(it) or 1e9))
     while names or running:

@@ -1,6 +1,6 @@
 """What the samples that receive keep, in C, C++, Rust and Python: each is killed after each text; its disk gets full
-within a text and has room again; its file has half a text at its end when it starts, or is another program's; and it is
-stopped for so long that its reply would be late."""
+within a text and has room again; its file has half a text at its end when it starts, or is another program's; it is
+stopped for so long that its reply would be late; and it is the host in the plays of results."""
 import functools
 import os
 import resource
@@ -12,7 +12,9 @@ import time
 from typing import Callable, NamedTuple
 
 from tests import ROOT, kit
+from tests.ffi.bridge import Bridge
 from tests.ffi.c import C11, IN_C, IN_PYTHON, SANITIZERS, python_over
+from tests.play.hosts import scripts
 from tests.ffi.test_samples import ACK, CPP, ENQ, EOT, PATIENCE, TEXTS, InC, InPython, ask, frame, kept, told
 
 HALF = b"R|1|^^^GLU|1"
@@ -166,6 +168,29 @@ def is_silent_late(sample, it, good, since):
     return good
 
 
+class Played:
+    """The plays of results against a sample, but the one that is silent for 30 seconds, as a process that goes on."""
+
+    def __init__(self, sample, path):
+        with open(path, "wb"):
+            pass
+        self.bridge = Bridge(lambda: sample.start(path))
+        plays = f"{path}-plays"
+        os.mkdir(plays)
+        for play in scripts("results"):
+            if "silent" not in play:
+                os.symlink(play, f"{plays}/{os.path.basename(play)}")
+        words = ["play", plays, "--to", f"127.0.0.1:{self.bridge.port}", "--kept", f"cat {path}"]
+        self.process = subprocess.Popen([sys.executable, "-m", "lislink", *words], stdout=subprocess.PIPE,
+                                        stderr=subprocess.STDOUT, text=True, **python_over(kit.library()))
+
+    def end(self):
+        """Its status, its last line but for the number of steps, and all that it prints."""
+        text = self.process.communicate()[0]
+        self.bridge.close()
+        return self.process.returncode, text.rpartition("\nplays ")[2].partition(" steps")[0], text
+
+
 def can_mount():
     """Whether this process may mount a file system."""
     return os.geteuid() == 0 and subprocess.run(["unshare", "--mount", "true"], capture_output=True).returncode == 0
@@ -179,6 +204,7 @@ class Keeps(kit.Test):
 
     def tried(self, samples):
         """All of it with each of these samples."""
+        plays = [(it, Played(it, f"{self.work}/{it.name}-played")) for it in samples]
         late = [paused(it, f"{self.work}/{it.name}-late") for it in samples if it.is_timed]
         for sample in samples:
             path = f"{self.work}/{sample.name}-kept"
@@ -191,6 +217,9 @@ class Keeps(kit.Test):
             self.check(of_other_files(sample, f"{path}-other"), f"{sample.name}: a file that isn't its own")
         for sample, *others in late:
             self.check(is_silent_late(sample, *others), f"{sample.name}, stopped for 12 seconds, sends a late reply")
+        for sample, played in plays:
+            status, last, text = played.end()
+            self.check((status, last) == (0, "16 failed 0"), f"{sample.name}: the plays of results", text)
         self.needs("mount", can_mount(), len(samples), "samples whose disk gets full")
         os.mkdir(f"{self.work}/full")
         for sample in samples:
