@@ -5,5 +5,5 @@ import sys
 
 sys.dont_write_bytecode = True
 ROOT = os.path.dirname(os.path.dirname(os.path.abspath(__file__)))
-# The model and the rows, the generated inputs, the Python package.
-sys.path[1:1] = [os.path.join(ROOT, folder) for folder in ("conformance", "bench", "python/src")]
+# The model and the rows, the generated inputs, the Python packages.
+sys.path[1:1] = [os.path.join(ROOT, folder) for folder in ("conformance", "bench", "python/src", "lab/src")]

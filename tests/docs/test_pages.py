@@ -23,19 +23,20 @@ import time
 from tests import ROOT, kit
 
 PAGES = ["README.md", "CONTRIBUTING.md", "CHANGELOG.md", "SECURITY.md", "docs/*.md", "conformance/README.md",
-         "python/README.md"]
+         "python/README.md", "lab/README.md"]
 SOURCES = {
     "rust": ["crates/uses/src/*.rt", "crates/quick_results/src/*.rt", "crates/lis_tests/src/*.rt", "examples/rattle/*.rs",
              "bindings/rust/**/*.rs"],
     "c": ["examples/c/*.c", "src/c/*.c", "bindings/**/*.c"],
     "cpp": ["examples/cpp/*.cpp", "tests/**/*.cpp"],
-    "python": ["examples/python/*.py", "python/src/lislink/**/*.py"],
+    "python": ["examples/python/*.py", "python/src/lislink/**/*.py",
+               "lab/src/lislab/**/*.py"],
 }
 # What a command begins with: a block with such a line is a block of a shell.
 COMMANDS = re.compile(
     r"^ *(?:sudo |cd |make( |$)|rt |pip |cc |gcc |git |socat |lislink \w+( --long)? <|lislab \w|"
     r"tools/|tests/|conformance/run|examples/|build/)")
-FOLDERS = "docs|tests|tools|examples|crates|conformance|samples|include|bench|python|bindings"
+FOLDERS = "docs|tests|tools|examples|crates|conformance|samples|include|bench|python|lab|bindings"
 PATH = re.compile(rf"`((?:{FOLDERS})/[\w./+-]+)`")
 SHELL = {"sh", "console"}
 MARK = re.compile(r"<!-- (norun|sketch) -->\s*$")

@@ -3,8 +3,20 @@ and the link between them. test_rows.py asks them, and says what is compared."""
 import collections
 
 import model
-from lislink import (FrameFault, Kind, LinkError, Note, Outcome, Phase, Readiness, Receiver, Scanner, Sender, Status,
-                     frame_bytes)
+from lislink import (
+    FrameFault,
+    Kind,
+    LinkError,
+    Note,
+    Outcome,
+    Phase,
+    Readiness,
+    Receiver,
+    Scanner,
+    Sender,
+    Status,
+    frame_bytes,
+)
 from model import ACK, ENQ, EOT, LF, STX, bytes_of, word_of
 from tests.ffi import rows_both
 

@@ -6,9 +6,35 @@ import threading
 from tests import kit
 
 kit.library()
-from lislink import (LONG_FRAME_TEXT, FrameFault, Kind, LinkError, MessageError, Note, Outcome, Phase,  # noqa: E402
-                     Readiness, Reason, Reader, Receiver, Record, Role, Scanner, Sender, Station, Status, Writer,
-                     WrongThread, columns, frame_bytes, message_places, messages, next_header, read_all, records)
+from lislink import (
+    LONG_FRAME_TEXT,
+    FrameFault,
+    Kind,
+    LinkError,
+    MessageError,
+    Note,
+    Outcome,
+    Phase,
+    Readiness,
+    Reason,
+    Reader,
+    Receiver,
+    Record,
+    Role,
+    Scanner,
+    Sender,
+    Station,
+    Status,
+    Writer,
+    WrongThread,
+    columns,
+    frame_bytes,
+    message_places,
+    messages,
+    next_header,
+    read_all,
+    records,
+)
 
 FIRST = bytes.fromhex("0231487c5c5e260d0345350d0a")
 LONG = b"\x021" + b"a" * 63993 + b"\x03%02X\r\n" % ((ord("1") + 63993 * ord("a") + 3) % 256)

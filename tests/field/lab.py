@@ -7,7 +7,7 @@ import subprocess
 from tests import kit
 
 kit.library()
-from lislink import cli  # noqa: E402: it finds the library by the environment
+from lislab.cli import main as cli  # noqa: E402: it finds the library by the environment
 
 
 class Ran:

@@ -328,10 +328,11 @@ class Binding(FieldTest):
 
     def test_mypy(self):
         """The type hints, where mypy is."""
-        self.needs("mypy", shutil.which("mypy") is not None, 3, "the type hints")
+        self.needs("mypy", shutil.which("mypy") is not None, 4, "the type hints")
         how = {"capture_output": True, "text": True, "check": False, "env": {**os.environ, "MYPYPATH": f"{PYTHON}/src"}}
-        done = subprocess.run(["mypy", "--no-incremental"], cwd=PYTHON, **how)
-        self.check(done.returncode == 0, "mypy", done.stdout[-2000:])
+        for folder in (PYTHON, os.path.join(ROOT, "lab")):
+            done = subprocess.run(["mypy", "--no-incremental"], cwd=folder, **how)
+            self.check(done.returncode == 0, f"mypy in {folder}", done.stdout[-2000:])
         examples = sorted(glob.glob(os.path.join(ROOT, "examples/python/*.py")))
         done = subprocess.run(["mypy", "--strict", *examples], **how)
         self.check(done.returncode == 0, "mypy over the examples", done.stdout[-2000:])

@@ -12,8 +12,8 @@ import shutil
 import subprocess
 
 from lislink.capture import read_capture
-from lislink.field.ladder import Ladder
-from lislink.field.looks import looks_of
+from lislab.field.ladder import Ladder
+from lislab.field.looks import looks_of
 from tests import ROOT
 from tests.field.lab import FieldTest, lislab
 

@@ -5,7 +5,7 @@ import os
 import random
 
 from lislink import read_all
-from lislink.field import normalize
+from lislab.field import normalize
 from lislink.message import Found
 from tests import ROOT
 from tests.field.lab import FieldTest, lislab

@@ -10,7 +10,7 @@ import stat
 import subprocess
 
 from lislink.capture import read_capture
-from lislink.field import sniffers
+from lislab.field import sniffers
 from tests import ROOT
 from tests.field import packets
 from tests.field.lab import FieldTest, lislab

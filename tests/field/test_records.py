@@ -10,7 +10,7 @@ import subprocess
 import sys
 
 from lislink import Message, messages, read_all
-from lislink.field.normalize import CHANGES
+from lislab.field.normalize import CHANGES
 from tests import ROOT, kit
 from tests.field.lab import FieldTest, lislab
 
@@ -40,8 +40,8 @@ def table(data, *options):
 def in_a_full_disk(words):
     """A run of lislab that can write no byte to a file."""
     limits = lambda: resource.setrlimit(resource.RLIMIT_FSIZE, (0, resource.RLIM_INFINITY))
-    env = {**os.environ, "PYTHONPATH": os.path.join(ROOT, "python", "src"), "PYTHONDONTWRITEBYTECODE": "1"}
-    words = [sys.executable, "-m", "lislink", *words]
+    env = {**os.environ, "PYTHONPATH": f"{ROOT}/python/src:{ROOT}/lab/src", "PYTHONDONTWRITEBYTECODE": "1"}
+    words = [sys.executable, "-m", "lislab", *words]
     return subprocess.run(words, env=env, capture_output=True, preexec_fn=limits, check=False)
 
 

@@ -6,10 +6,10 @@ import re
 
 from lislink import LONG_FRAME_TEXT, Note, Receiver, frame_bytes
 from lislink.capture import read_capture
-from lislink.field.faults import code_of
-from lislink.field.ladder import Ladder
-from lislink.field.looks import looks_of
-from lislink.field.page import page_of
+from lislab.diagnosis.faults import code_of
+from lislab.field.ladder import Ladder
+from lislab.field.looks import looks_of
+from lislab.field.page import page_of
 from lislink.message import Fault, Found
 from tests import ROOT
 from tests.field.lab import FieldTest, lislab

@@ -3,8 +3,8 @@ import ast
 import glob
 import string
 
-from lislink.field import looks
-from lislink.watch.verdicts import BAD, GOOD, PLAIN, WARN, Meaning, Verdict
+from lislab.field import looks
+from lislab.diagnosis.verdicts import BAD, GOOD, PLAIN, WARN, Meaning, Verdict
 from tests import ROOT, kit
 
 #: What holds a sentence: of a ladder's row, and of a verdict.
@@ -46,7 +46,7 @@ class Verdicts(kit.Test):
 
     def test_nobody_reads_a_sentence(self):
         """A row's meaning says what it is; its words are for a reader. A source that compares words is noticed."""
-        for path in glob.glob("python/src/lislink/[fhw]*/*.py", root_dir=ROOT):
+        for path in glob.glob("lab/src/lislab/*/*.py", root_dir=ROOT):
             found = list(read_back(kit.read(path)))
             self.same(f"{path}: lines that read a sentence", found, [])
         wrong = 'def f(row):\n    return row.note.startswith("the line")\n\nx = row.title == "silence"\n'

@@ -9,6 +9,6 @@ import sys
 from tests import ROOT, kit
 
 kit.library()
-#: The package that is tested.
-SOURCE = os.environ.get("LISLINK_SOURCE") or os.path.join(ROOT, "python", "src")
-sys.path.insert(1, SOURCE)
+#: Where the packages are that are tested.
+SOURCE = os.environ.get("LISLAB_SOURCE") or os.pathsep.join(f"{ROOT}/{folder}/src" for folder in ("python", "lab"))
+sys.path[1:1] = SOURCE.split(os.pathsep)

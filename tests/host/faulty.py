@@ -21,8 +21,10 @@ import random
 import sys
 import time
 
-from lislink import cli
-from lislink.host import asleep, deliver, intake, line, sql, sqlite, store
+from lislab.cli import main as cli
+from lislab.host import asleep, intake, line
+from lislab.out import deliver
+from lislab.model import sql, sqlite, store
 
 
 def failing_commits(share, why="the disk is full, as the test has it"):

@@ -16,7 +16,7 @@ import time
 import tty
 from typing import NamedTuple
 
-from lislink.host.store import open_store
+from lislab.model.stores import open_store
 from tests import ROOT, kit
 from tests.host import SOURCE
 
@@ -136,7 +136,7 @@ class Host:
 
     def start(self):
         """Starts it, on the same port as before."""
-        program = [FAULTY, self.fault] if self.fault else ["-m", "lislink"]
+        program = [FAULTY, self.fault] if self.fault else ["-m", "lislab"]
         words = [*program, "serve", "--store", self.store, "--scale", str(self.scale)]
         if self.listen:
             words += ["--listen", f"127.0.0.1:{self.port},name=fire"]
@@ -209,14 +209,14 @@ def lislab(*words, **how):
     """Runs a command of lislab to its end."""
     how = {"timeout": 120, **how}
     return subprocess.run(
-        [sys.executable, "-m", "lislink", *words], capture_output=True, text=True, env=ENV, check=False, **how
+        [sys.executable, "-m", "lislab", *words], capture_output=True, text=True, env=ENV, check=False, **how
     )
 
 
 def sending(port, *words, scale=SCALE):
     """`lislab send` as a process that goes on."""
     to = ["--to", f"127.0.0.1:{port}", "--scale", str(scale), "--quiet"]
-    words = ["-m", "lislink", "send", *to, *words]
+    words = ["-m", "lislab", "send", *to, *words]
     return process(words, stdout=subprocess.DEVNULL, stderr=subprocess.PIPE)
 
 

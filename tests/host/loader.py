@@ -3,7 +3,7 @@ is 0 if all were acknowledged."""
 import asyncio
 import sys
 
-from lislink.host import send
+from lislab.analyzer import send
 
 ANALYZERS = 50
 

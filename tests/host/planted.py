@@ -1,5 +1,6 @@
 """Faults that are planted in the source of the host, one for each test, which must notice it; and changes that mean
-nothing, which all tests must pass. Each is an edit: in this file of lislink, this text becomes that."""
+nothing, which all tests must pass. Each is an edit: in this file of lislab, this text becomes that; one without a
+folder is of lislink."""
 import glob
 import os
 import shutil
@@ -37,9 +38,9 @@ WITH_THEIR_OWN = (
 #: The other tests, and what each must notice.
 FAULTS = {
     "test_backup.Copies.test_under_load": Edit(
-        "host/backup.py", '"backup_file", ("", ".aside")', '"backup_file", ("",)'
+        "cli/backup.py", '"backup_file", ("", ".aside")', '"backup_file", ("",)'
     ),
-    "test_backup.Copies.test_refusals": Edit("host/backup.py", "        if unnamed:\n", "        if not files:\n"),
+    "test_backup.Copies.test_refusals": Edit("cli/backup.py", "        if unnamed:\n", "        if not files:\n"),
     "test_commits.Owed.test_one_that_fails": Edit(
         "host/commits.py", "self._owed.extend(batch)\n", "self._owed.extendleft(reversed(batch))\n"
     ),
@@ -49,14 +50,14 @@ FAULTS = {
         "self._note_ends(changes)",
     ),
     "test_postgres.Postgres.test_a_unit_that_fails": Edit(
-        "host/postgresql.py", "if is_answered and self._db", "if not is_answered and self._db"
+        "model/postgresql.py", "if is_answered and self._db", "if not is_answered and self._db"
     ),
     "test_postgres.RepeatsOfPostgres.test_what_is_owed": Edit(
-        "host/sql.py", "if states.get(end.key) == WHOLE:  #", "if not states:  #"
+        "model/sql.py", "if states.get(end.key) == WHOLE:  #", "if not states:  #"
     ),
-    "test_repeats.RepeatsOfSqlite.test_what_is_owed": Edit("host/sql.py", " ON CONFLICT DO NOTHING", ""),
+    "test_repeats.RepeatsOfSqlite.test_what_is_owed": Edit("model/sql.py", " ON CONFLICT DO NOTHING", ""),
     "test_repeats.RepeatsOfSpool.test_what_is_owed": Edit(
-        "host/spool.py", "            self._ended.update(ended)\n", ""
+        "model/spool.py", "            self._ended.update(ended)\n", ""
     ),
     "test_connect.Connect.test_two_lines": Edit(
         "host/serve.py", "if isinstance(place, Listen):\n            self.room", "if place:\n            self.room"
@@ -86,19 +87,19 @@ FAULTS = {
     "test_connect.Connect.test_pauses": Edit(
         "host/serve.py", "if line is not None and (line.had_session or", "if line and ("
     ),
-    "test_connect.Connect.test_words": Edit("host/options.py", "    if not port:\n", "    if port < 0:\n"),
+    "test_connect.Connect.test_words": Edit("model/options.py", "    if not port:\n", "    if port < 0:\n"),
     "test_connect.Connect.test_a_call_to_itself": Edit(
         "host/serve.py", 'name == transport.get_extra_info("sockname") or', 'name == () or'
     ),
     "test_files.Whole.test_damaged": Edit(
-        "host/commands.py", "return writing(path)", 'return contextlib.nullcontext(open(path, "wb"))'
+        "cli/host.py", "return writing(path)", 'return contextlib.nullcontext(open(path, "wb"))'
     ),
     "test_files.Whole.test_half_writes": Edit(
-        "host/files.py",
+        "model/files.py",
         "        os.replace(made, whole)\n    except BaseException:",
         "    finally:\n        os.replace(made, whole)\n    if not path:",
     ),
-    "test_files.Whole.test_short_writes": Edit("host/files.py", "left = left[count:]", 'left = left[:0]'),
+    "test_files.Whole.test_short_writes": Edit("model/files.py", "left = left[count:]", 'left = left[:0]'),
     "test_intake.Streams.test_what_is_held": Edit(
         "host/intake.py", "        if wants - has > self._left:\n            return None\n", ""
     ),
@@ -109,12 +110,12 @@ FAULTS = {
         'self._end(UNFINISHED, _after(one, "a header',
     ),
     "test_kills.Kills.test_sqlite": Edit(
-        "host/sqlite.py",
+        "model/sqlite.py",
         'self.run("COMMIT")\n        except',
         'if self._db.total_changes % 9:\n                self.run("COMMIT")\n        except',
     ),
     "test_kills.Kills.test_spool": Edit(
-        "host/spool.py",
+        "model/spool.py",
         "for name in os.listdir(self._path(OPEN)):\n            if name.split(\".about\")[0] not in left:\n"
         "                os.unlink(self._path(OPEN, name))",
         "for name in os.listdir(self._path(WHOLE)):\n            os.unlink(self._path(WHOLE, name))",
@@ -125,12 +126,12 @@ FAULTS = {
         "for one in batch], None, self._say)",
     ),
     "test_kills.Kills.test_full_disk_of_sqlite": Edit(
-        "host/sqlite.py",
+        "model/sqlite.py",
         'self._undo()\n            raise StoreError(f"{self.path}: {error}") from None',
         "self._undo()",
     ),
     "test_kills.Kills.test_full_disk_of_spool": Edit(
-        "host/spool.py",
+        "model/spool.py",
         'self._ended.update(ended)\n            raise StoreError(f"{self.folder}: {error}") from None',
         "self._ended.update(ended)",
     ),
@@ -187,7 +188,7 @@ FAULTS = {
         "host/line.py", 'self._tape.bytes("<", data)', 'self._tape.bytes("<", b"")'
     ),
     "test_lines.Lines.test_words": Edit(
-        "host/options.py",
+        "model/options.py",
         "if not is_loopback(one.host) and not networks and",
         "if not is_loopback(one.host) and networks and",
     ),
@@ -202,21 +203,21 @@ FAULTS = {
     ),
     "test_lines_file.LinesFile.test_changes": Edit("host/serve.py", "port.place = found", "port.place = port.place"),
     "test_lines_file.LinesFile.test_command": Edit(
-        "host/commands.py", "return WRONG if found.faults else GOOD", "return GOOD"
+        "cli/host.py", "return WRONG if found.faults else GOOD", "return GOOD"
     ),
     "test_lines_file.LinesFile.test_faults": Edit(
-        "host/lines.py", "setdefault(optionstr, self._row)", "setdefault(optionstr, self._row - 1)"
+        "model/lines.py", "setdefault(optionstr, self._row)", "setdefault(optionstr, self._row - 1)"
     ),
     "test_lines_file.LinesFile.test_reloads": Edit("host/serve.py", "if place not in now:", "if place.name:"),
     "test_lines_file.LinesFile.test_serial": Edit(
         "host/serve.py", "while not self.stopping and serial in self.asked.serials:", "while not self.stopping:"
     ),
-    "test_lines_file.LinesFile.test_start": Edit("host/commands.py", "    if twice:\n", "    if twice and not read:\n"),
+    "test_lines_file.LinesFile.test_start": Edit("cli/host.py", "    if twice:\n", "    if twice and not read:\n"),
     "test_load.Load.test_200_analyzers": Edit(
         "host/serve.py", "self._lines.values())) < limits.lines:", "self._lines.values())) < 100:"
     ),
     "test_load.Load.test_memory": Edit(
-        "host/sql.py",
+        "model/sql.py",
         "            self.apply(units)\n",
         "            self.apply(units)\n"
         '            self.__dict__.setdefault("units", []).append((units, bytes(1 << 17)))\n',
@@ -231,7 +232,7 @@ FAULTS = {
         "host/mend.py", "gone_of_results(body, out) != _long_results(body, names) or", ""
     ),
     "test_mends.Mends.test_query": Edit("host/duplex.py", ".take(body[: QUERY + 1])", ".take(body[:9])"),
-    "test_mends.Mends.test_repeats": Edit("host/commands.py", "place.name: place.mend for", "place.name: () for"),
+    "test_mends.Mends.test_repeats": Edit("cli/host.py", "place.name: place.mend for", "place.name: () for"),
     "test_mends.Mends.test_left": Edit("host/left.py", 'one.body.endswith((b"\\r", b"\\n"))', "False"),
     "test_mends.Mends.test_order": Edit("host/line.py", "            await self._mender.order.over()", "            pass"),
     "test_mends.Mends.test_tries_delay_nobody": Edit("host/mender.py", 'self._run("tries", ', 'self._run("short", '),
@@ -239,14 +240,14 @@ FAULTS = {
         "host/mend.py", "data[one.start : one.ends[-1]]", "data[one.start : one.ends[-1] - 1]"
     ),
     "test_mends.Mends.test_words": Edit(
-        "host/options.py", "tuple(one for one in NAMES if one in given)", "tuple(given)"
+        "model/options.py", "tuple(one for one in NAMES if one in given)", "tuple(given)"
     ),
     "test_noise.Noise.test_one_byte": Edit("host/serve.py", 'place.careful != "no"', "False"),
     "test_noise.Careful.test_enq_and_stx": Edit("host/line.py", "            self._probe.noise(count)\n", ""),
     "test_noise.Careful.test_anew": Edit("host/serve.py", 'place.careful != "no"', "True"),
     "test_noise.Careful.test_mends": Edit("host/feeds.py", "_ENDS if is_careful else _BREAKS", "_BREAKS"),
     "test_notices.Said.test_a_bad_line": Edit(
-        "host/notices.py",
+        "diagnosis/notices.py",
         "[kind] += 1\n            return\n",
         "[kind] += 1\n",
     ),
@@ -255,64 +256,64 @@ FAULTS = {
     ),
     "test_notices.Said.test_letters": Edit("letters.py", "            self._read(piece, False)\n", ""),
     "test_notices.Said.test_bad_sessions": Edit(
-        "host/notices.py", "AT_ONCE, SECONDS = 10, 30.0", "AT_ONCE, SECONDS = 1000, 30.0"
+        "diagnosis/notices.py", "AT_ONCE, SECONDS = 10, 30.0", "AT_ONCE, SECONDS = 1000, 30.0"
     ),
     "test_notices.Said.test_frames": Edit(
-        "host/notices.py", "if self._rejected_at != self._taken:", "if self._taken >= 0:"
+        "diagnosis/notices.py", "if self._rejected_at != self._taken:", "if self._taken >= 0:"
     ),
     "test_notices.Said.test_late_reply": Edit(
         "host/duplex.py", "if was_unanswered and data[:1] in _REPLIES:", "if data[:1] not in _REPLIES:"
     ),
     "test_notices.Said.test_lines_that_come_and_go": Edit(
-        "host/notices.py",
+        "diagnosis/notices.py",
         "            self._dropped[name, kind] += 1\n            self.not_said",
         "            self._dropped[name, kind] += 0\n            self.not_said",
     ),
     "test_out.Files.test_modes": Edit(
-        "host/sqlite.py", "os.chmod(path, 0o600)", "os.chmod(path, 0o644)"
+        "model/sqlite.py", "os.chmod(path, 0o600)", "os.chmod(path, 0o644)"
     ),
     "test_out.Files.test_modes_of_a_spool": Edit(
-        "host/files.py",
+        "model/files.py",
         "os.fchmod(descriptor, _MODE)\n            yield",
         "os.fchmod(descriptor, 0o644)\n            yield",
     ),
     "test_out.Files.test_restored": Edit(
-        "host/deliver.py",
+        "out/deliver.py",
         "if found is None or (found.number == self.number and found.key != self.key):",
         "if found is None:",
     ),
-    "test_out.Files.test_no_library": Edit("host/commands.py", "    calls()  # without", "    # without"),
+    "test_out.Files.test_no_library": Edit("cli/host.py", "    calls()  # without", "    # without"),
     "test_out.Names.test_names": Edit("message.py", "sequence source comment_text", "sequence source text"),
     "test_out.OutOfSpool.test_delivery_to_a_command": Edit(
-        "host/spool.py", 'if not name.startswith("."))', 'if not name.startswith("."))[::-1]'
+        "model/spool.py", 'if not name.startswith("."))', 'if not name.startswith("."))[::-1]'
     ),
-    "test_out.OutOfSpool.test_delivery_to_a_directory": Edit("host/spool.py", "names[:limit]", "names[-1:]"),
-    "test_out.OutOfSpool.test_export": Edit("host/spool.py", 'about["again_of"], body)', "None, body)"),
+    "test_out.OutOfSpool.test_delivery_to_a_directory": Edit("model/spool.py", "names[:limit]", "names[-1:]"),
+    "test_out.OutOfSpool.test_export": Edit("model/spool.py", 'about["again_of"], body)', "None, body)"),
     "test_out.OutOfSpool.test_one_host": Edit(
-        "host/spool.py", "take_lock(self._path(\"host\"))", "take_lock(self._path(f'host{os.getpid()}'))"
+        "model/spool.py", "take_lock(self._path(\"host\"))", "take_lock(self._path(f'host{os.getpid()}'))"
     ),
     "test_out.OutOfSpool.test_sending": Edit(
-        "host/send.py", 'how = "done" if sent.done else f"failed: {sent.why}"', 'how = "done"'
+        "analyzer/send.py", 'how = "done" if sent.done else f"failed: {sent.why}"', 'how = "done"'
     ),
     "test_out.OutOfSpool.test_status": Edit(
-        "host/spool.py", 'if about.get("again_of"))', 'if not about.get("again_of"))'
+        "model/spool.py", 'if about.get("again_of"))', 'if not about.get("again_of"))'
     ),
-    "test_out.OutOfSpool.test_wanted": Edit("host/spool.py", '.split("-")[0]) > after]', '.split("-")[0]) >= after]'),
+    "test_out.OutOfSpool.test_wanted": Edit("model/spool.py", '.split("-")[0]) > after]', '.split("-")[0]) >= after]'),
     "test_out.OutOfSqlite.test_delivery_to_a_command": Edit(
-        "host/deliver.py", "        if status:\n", "        if status < 0:\n"
+        "out/deliver.py", "        if status:\n", "        if status < 0:\n"
     ),
     "test_out.OutOfSqlite.test_delivery_to_a_directory": Edit(
-        "host/deliver.py", 'take_lock(path + ".lock")', 'take_lock(f"{path}.{os.getpid()}.lock")'
+        "out/deliver.py", 'take_lock(path + ".lock")', 'take_lock(f"{path}.{os.getpid()}.lock")'
     ),
-    "test_out.OutOfSqlite.test_export": Edit("host/export.py", "([*own, *row[:-1]", "([*row[:-1], *own"),
+    "test_out.OutOfSqlite.test_export": Edit("out/export.py", "([*own, *row[:-1]", "([*row[:-1], *own"),
     "test_out.OutOfSqlite.test_one_host": Edit(
-        "host/files.py", "fcntl.LOCK_EX | fcntl.LOCK_NB", "fcntl.LOCK_SH | fcntl.LOCK_NB"
+        "model/files.py", "fcntl.LOCK_EX | fcntl.LOCK_NB", "fcntl.LOCK_SH | fcntl.LOCK_NB"
     ),
     "test_out.OutOfSqlite.test_sending": Edit(
-        "host/commands.py", "return WRONG if bad or summary.failed", "return WRONG if summary.failed"
+        "cli/host.py", "return WRONG if bad or summary.failed", "return WRONG if summary.failed"
     ),
-    "test_out.OutOfSqlite.test_status": Edit("host/status.py", "if store.is_held(", "if state or store.is_held("),
-    "test_out.OutOfSqlite.test_wanted": Edit("host/export.py", "at < wanted.since", "at > wanted.since"),
+    "test_out.OutOfSqlite.test_status": Edit("watch/status.py", "if store.is_held(", "if state or store.is_held("),
+    "test_out.OutOfSqlite.test_wanted": Edit("out/export.py", "at < wanted.since", "at > wanted.since"),
     "test_plainlink.PlainLink.test_keeping": Edit(
         "host/plainlink.py", "return await super()._keep(text)", "return await super()._keep(text) or True"
     ),
@@ -325,89 +326,89 @@ FAULTS = {
     "test_plainlink.PlainLink.test_sessions": Edit(
         "host/plainlink.py", "(byte == _STX and not self.is_open)", "(byte == _STX and self.is_open is None)"
     ),
-    "test_plainlink.PlainLink.test_words": Edit("host/options.py", "if place.link and place.orders:", "if not place:"),
+    "test_plainlink.PlainLink.test_words": Edit("model/options.py", "if place.link and place.orders:", "if not place:"),
     "test_postgres.OutOfPostgres.test_delivery_to_a_command": Edit(
-        "host/deliver.py", '"LISLAB_NUMBER": str(one.number)', '"LISLAB_NUMBER": str(one.number + 1)'
+        "out/deliver.py", '"LISLAB_NUMBER": str(one.number)', '"LISLAB_NUMBER": str(one.number + 1)'
     ),
     "test_postgres.OutOfPostgres.test_delivery_to_a_directory": Edit(
-        "host/sql.py", "WHERE message = ? ORDER BY place", "WHERE message = ? ORDER BY place DESC"
+        "model/sql.py", "WHERE message = ? ORDER BY place", "WHERE message = ? ORDER BY place DESC"
     ),
     "test_postgres.OutOfPostgres.test_export": Edit(
-        "host/sql.py", "(end, first.get((end.line, end.digest)), number)", "(end, None, number)"
+        "model/sql.py", "(end, first.get((end.line, end.digest)), number)", "(end, None, number)"
     ),
     "test_postgres.OutOfPostgres.test_sending": Edit(
-        "host/send.py", 'yield f"message {number}: record', 'f"message {number}: record'
+        "analyzer/send.py", 'yield f"message {number}: record', 'f"message {number}: record'
     ),
-    "test_postgres.OutOfPostgres.test_status": Edit("host/sql.py", '"again_of IS NOT NULL", ', '"again_of IS NULL", '),
+    "test_postgres.OutOfPostgres.test_status": Edit("model/sql.py", '"again_of IS NOT NULL", ', '"again_of IS NULL", '),
     "test_postgres.OutOfPostgres.test_wanted": Edit(
-        "host/export.py", "one.line == wanted.line", "one.line != wanted.line"
+        "out/export.py", "one.line == wanted.line", "one.line != wanted.line"
     ),
     "test_postgres.Postgres.test_keeping": Edit(
-        "host/postgresql.py", "yield\n            self._committed()", "yield"
+        "model/postgresql.py", "yield\n            self._committed()", "yield"
     ),
     "test_postgres.Postgres.test_kills": Edit(
-        "host/postgresql.py",
+        "model/postgresql.py",
         "DataError, self._driver.IntegrityError)))\n"
         '            raise StoreError(f"PostgreSQL: {_first_line(error)}") from None',
         "DataError, self._driver.IntegrityError)))",
     ),
     "test_postgres.Postgres.test_later_tables": Edit(
-        "host/sql.py", "elif found[0] != str(SCHEMA):", "elif not found[0]:"
+        "model/sql.py", "elif found[0] != str(SCHEMA):", "elif not found[0]:"
     ),
-    "test_postgres.Postgres.test_mends": Edit("host/sql.py", "(one.key, one.state, one.reason,", '(one.key, one.state, "",'),
+    "test_postgres.Postgres.test_mends": Edit("model/sql.py", "(one.key, one.state, one.reason,", '(one.key, one.state, "",'),
     "test_postgres.Postgres.test_name_of_a_killed_host": Edit(
-        "host/postgresql.py", "_NAME_SECONDS = 3.0", "_NAME_SECONDS = 0.0"
+        "model/postgresql.py", "_NAME_SECONDS = 3.0", "_NAME_SECONDS = 0.0"
     ),
     "test_postgres.Postgres.test_names": Edit(
-        "host/postgresql.py", 'raise StoreError(f"another host has the name {self.host}")', "break"
+        "model/postgresql.py", 'raise StoreError(f"another host has the name {self.host}")', "break"
     ),
     "test_postgres.Postgres.test_who_has_it": Edit(
-        "host/postgresql.py", "classid = {_HOSTS}", "classid = {_NUMBERS}"
+        "model/postgresql.py", "classid = {_HOSTS}", "classid = {_NUMBERS}"
     ),
     "test_postgres.Postgres.test_open_messages_of_another_host": Edit(
-        "host/postgresql.py", "return bool(self.run(\"SELECT pg_try", "return not bool(self.run(\"SELECT pg_try"
+        "model/postgresql.py", "return bool(self.run(\"SELECT pg_try", "return not bool(self.run(\"SELECT pg_try"
     ),
     "test_postgres.RepeatsOfPostgres.test_left_open": Edit(
-        "host/sql.py", "yield one._replace(state=UNFINISHED, reason=LEFT) if one.state == OPEN else one", "yield one"
+        "model/sql.py", "yield one._replace(state=UNFINISHED, reason=LEFT) if one.state == OPEN else one", "yield one"
     ),
     "test_postgres.RepeatsOfPostgres.test_each_write": Edit(
-        "host/sql.py",
+        "model/sql.py",
         "again_of IS NULL AND state = '{WHOLE}'\"\n            found",
         "again_of IS NULL\"\n            found",
     ),
     "test_postgres.Postgres.test_start_while_another_commits": Edit(
-        "host/postgresql.py", "[0][0] is not None", "[0][0] == 0"
+        "model/postgresql.py", "[0][0] is not None", "[0][0] == 0"
     ),
     "test_repeats.RepeatsOfSpool.test_early_mark": Edit(
-        "host/spool.py", "return None if any(map(os.path.exists, places)) else key", "return key"
+        "model/spool.py", "return None if any(map(os.path.exists, places)) else key", "return key"
     ),
     "test_repeats.RepeatsOfSpool.test_each_write": Edit(
-        "host/spool.py",
+        "model/spool.py",
         "        elif end.state == WHOLE:\n            self._write_mark()\n",
         "        elif end.state == WHOLE:\n",
     ),
     "test_repeats.RepeatsOfSpool.test_left_open": Edit(
-        "host/spool.py", "left = [] if self.is_held() else", "left = [] if not self.is_held() else"
+        "model/spool.py", "left = [] if self.is_held() else", "left = [] if not self.is_held() else"
     ),
     "test_repeats.RepeatsOfSqlite.test_left_open": Edit(
-        "host/sqlite.py",
+        "model/sqlite.py",
         'which is this one."""\n        return True',
         'which is this one."""\n        return host == self.host',
     ),
     "test_repeats.RepeatsOfSpool.test_no_mark": Edit(
-        "host/spool.py",
+        "model/spool.py",
         "if one.again_of is None and self._first(mark) is None:",
         "if one.again_of is None and self._first(mark):",
     ),
     "test_repeats.RepeatsOfSqlite.test_each_write": Edit(
-        "host/sql.py",
+        "model/sql.py",
         "again_of IS NULL AND state = '{WHOLE}'\"\n            found",
         "again_of IS NULL\"\n            found",
     ),
-    "test_said.Said.test_signs_for_a_terminal": Edit("host/status.py", "shown(row) + ", "row + "),
-    "test_said.Said.test_the_password_of_a_database": Edit("host/postgresql.py", '== address.count("@") < 2', "!= 9"),
+    "test_said.Said.test_signs_for_a_terminal": Edit("watch/status.py", "shown(row) + ", "row + "),
+    "test_said.Said.test_the_password_of_a_database": Edit("model/postgresql.py", '== address.count("@") < 2', "!= 9"),
     "test_said.Said.test_a_line_goes_on": Edit("host/commits.py", "one.set_exception(fault)", "one.cancel()"),
-    "test_said.Said.test_saying": Edit("host/said.py", "if poll.poll(0):", "if poll:"),
+    "test_said.Said.test_saying": Edit("model/said.py", "if poll.poll(0):", "if poll:"),
     "test_said.Said.test_who_waits_is_answered_first": Edit(
         "host/commits.py",
         "    for one in done:\n        if one.done():",
@@ -446,7 +447,7 @@ FAULTS = {
         "host/serve.py", "Telnet() if self._end.place.telnet else None", "Telnet()"
     ),
     "test_telnet.Terminals.test_words": Edit(
-        "host/options.py",
+        "model/options.py",
         'if word not in ("yes", "no"):\n        raise OptionError(f"telnet',
         'if word not in ("yes", "no", "on"):\n        raise OptionError(f"telnet',
     ),
@@ -467,49 +468,49 @@ FAULTS = {
         "host/turns.py", "max(self._turns.had - CREDIT, self._had) + now", "self._turns.had - CREDIT + now"
     ),
     "test_turns.Turns.test_connections_of_a_line": Edit(
-        "watch/pulse.py", "if time.monotonic() - pulse.good_at < PATIENCE * pulse.scale:", "if pulse.good_at < 0:"
+        "diagnosis/pulse.py", "if time.monotonic() - pulse.good_at < PATIENCE * pulse.scale:", "if pulse.good_at < 0:"
     ),
     "test_turns.Turns.test_room_for_texts": Edit("host/line.py", "self._has_room(has is not None)", "self._has_room(True)"),
     "test_status.Status.test_running": Edit(
-        "host/status.py", "return not store.held_to_the_end and ", "return "
+        "watch/status.py", "return not store.held_to_the_end and ", "return "
     ),
     "test_systemd.Systemd.test_journal": Edit(
-        "host/said.py", "{shown(' '.join(value.splitlines()))}\\n", "{value}\\n"
+        "model/said.py", "{shown(' '.join(value.splitlines()))}\\n", "{value}\\n"
     ),
     "test_systemd.Systemd.test_notify": Edit("host/systemd.py", "    while seconds:\n", "    if seconds:\n"),
     "test_systemd.Systemd.test_units": Edit(
-        "watch/commands.py", 'one.add_argument("--http", metavar', 'one.add_argument("--pages", metavar'
+        "cli/watch.py", 'one.add_argument("--http", metavar', 'one.add_argument("--pages", metavar'
     ),
     "test_watch.Watch.test_a_ladder_as_it_goes": Edit(
         "watch/live.py", "over = self._begun[2] if self._carry else len(self.rows)", "over = len(self.rows)"
     ),
-    "test_watch.Watch.test_a_full_disk": Edit("watch/pulse.py", "|file too large|", "|"),
+    "test_watch.Watch.test_a_full_disk": Edit("diagnosis/pulse.py", "|file too large|", "|"),
     "test_watch.Watch.test_a_line_as_it_goes": Edit(
-        "watch/commands.py", "        after = int(head[\"next\"])\n", "        after = 0\n"
+        "cli/watch.py", "        after = int(head[\"next\"])\n", "        after = 0\n"
     ),
     "test_watch.Watch.test_faults": Edit(
-        "watch/pulse.py", "verdict if isinstance(error, StoreError) else Verdict.TOO_BIG", "Verdict.STORE_GONE"
+        "diagnosis/pulse.py", "verdict if isinstance(error, StoreError) else Verdict.TOO_BIG", "Verdict.STORE_GONE"
     ),
-    "test_watch.Watch.test_last_bytes": Edit("watch/ring.py", 'lines.append(Line("R"))', 'lines.append(Line("T"))'),
+    "test_watch.Watch.test_last_bytes": Edit("diagnosis/ring.py", 'lines.append(Line("R"))', 'lines.append(Line("T"))'),
     "test_watch.Watch.test_no_reply_to_the_host": Edit("host/duplex.py", "        self._probe.in_vain(why)\n", ""),
     "test_watch.Watch.test_no_socket": Edit(
         "host/serve.py", 'say(f"lislab watch can\'t look: {error}")', "raise"
     ),
     "test_watch.Watch.test_noise_is_not_bad": Edit(
-        "watch/pulse.py", "            if pulse.polls < EMPTY:\n", "            if pulse.polls < 2:\n"
+        "diagnosis/pulse.py", "            if pulse.polls < EMPTY:\n", "            if pulse.polls < 2:\n"
     ),
     "test_watch.Watch.test_reasons": Edit(
-        "watch/pulse.py", "raw = bytes(self._carry + self._now", "raw = bytes(self._now"
+        "diagnosis/pulse.py", "raw = bytes(self._carry + self._now", "raw = bytes(self._now"
     ),
     "test_watch.Watch.test_ring": Edit(
-        "watch/ring.py", "while len(self._held) - drop > self._most:", "while len(self._held) - drop > 2 * self._most:"
+        "diagnosis/ring.py", "while len(self._held) - drop > self._most:", "while len(self._held) - drop > 2 * self._most:"
     ),
     "test_watch.Watch.test_rows": Edit(
-        "watch/commands.py", "return WRONG if client.is_bad(data) else GOOD", "return GOOD"
+        "cli/watch.py", "return WRONG if client.is_bad(data) else GOOD", "return GOOD"
     ),
-    "test_watch.Watch.test_socket": Edit("watch/unix.py", "os.umask(0o177)", "os.umask(0o022)"),
+    "test_watch.Watch.test_socket": Edit("model/unix.py", "os.umask(0o177)", "os.umask(0o022)"),
     "test_watch_postgres.WatchPostgres.test_the_database_is_gone": Edit(
-        "watch/pulse.py", "disk is full|no space left|", "disk is full|no space left|connection|server|"
+        "diagnosis/pulse.py", "disk is full|no space left|", "disk is full|no space left|connection|server|"
     ),
     "test_watch_page.Alerts.test_alerts": Edit(
         "watch/metrics.py", '"lislab_texts_not_kept_total"', '"lislab_not_kept_total"'
@@ -517,7 +518,7 @@ FAULTS = {
     "test_watch_page.Looks.test_a_reader_of_metrics": Edit("watch/metrics.py", ".replace('\"', '\\\\\"')", ""),
     "test_watch_page.Looks.test_browser": Edit("watch/page.py", "html.escape(shown, quote=True)", "shown"),
     "test_watch_page.Looks.test_command": Edit(
-        "watch/commands.py", "                notifier.see(pages.data())\n", "                pages.data()\n"
+        "cli/watch.py", "                notifier.see(pages.data())\n", "                pages.data()\n"
     ),
     "test_watch_page.Looks.test_hostile": Edit("watch/page.py", 'f"<{ord(one):02X}>" if _is_odd(one) else one', "one"),
     "test_watch_page.Looks.test_metrics": Edit(
@@ -539,8 +540,8 @@ FAULTS = {
     "test_watch_page.Looks.test_a_token_that_is_made": Edit(
         "watch/web.py", "secrets.token_urlsafe(24).encode() + b", "secrets.token_urlsafe(9).encode() + b"
     ),
-    "test_watch_page.Looks.test_delivered": Edit("host/deliver.py", '"key": key, "took": took}', '"key": key}'),
-    "test_watch_page.Looks.test_words": Edit("watch/commands.py", "not (ask.allow and token)", "not (ask.allow or token)"),
+    "test_watch_page.Looks.test_delivered": Edit("out/deliver.py", '"key": key, "took": took}', '"key": key}'),
+    "test_watch_page.Looks.test_words": Edit("cli/watch.py", "not (ask.allow and token)", "not (ask.allow or token)"),
 }
 for one in (planted_delivery, planted_orders, planted_watch):
     FAULTS.update({name: Edit(*edit) for name, edit in one.FAULTS.items()})
@@ -563,57 +564,57 @@ HARMLESS = (
     ),
     Edit("host/serve.py", "            host.refused += 1\n", "            host.refused = 1 + host.refused\n"),
     Edit(
-        "host/notices.py",
+        "diagnosis/notices.py",
         '_taken = 0\n        self._why, self._rejected_at = "", -1\n\n    def _without',
         '_taken = 0\n        self._rejected_at, self._why = -1, ""\n\n    def _without',
     ),
     Edit("host/line.py", "if len(part) + len(changes) > self", "if len(changes) + len(part) > self"),
-    Edit("host/spool.py", "any(map(os.path.exists, places))", "list(filter(os.path.exists, places))"),
-    Edit("host/said.py", "(OSError, ValueError, AttributeError):", "(AttributeError, OSError, ValueError):"),
-    Edit("host/send.py", "            tried += 1\n", "            tried = 1 + tried\n"),
+    Edit("model/spool.py", "any(map(os.path.exists, places))", "list(filter(os.path.exists, places))"),
+    Edit("model/said.py", "(OSError, ValueError, AttributeError):", "(AttributeError, OSError, ValueError):"),
+    Edit("analyzer/send.py", "            tried += 1\n", "            tried = 1 + tried\n"),
     Edit("host/tty.py", "VMIN], letters[termios.VTIME] = 1, 0", "VTIME], letters[termios.VMIN] = 0, 1"),
     Edit(
-        "host/sqlite.py",
+        "model/sqlite.py",
         "isolation_level=None, check_same_thread=False",
         "check_same_thread=False, isolation_level=None",
     ),
-    Edit("host/files.py", "        self.size += len(data)\n", "        self.size = len(data) + self.size\n"),
+    Edit("model/files.py", "        self.size += len(data)\n", "        self.size = len(data) + self.size\n"),
     Edit(
-        "host/postgresql.py",
+        "model/postgresql.py",
         "        db, self._db = self._db, None\n",
         "        db = self._db\n        self._db = None\n",
     ),
     Edit(
-        "host/sql.py",
+        "model/sql.py",
         "        if whole:\n            self._number(whole)",
         "        if len(whole) > 0:\n            self._number(whole)",
     ),
-    Edit("host/deliver.py", "        elif not found:\n", "        elif found == 0:\n"),
-    Edit("delivery/aside.py", "sorted([*others, row])", "sorted([row, *others])"),
+    Edit("out/deliver.py", "        elif not found:\n", "        elif found == 0:\n"),
+    Edit("out/aside.py", "sorted([*others, row])", "sorted([row, *others])"),
     Edit(
-        "delivery/numbers.py",
+        "model/numbers.py",
         'turned.get(one.comparator, "") if factor < 0 else one.comparator',
         'one.comparator if factor > 0 else turned.get(one.comparator, "")',
     ),
-    Edit("delivery/mllp.py", "if len(self._left) > _MOST:", "if _MOST < len(self._left):"),
-    Edit("delivery/fhir.py", "for name, one in data.items()) +", "for name, one in [*data.items()]) +"),
+    Edit("out/mllp.py", "if len(self._left) > _MOST:", "if _MOST < len(self._left):"),
+    Edit("out/fhir.py", "for name, one in data.items()) +", "for name, one in [*data.items()]) +"),
     Edit(
-        "host/export.py",
+        "out/export.py",
         "        if one is None:\n            return line(None)",
         "        if one is None:  # the heading\n            return line(None)",
     ),
     Edit(
-        "host/status.py",
+        "watch/status.py",
         '                "whole": one.whole if one else 0,\n                "again": one.again if one else 0,\n',
         '                "again": one.again if one else 0,\n                "whole": one.whole if one else 0,\n',
     ),
     Edit(
-        "watch/pulse.py",
+        "diagnosis/pulse.py",
         "        self.verdict, self.since, self.count = verdict, time.time(), 0\n",
         "        self.verdict, self.count, self.since = verdict, 0, time.time()\n",
     ),
-    Edit("watch/ring.py", "        self.next += 1\n", "        self.next = 1 + self.next\n"),
-    Edit("host/options.py", "return found[1] or found[2] or", "return found[2] or found[1] or"),
+    Edit("diagnosis/ring.py", "        self.next += 1\n", "        self.next = 1 + self.next\n"),
+    Edit("model/options.py", "return found[1] or found[2] or", "return found[2] or found[1] or"),
     Edit(
         "host/mender.py",
         "        names = self.names if one.is_over else self.names - MAKES_AN_END\n",
@@ -626,8 +627,8 @@ HARMLESS = (
     ),
     Edit("host/plainlink.py", "        self._last = text\n", "        self._last = bytes(text)\n"),
     Edit("host/feeds.py", "    count = body.count(_LF)\n", "    count = len(body.split(_LF)) - 1\n"),
-    Edit("host/lines.py", "for key in _WHERE if key in given]", "for key in _WHERE if given.get(key) is not None]"),
-    Edit("delivery/tables.py", "            if paths == self._paths:\n", "            if self._paths == paths:\n"),
+    Edit("model/lines.py", "for key in _WHERE if key in given]", "for key in _WHERE if given.get(key) is not None]"),
+    Edit("out/tables.py", "            if paths == self._paths:\n", "            if self._paths == paths:\n"),
     Edit("host/unknown.py", "if pair in found or len(found) < MOST else", "if len(found) < MOST or pair in found else"),
     Edit("field/compare.py", "    rest = iter(seen)\n", "    rest = iter(list(seen))\n"),
 )
@@ -653,9 +654,15 @@ def name_of(test):
     return test.id().removeprefix("tests.host.")
 
 
+def path_of(edit, source):
+    """The file of an edit, in one of these folders."""
+    package = "lislab" if "/" in edit.file else "lislink"
+    return next(path for path in (f"{it}/{package}/{edit.file}" for it in source.split(os.pathsep)) if os.path.exists(path))
+
+
 def plant(edit, source):
     """Makes an edit in a copy of the source."""
-    path = os.path.join(source, "lislink", edit.file)
+    path = path_of(edit, source)
     with open(path, encoding="utf-8") as file:
         text = file.read()
     assert text.count(edit.old) == 1, f"{edit.file}: {edit.old!r} is there {text.count(edit.old)} times"
@@ -667,13 +674,14 @@ def tried(edits, tests):
     """What the tests say of a host with these edits: the exit status, and the lines."""
     with tempfile.TemporaryDirectory(prefix="lis-planted-") as folder:
         source = os.path.join(folder, "src")
-        shutil.copytree(SOURCE, source, ignore=shutil.ignore_patterns("__pycache__"))
+        for one in SOURCE.split(os.pathsep):
+            shutil.copytree(one, source, ignore=shutil.ignore_patterns("__pycache__"), dirs_exist_ok=True)
         for edit in edits:
             plant(edit, source)
         words = [os.path.join(HERE, "more"), *tests]
         done = subprocess.run(
             [sys.executable, *words],
-            env={**os.environ, "LISLINK_SOURCE": source},
+            env={**os.environ, "LISLAB_SOURCE": source},
             stdout=subprocess.PIPE,
             stderr=subprocess.STDOUT,
             text=True,

@@ -1,48 +1,48 @@
 """Faults in what sends orders (`planted.py`): in this file of lislink, this text becomes that."""
 
 FAULTS = {
-    "test_order_files.Files.test_files": ("orders/order.py", "elif len(row) > len(names):", "elif len(row) > len(names) + 9:"),
+    "test_order_files.Files.test_files": ("order.py", "elif len(row) > len(names):", "elif len(row) > len(names) + 9:"),
     "test_order_files.Files.test_records": (
-        "orders/order.py", "*after] for test in order.tests],", "*after] for test in order.tests[:1]],"
+        "order.py", "*after] for test in order.tests],", "*after] for test in order.tests[:1]],"
     ),
-    "test_order_files.Files.test_nothing": ("orders/order.py", 'fields[11] = b"X"', 'fields[10] = b"X"'),
-    "test_order_files.Files.test_queries": ("orders/query.py", '_CANCELS = "AX"', '_CANCELS = "A"'),
+    "test_order_files.Files.test_nothing": ("order.py", 'fields[11] = b"X"', 'fields[10] = b"X"'),
+    "test_order_files.Files.test_queries": ("model/query.py", '_CANCELS = "AX"', '_CANCELS = "A"'),
     "test_orders.SqliteBooks.test_states": (
-        "orders/book.py", "state = FAILED if 0 < most <= tries", "state = FAILED if 0 < most < tries"
+        "model/book.py", "state = FAILED if 0 < most <= tries", "state = FAILED if 0 < most < tries"
     ),
     "test_orders.SqliteBooks.test_two_hosts": (
-        "orders/book.py", "return f\"(holder = ''{left})\"", "return f\"(1 = 1{left})\""
+        "model/book.py", "return f\"(holder = ''{left})\"", "return f\"(1 = 1{left})\""
     ),
     "test_orders.SqliteBooks.test_given_back": (
-        "orders/book.py", "held = f\"holder = ? AND", "held = f\"holder <> ? AND"
+        "model/book.py", "held = f\"holder = ? AND", "held = f\"holder <> ? AND"
     ),
-    "test_order_files.Files.test_dates": ("orders/book.py", "over <= self.until", "over < self.until"),
-    "test_orders.SpoolBooks.test_states": ("orders/book.py", "mine += at == own", "mine += 1"),
-    "test_order_files.Files.test_more": ("orders/order.py", "[rack, position] if position else rack", "[position, rack]"),
-    "test_order_files.Files.test_ranges": ("orders/book.py", "int(self.first) <= int(sample)", "self.first <= sample"),
+    "test_order_files.Files.test_dates": ("model/book.py", "over <= self.until", "over < self.until"),
+    "test_orders.SpoolBooks.test_states": ("model/book.py", "mine += at == own", "mine += 1"),
+    "test_order_files.Files.test_more": ("order.py", "[rack, position] if position else rack", "[position, rack]"),
+    "test_order_files.Files.test_ranges": ("model/book.py", "int(self.first) <= int(sample)", "self.first <= sample"),
     "test_orders.SpoolBooks.test_two_hosts": (
-        "orders/book.py", "return f\"(holder = ''{left})\"", "return f\"(1 = 1{left})\""
+        "model/book.py", "return f\"(holder = ''{left})\"", "return f\"(1 = 1{left})\""
     ),
     "test_orders.SpoolBooks.test_given_back": (
-        "orders/book.py", "held = f\"holder = ? AND", "held = f\"holder <> ? AND"
+        "model/book.py", "held = f\"holder = ? AND", "held = f\"holder <> ? AND"
     ),
     "test_orders.SpoolBooks.test_files": (
-        "orders/folder.py", "WHERE file = ?\", (file,)).fetchone():", "WHERE file = ?\", (path,)).fetchone():"
+        "model/folder.py", "WHERE file = ?\", (file,)).fetchone():", "WHERE file = ?\", (path,)).fetchone():"
     ),
     "test_orders.Answers.test_spool": (
-        "orders/folder.py", "said.append(self._take_file(name))", "said.append(name)"
+        "model/folder.py", "said.append(self._take_file(name))", "said.append(name)"
     ),
     "test_orders.SqliteBooks.test_two_connections_of_one_process": (
-        "host/sqlite.py",
+        "model/sqlite.py",
         "with contextlib.suppress(FileExistsError):\n        os.close(os.open(path, os.O_RDWR | os.O_CREAT | os.O_EXCL",
         "if path:\n        os.close(os.open(path, os.O_RDWR | os.O_CREAT",
     ),
     "test_orders.Commands.test_commands": (
-        "orders/commands.py", "if good and (ask.some or not rejected):", "if good:"
+        "cli/order.py", "if good and (ask.some or not rejected):", "if good:"
     ),
     "test_orders.Answers.test_query": ("host/duplex.py", "self._outbox.sent(self._site, batch)", "self._outbox.stop"),
     "test_orders.Answers.test_ways_to_say_nothing": (
-        "orders/order.py", 'if way == "Q-X":', 'if way == "Q":'
+        "order.py", 'if way == "Q-X":', 'if way == "Q":'
     ),
     "test_orders.Answers.test_an_order_that_cannot_be_written": (
         "host/outbox.py", "if not good and queries and", "if good and queries and"
@@ -94,14 +94,14 @@ FAULTS = {
     "test_orders.Answers.test_one_command_of_a_connection": (
         "host/duplex.py", "async with self._look_ups:", "async with asyncio.Lock():"
     ),
-    "test_queries.Queries.test_taken_back_by_one": ("orders/book.py", "substr(seat, 1, ?) <> ?", "substr(seat, 1, ?) = ?"),
+    "test_queries.Queries.test_taken_back_by_one": ("model/book.py", "substr(seat, 1, ?) <> ?", "substr(seat, 1, ?) = ?"),
     "test_queries.Queries.test_an_answer_of_another": ("host/outbox.py", "int(seat) < int(site.seat)", "seat"),
-    "test_queries.Queries.test_makers": ("orders/query.py", "if component:", "if not component:"),
+    "test_queries.Queries.test_makers": ("model/query.py", "if component:", "if not component:"),
     "test_queries.Queries.test_plays": (
         "host/serve.py", 'int(place.test.split("^")[0] or 4)', "4"
     ),
     "test_queries.Queries.test_an_unread_barcode": (
-        "orders/query.py", 'return Query(row, Wanted(tuple(named)), cancels)',
+        "model/query.py", 'return Query(row, Wanted(tuple(named)), cancels)',
         'return Query(row, Wanted(tuple(named), everything=not named), cancels)',
     ),
     "test_queries.Queries.test_an_answer_is_whole": ("host/outbox.py", "ASKED if place else MOST", "MOST"),
@@ -121,8 +121,8 @@ FAULTS = {
     "test_queries.Queries.test_a_command_of_a_line": (
         "host/outbox.py", "site.asks.command or self._command,", "self._command,"
     ),
-    "test_queries.Queries.test_hl7": ("orders/order.py", 're.match(rb"MSH.", text)', 're.match(rb"FHS.", text)'),
-    "test_queries.Queries.test_settings": ("orders/asks.py", "O\\.([34])", "O\\.([345])"),
+    "test_queries.Queries.test_hl7": ("order.py", 're.match(rb"MSH.", text)', 're.match(rb"FHS.", text)'),
+    "test_queries.Queries.test_settings": ("model/asks.py", "O\\.([34])", "O\\.([345])"),
     "test_orders.OnSerial.test_a_new_host": ("host/duplex.py", "if not self.is_tcp:", "if self.is_tcp:"),
     "test_orders.Unheard.test_long_text": ("host/duplex.py", "MOST_SAMPLES = 1024, 1000", "MOST_SAMPLES = 1 << 20, 1000"),
     "test_orders.Unheard.test_heard_first": ("host/duplex.py", "if self._pieces:", "if self._pieces is None:"),
@@ -130,7 +130,7 @@ FAULTS = {
         "host/outbox.py", "self._in_vain(site, batch.placed, why, self._tries)", "self._in_vain(site, batch.placed, why, 0)"
     ),
     "test_orders.Answers.test_a_whole_round": (
-        "host/asker.py", "(one for one in tests if one in known)", "(one for one in tests if one not in known)"
+        "analyzer/asker.py", "(one for one in tests if one in known)", "(one for one in tests if one not in known)"
     ),
     "test_orders.Fire.test_kills": (
         "host/duplex.py", "        self._sending, self._phase = batch, self._station.phase\n",
@@ -140,34 +140,34 @@ FAULTS = {
         "host/duplex.py", "if outcome is Outcome.DONE:", "if outcome is not Outcome.NONE:"
     ),
     "test_orders.Fire.test_fifty_lines": (
-        "orders/book.py", "AND seat IN ('', ?) AND", "AND (seat IN ('', ?) OR 1 = 1) AND"
+        "model/book.py", "AND seat IN ('', ?) AND", "AND (seat IN ('', ?) OR 1 = 1) AND"
     ),
     **{
         f"{books}.{test}": fault
         for books in ("test_orders.SqliteBooks", "test_orders.SpoolBooks", "test_orders_postgres.PostgresBooks")
         for test, fault in {
             "test_asked_again_on_a_new_connection": (
-                "orders/book.py", 'seated = self._seat(seat) if place else ""', 'seated = ""'
+                "model/book.py", 'seated = self._seat(seat) if place else ""', 'seated = ""'
             ),
-            "test_taken_over": ("orders/book.py", "self._set(\"changed = ?\", (self._clock(),), numbers)", "pass"),
-            "test_asked_again": ("orders/book.py", "if now >= set(wanted) else 0.0", "if now else 0.0"),
+            "test_taken_over": ("model/book.py", "self._set(\"changed = ?\", (self._clock(),), numbers)", "pass"),
+            "test_asked_again": ("model/book.py", "if now >= set(wanted) else 0.0", "if now else 0.0"),
             "test_rows_of_other_programs": (
-                "orders/book.py",
+                "model/book.py",
                 "        if state == WAITING:\n            state, reason = FAILED",
                 "        if state == SENT:\n            state, reason = FAILED",
             ),
-            "test_lots": ("orders/book.py", "list(itertools.islice(left, LOT))", "list(left)"),
-            "test_an_earlier_store": ("orders/book.py", "if name not in known:", "if name in ():"),
+            "test_lots": ("model/book.py", "list(itertools.islice(left, LOT))", "list(left)"),
+            "test_an_earlier_store": ("model/book.py", "if name not in known:", "if name in ():"),
         }.items()
     },
     "test_orders_postgres.PostgresBooks.test_states": (
-        "orders/book.py", "state = FAILED if 0 < most <= tries", "state = FAILED if 0 < most < tries"
+        "model/book.py", "state = FAILED if 0 < most <= tries", "state = FAILED if 0 < most < tries"
     ),
     "test_orders_postgres.PostgresBooks.test_two_hosts": (
-        "orders/book.py", "return f\"(holder = ''{left})\"", "return f\"(1 = 1{left})\""
+        "model/book.py", "return f\"(holder = ''{left})\"", "return f\"(1 = 1{left})\""
     ),
     "test_orders_postgres.PostgresBooks.test_given_back": (
-        "orders/book.py", "held = f\"holder = ? AND", "held = f\"holder <> ? AND"
+        "model/book.py", "held = f\"holder = ? AND", "held = f\"holder <> ? AND"
     ),
     "test_orders_postgres.PostgresBooks.test_two_hosts_are_killed": (
         "host/duplex.py", "        self._sending, self._phase = batch, self._station.phase\n",

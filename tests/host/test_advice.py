@@ -1,10 +1,10 @@
 """What `lislab watch` advises about a line, and `lislab ladder` about its bytes: the same."""
 from lislink.capture import Capture, Line
-from lislink.field.ladder import Ladder
-from lislink.field.looks import looks_of
+from lislab.field.ladder import Ladder
+from lislab.field.looks import looks_of
 from lislink.link import Receiver
-from lislink.watch.pulse import Probe, Pulse
-from lislink.watch.verdicts import Verdict
+from lislab.diagnosis.pulse import Probe, Pulse
+from lislab.diagnosis.verdicts import Verdict
 from tests.host.hosts import HostTest
 from tests.host.plain import frame
 from tests.host.test_lines import ENQ, EOT, TEXTS

@@ -8,9 +8,12 @@ import sys
 import time
 import unittest.mock
 
-from lislink.host import deliver, files, status
-from lislink.host.store import WHOLE, Add, Begin, End, StoreError, open_store
-from lislink.delivery import aside
+from lislab.out import deliver
+from lislab.model import files
+from lislab.watch import status
+from lislab.model.store import WHOLE, Add, Begin, End, StoreError
+from lislab.model.stores import open_store
+from lislab.out import aside
 from tests.host.hosts import HostTest, lislab, process, wait_for
 
 
@@ -150,7 +153,7 @@ class Asides(HostTest):
         """A delivery that runs takes up what is asked for."""
         one = Taker(self, "running", [records(["A"]), records(["A"]), records(["B"])])
         one.fails(0)
-        process(["-m", "lislink", *one.words("--aside", "1")])
+        process(["-m", "lislab", *one.words("--aside", "1")])
         self.true("others go on", wait_for(lambda: one.taken() == [2], 60), str(one.taken()))
         self.true("it is noted", wait_for(lambda: len(aside.held_of(one.cursor)) == 2, 60))
         one.fails()

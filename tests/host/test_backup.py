@@ -4,7 +4,7 @@ import os
 import sqlite3
 import subprocess
 
-from lislink.host import backup
+from lislab.cli import backup
 from tests.host.hosts import Found, Host, HostTest, acknowledged, lislab, process, sending, wait_for
 
 
@@ -22,7 +22,7 @@ class Copies(HostTest):
         host, first = Host(store), self.path("first")
         one = sending(host.port, "--analyzers", "10", "--made", "100000", "--log", log)
         self.true("messages come", wait_for(lambda: len(acknowledged(log)) > 30))
-        words = ["-m", "lislink", "deliver", "--store", store, "--cursor", cursor, "--directory", first]
+        words = ["-m", "lislab", "deliver", "--store", store, "--cursor", cursor, "--directory", first]
         delivery = process(words, stderr=subprocess.DEVNULL)
         self.true("delivered", wait_for(lambda: len(glob.glob(f"{first}/*")) > 10))
         delivery.terminate()

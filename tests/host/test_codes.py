@@ -9,12 +9,13 @@ import random
 import re
 import sys
 
-from lislink.delivery import codes, fhir, oru
-from lislink.delivery.failures import Quarantined
-from lislink.delivery.results import Coded, Reading, Told, report_of
-from lislink.delivery.tables import tables_of
-from lislink.host import deliver, export
-from lislink.host.options import OptionError
+from lislab.model import codes
+from lislab.out import fhir, oru
+from lislab.model.failures import Quarantined
+from lislab.model.results import Coded, Reading, Told, report_of
+from lislab.out.tables import tables_of
+from lislab.out import deliver, export
+from lislab.model.options import OptionError
 from lislink.message import Found, read_all
 from tests.host import fhir_r4
 from tests.host.hosts import HostTest, lislab

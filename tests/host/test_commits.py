@@ -3,10 +3,10 @@ import asyncio
 import unittest.mock
 from collections import Counter
 
-from lislink.host import line
-from lislink.host.commits import Committer
-from lislink.host.options import Limits
-from lislink.host.store import StoreError
+from lislab.host import line
+from lislab.host.commits import Committer
+from lislab.model.options import Limits
+from lislab.model.store import StoreError
 from tests.host.hosts import HostTest
 from tests.host.test_repeats import begun, ended
 

@@ -6,10 +6,11 @@ import socket
 import time
 import unittest.mock
 
-from lislink.host import lines, options, serve
-from lislink.host.store import open_store
-from lislink.orders.book import open_book
-from lislink.orders.order import Order
+from lislab.model import lines, options
+from lislab.host import serve
+from lislab.model.stores import open_store
+from lislab.model.books import open_book
+from lislink.order import Order
 from tests.host.hosts import NEVER, Found, Host, HostTest, lislab, trouble, wait_for
 from tests.host.plain import ACK, ENQ, EOT, Gone, Plain, frame, samples_of
 from tests.host.test_lines import TEXTS, Client

@@ -15,10 +15,11 @@ import threading
 import time
 import unittest.mock
 
-from lislink.delivery import aside, https, oru
-from lislink.delivery.failures import Refused, Unreachable
-from lislink.host import deliver
-from lislink.host.store import WHOLE, Add, Begin, End, open_store
+from lislab.out import aside, https, oru
+from lislab.model.failures import Refused, Unreachable
+from lislab.out import deliver
+from lislab.model.store import WHOLE, Add, Begin, End
+from lislab.model.stores import open_store
 from tests.host import hosts
 from tests.host.hosts import ENV, HostTest, lislab, process, wait_for
 from tests.host.test_aside import keep, records
@@ -184,7 +185,7 @@ class Deliver(HostTest):
         words = ["--store", store, "--cursor", cursor, "--aside", "1", "--", sys.executable, "-c", SLOW, log]
         for _ in range(2):
             count = len(rows_of(log))
-            one = process(["-m", "lislink", "deliver", *words])
+            one = process(["-m", "lislab", "deliver", *words])
             self.true("it tries", wait_for(lambda count=count: len(rows_of(log)) > count, 30))
             one.send_signal(signal.SIGTERM)
             self.same("it ends", one.wait(30), 128 + signal.SIGTERM)
@@ -196,11 +197,11 @@ class Deliver(HostTest):
         store, cursor, log = self.path("killed.db"), self.path("killed.cursor"), self.path("killed.log")
         keep(store, [records(["A"], str(at)) for at in range(3)])
         words = ["deliver", "--store", store, "--cursor", cursor, "--once", "--", sys.executable, "-c", SLOW, log]
-        one = process(["-m", "lislink", *words])
+        one = process(["-m", "lislab", *words])
         self.true("it begins", wait_for(lambda: rows_of(log), 30))
         one.kill()
         one.wait()
-        again = process(["-m", "lislink", *words], stderr=subprocess.PIPE)
+        again = process(["-m", "lislab", *words], stderr=subprocess.PIPE)
         said = again.stderr.readline()
         self.has("it waits", said, "a command of a delivery that was killed still runs, and is waited for")
         self.same("nothing else begins", rows_of(log), ["begins 1"])
@@ -257,7 +258,7 @@ class Deliver(HostTest):
         keep(store, [message("P|1", "O|1|S", *rows)])
         words = ["deliver", "--store", store, "--cursor", self.path("memory.cursor"), "--once", "--format", "oru"]
         done = subprocess.run(
-            [sys.executable, "-m", "lislink", *words, "--to", self.path("memory.d")], env=ENV, capture_output=True,
+            [sys.executable, "-m", "lislab", *words, "--to", self.path("memory.d")], env=ENV, capture_output=True,
             text=True, check=False, preexec_fn=lambda: resource.setrlimit(resource.RLIMIT_AS, (1 << 30, 1 << 30)))
         self.same("it is delivered", (done.returncode, done.stderr), (0, "lislab: 1 messages delivered\n"))
         (name,) = os.listdir(self.path("memory.d"))
@@ -283,7 +284,7 @@ class Killed(Certified, HostTest):
         kills, rng, each = hosts.size("deliveries"), random.Random(name), 8
         store, cursor = self.path(f"{name}.db"), self.path(f"{name}.cursor")
         keys = keep(store, [records([f"S{at % 7}"], str(at)) for at in range(kills * each)])
-        words = ["-m", "lislink", "deliver", "--store", store, "--cursor", cursor, "--seconds", "20", "--to", *to]
+        words = ["-m", "lislab", "deliver", "--store", store, "--cursor", cursor, "--seconds", "20", "--to", *to]
         for kill in range(kills):
             one = process(words)
             wanted = kill * each + rng.randint(1, each)

@@ -4,10 +4,10 @@ import re
 import signal
 import sys
 
-from lislink.host.store import open_store
-from lislink.watch import client, metrics, notify, page, plot
-from lislink.watch.deliveries import deliveries_of
-from lislink.watch.tally import Tally
+from lislab.model.stores import open_store
+from lislab.watch import client, metrics, notify, page, plot
+from lislab.watch.deliveries import deliveries_of
+from lislab.watch.tally import Tally
 from tests.host.hosts import HostTest, lislab, process, wait_for
 from tests.host.test_aside import TAKER, keep, records
 from tests.host.test_deliver import RACK
@@ -39,7 +39,7 @@ class Deliveries(HostTest):
             file.write(keys[0])
         words = ["deliver", "--store", store, "--cursor", cursor, "--format", "oru", "--", sys.executable, "-c", TAKER,
                  self.path("rows.taken"), bad]
-        one = process(["-m", "lislink", *words])
+        one = process(["-m", "lislab", *words])
         self.true("it fails", wait_for(lambda: os.path.exists(cursor + ".state"), 30))
         state, verdict, says = self.rows(store, cursor)[name]
         self.same("so it is bad", (state, verdict), ("bad", "delivery-fails"))

@@ -5,9 +5,9 @@ import os
 import re
 
 from lislink.capture import read_capture
-from lislink.host.intake import Held, Intake
-from lislink.host.mend import MOST
-from lislink.host.store import MENDED, WHOLE, Begin, End
+from lislab.host.intake import Held, Intake
+from lislab.host.mend import MOST
+from lislab.model.store import MENDED, WHOLE, Begin, End
 from tests import ROOT
 from tests.host.hosts import Found, Host, HostTest
 from tests.host.test_lines import ACK, EOT

@@ -3,12 +3,12 @@ something about them."""
 import re
 import threading
 
-from lislink.host import status
-from lislink.host.store import open_store
-from lislink.orders.book import open_book
-from lislink.orders.order import Order
-from lislink.watch.notify import Notifier
-from lislink.watch.unix import ask
+from lislab.watch import status
+from lislab.model.stores import open_store
+from lislab.model.books import open_book
+from lislink.order import Order
+from lislab.watch.notify import Notifier
+from lislab.model.unix import ask
 from tests.host.hosts import Host, HostTest, lislab, wait_for
 from tests.host.plain import ACK, ENQ, NAK, Gone, Plain, samples_of
 from tests.host.test_orders import SLOW, states

@@ -14,10 +14,10 @@ import threading
 import time
 import urllib.parse
 
-from lislink.host import deliver
-from lislink.host.options import OptionError
-from lislink.delivery import aside, fhir, https, mllp, oru
-from lislink.delivery.results import Coded, Reading, Told
+from lislab.out import deliver
+from lislab.model.options import OptionError
+from lislab.out import aside, fhir, https, mllp, oru
+from lislab.model.results import Coded, Reading, Told
 from tests.host import fhir_r4
 from tests.host.hosts import HostTest, lislab
 from tests.host.test_aside import keep, records

@@ -4,9 +4,13 @@ import json
 import os
 import unittest.mock
 
-from lislink import cli
-from lislink.host import deliver, export, serve, status, tape
-from lislink.host.store import UNFINISHED, WHOLE, Add, Begin, End, StoreError, open_store
+from lislab.cli import main as cli
+from lislab.out import deliver, export
+from lislab.host import serve
+from lislab.watch import status
+from lislab.diagnosis import tape
+from lislab.model.store import UNFINISHED, WHOLE, Add, Begin, End, StoreError
+from lislab.model.stores import open_store
 from tests.host.hosts import HostTest
 
 BODY = b"H|\\^&|||A\rL|1|N\r"

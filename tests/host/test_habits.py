@@ -3,11 +3,11 @@ memory and not compared with the manuals: what goes out of each as ORU, FHIR and
 import decimal
 from typing import NamedTuple, Tuple
 
-from lislink.delivery import fhir, oru
-from lislink.delivery.codes import LEAVE_OUT, Code, Codes
-from lislink.delivery.failures import Quarantined
-from lislink.delivery.results import Reading, Told
-from lislink.host import export
+from lislab.out import fhir, oru
+from lislab.model.codes import LEAVE_OUT, Code, Codes
+from lislab.model.failures import Quarantined
+from lislab.model.results import Reading, Told
+from lislab.out import export
 from tests.host import told
 from tests.host.hosts import HostTest
 from tests.host.test_told import message, stored

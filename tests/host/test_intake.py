@@ -5,10 +5,10 @@ import tracemalloc
 import unittest.mock
 
 from lislink import Found, read_all
-from lislink.host import intake
-from lislink.host.duplex import Asking
-from lislink.host.intake import Held, Intake
-from lislink.host.store import WHOLE, Add, Begin
+from lislab.host import intake
+from lislab.host.duplex import Asking
+from lislab.host.intake import Held, Intake
+from lislab.model.store import WHOLE, Add, Begin
 from tests.host import hosts
 from tests.host.hosts import HostTest
 

@@ -7,12 +7,12 @@ import time
 import unittest.mock
 from collections import Counter
 
-from lislink.host.asleep import Asleep
-from lislink.host.line import Line
-from lislink.host.options import Limits
-from lislink.host.turns import Turns
-from lislink.orders.book import open_book
-from lislink.orders.order import Order
+from lislab.host.asleep import Asleep
+from lislab.host.line import Line
+from lislab.model.options import Limits
+from lislab.host.turns import Turns
+from lislab.model.books import open_book
+from lislink.order import Order
 from tests.host.hosts import ENV, Found, Host, HostTest, lislab, wait_for
 from tests.host.plain import ACK, ENQ, NAK, Gone, Plain, frame, samples_of
 from tests.host.test_orders import SLOW, states

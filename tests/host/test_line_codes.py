@@ -9,14 +9,15 @@ import signal
 import subprocess
 import unittest.mock
 
-from lislink import cli
-from lislink.delivery import codes
-from lislink.delivery.tables import Tables
-from lislink.host import lines, options
-from lislink.host.intake import Held, Intake
-from lislink.host.options import OptionError
-from lislink.host.store import WHOLE, Add, Begin, End, open_store
-from lislink.host.unknown import Unknown
+from lislab.cli import main as cli
+from lislab.model import codes
+from lislab.out.tables import Tables
+from lislab.model import lines, options
+from lislab.host.intake import Held, Intake
+from lislab.model.options import OptionError
+from lislab.model.store import WHOLE, Add, Begin, End
+from lislab.model.stores import open_store
+from lislab.host.unknown import Unknown
 from lislink.message import Found, read_all
 from tests.host.hosts import HostTest, Host, lislab, process, wait_for
 from tests.host.test_aside import keep
@@ -143,7 +144,7 @@ class LineCodes(HostTest):
         store, folder = self.path("runs.db"), self.path("out")
         keep(store, [BODY], "a")
         words = ["--store", store, "--cursor", self.path("runs.cursor"), "--lines", file, "--to", folder]
-        one = process(["-m", "lislink", "deliver", *words], stderr=subprocess.DEVNULL)
+        one = process(["-m", "lislab", "deliver", *words], stderr=subprocess.DEVNULL)
 
         def names():
             """The files that are whole."""
@@ -213,9 +214,9 @@ class LineCodes(HostTest):
         self.true(f"the status has {status}", wait_for(wanted), shown())
         row = lislab("watch", "--store", host.store, "--once").stdout.splitlines()[0]
         self.true(f"the row ends with {watch}", row.endswith(watch) and ("lacks" in row) == bool(watch), row)
-        from lislink.watch.client import Host as Looks
-        from lislink.watch.metrics import metrics_of
-        from lislink.watch.unix import socket_of
+        from lislab.watch.client import Host as Looks
+        from lislab.watch.metrics import metrics_of
+        from lislab.model.unix import socket_of
         found = metrics_of(Looks(host.store, socket_of(f"{host.store}.status")).look(), {}, {})
         self.has("metrics", found, f'lislab_unknown_codes_total{{line="a"}} {count}\n')
 

@@ -11,7 +11,8 @@ from collections import Counter
 
 from lislink import FrameFault, frame_bytes
 from lislink.link import LONG_FRAME_TEXT
-from lislink.host import line, options, serve
+from lislab.host import line, serve
+from lislab.model import options
 from tests.host.hosts import NEVER, Found, Host, HostTest, lislab, sending, wait_for
 
 #: The timers of tests in which they run out while a frame is answered in time: 15 seconds are 0.75.

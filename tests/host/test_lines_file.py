@@ -9,7 +9,8 @@ import threading
 import unittest.mock
 
 from lislink import frame_bytes
-from lislink.host import lines, options, serve
+from lislab.model import lines, options
+from lislab.host import serve
 from lislink.link import LONG_FRAME_TEXT
 from tests.host import hosts
 from tests.host.hosts import (
@@ -154,7 +155,7 @@ class LinesFile(HostTest):
             ),
         ):
             self.written("command.lines", text)
-            one = process(["-m", "lislink", "lines", file, *words], stdout=-1, stderr=-1, env=env)
+            one = process(["-m", "lislab", "lines", file, *words], stdout=-1, stderr=-1, env=env)
             said = (*one.communicate(), one.returncode)
             self.same(f"{text!r}", said, (shown, "", status))
 

@@ -5,7 +5,7 @@ import subprocess
 import sys
 import time
 
-from lislink.host.store import open_store
+from lislab.model.stores import open_store
 from tests.host import hosts
 from tests.host.hosts import Found, Host, HostTest, acknowledged, sending
 

@@ -17,11 +17,12 @@ from unittest import mock
 import lislink
 from lislink import Receiver, frame_bytes, read_all
 from lislink.capture import read_capture
-from lislink.host import lines, mend, options
-from lislink.host.feeds import LineFeeds
-from lislink.host.intake import Held, Intake
-from lislink.host.mender import Mender, Workers
-from lislink.host.store import WHOLE, Add, Begin, End
+from lislab.model import lines, options
+from lislab.host import mend
+from lislab.host.feeds import LineFeeds
+from lislab.host.intake import Held, Intake
+from lislab.host.mender import Mender, Workers
+from lislab.model.store import WHOLE, Add, Begin, End
 from lislink.link import FRAME_TEXT, LONG_FRAME_TEXT
 from tests.host.hosts import ROOT, Found, Host, HostTest, lislab, wait_for
 from tests.host.plain import frame

@@ -12,13 +12,13 @@ import threading
 import time
 import unittest
 
-from lislink.host import deliver, export
-from lislink.host.options import OptionError
-from lislink.host.store import UNFINISHED
-from lislink.delivery import mllp, oru
-from lislink.delivery.codes import Code, Codes
-from lislink.delivery.failures import Quarantined
-from lislink.delivery.results import Coded, Reading, Told
+from lislab.out import deliver, export
+from lislab.model.options import OptionError
+from lislab.model.store import UNFINISHED
+from lislab.out import mllp, oru
+from lislab.model.codes import Code, Codes
+from lislab.model.failures import Quarantined
+from lislab.model.results import Coded, Reading, Told
 from tests import kit
 from tests.host import fhir_r4, hosts, test_told, told
 from tests.host.hosts import ENV, HostTest, lislab, process, wait_for
@@ -447,7 +447,7 @@ class Receivers(WithLibrary):
 
     def run_it(self, *words):
         """Runs a command with the library."""
-        command = [sys.executable, "-m", "lislink", *words]
+        command = [sys.executable, "-m", "lislab", *words]
         return subprocess.run(command, capture_output=True, text=True, env=self.env, timeout=120, check=False)
 
     def test_kills(self):
@@ -459,7 +459,7 @@ class Receivers(WithLibrary):
         keys = [oru.control_id(key) for key in keep(store, [records([one], str(at)) for at, one in enumerate(samples)])]
         receiver, port = self.receiver(0, log)
         words = ["--store", store, "--cursor", self.path("kills.cursor"), "--to", f"mllp://127.0.0.1:{port}"]
-        process(["-m", "lislink", "deliver", *words], env=self.env)
+        process(["-m", "lislab", "deliver", *words], env=self.env)
         kills = size // 100 + 2
         for kill in range(1, kills + 1):
             count = size * kill // (kills + 1)

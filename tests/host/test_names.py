@@ -1,5 +1,5 @@
 """A name that no line has: each command that takes one says which there are."""
-from lislink.host.store import UNFINISHED
+from lislab.model.store import UNFINISHED
 from tests.host.hosts import Host, HostTest, lislab
 from tests.host.test_lines import TEXTS, Client
 from tests.host.test_watch_page import SCRIPT, Parser, Site, fill, whole

@@ -5,7 +5,7 @@ import hashlib
 import random
 from collections import Counter
 
-from lislink.watch.unix import ask
+from lislab.model.unix import ask
 from tests.host import hosts
 from tests.host.hosts import Found, Host, HostTest, wait_for
 from tests.host.plain import ACK, ENQ, EOT, ETB, ETX, NAK, frame

@@ -7,11 +7,11 @@ import select
 import time
 
 from lislink import FrameFault
-from lislink.host.notices import CONNECTION, FRAME, LETTERS, Notices, Watch
+from lislab.diagnosis.notices import CONNECTION, FRAME, LETTERS, Notices, Watch
 from lislink.letters import NOT_LATIN, UTF_8, Letters, looks_like
 from lislink.link import Note, Step
-from lislink.orders.book import open_book
-from lislink.orders.order import Order
+from lislab.model.books import open_book
+from lislink.order import Order
 from tests.host.hosts import Found, Host, HostTest, lislab, trouble, wait_for
 from tests.host.test_lines import ACK, ENQ, EOT, NAK, Client, frames, session
 

@@ -1,8 +1,8 @@
 """Files of orders, the records of orders, and what a query asks for."""
-from lislink.orders.asks import Asks
-from lislink.orders.book import Wanted
-from lislink.orders.order import ANSWERED, QUERIED, Order, OrderError, failure, nothing_of, orders_of, texts_of
-from lislink.orders.query import echoed, query_of
+from lislab.model.asks import Asks
+from lislab.model.book import Wanted
+from lislink.order import ANSWERED, QUERIED, Order, OrderError, failure, nothing_of, orders_of, texts_of
+from lislab.model.query import echoed, query_of
 from lislink.records import messages
 from tests.host.hosts import HostTest
 

@@ -11,13 +11,14 @@ import time
 import unittest.mock
 from collections import Counter
 
-from lislink.host.duplex import TwoWayLine
-from lislink.host.options import Limits
-from lislink.host.outbox import Batch, Desk, Outbox, Site
-from lislink.host.store import open_store
-from lislink.host.turns import Turns
-from lislink.orders.book import LOT, PERHAPS, Wanted, open_book
-from lislink.orders.order import Order
+from lislab.host.duplex import TwoWayLine
+from lislab.model.options import Limits
+from lislab.host.outbox import Batch, Desk, Outbox, Site
+from lislab.model.stores import open_store
+from lislab.host.turns import Turns
+from lislab.model.book import LOT, PERHAPS, Wanted
+from lislab.model.books import open_book
+from lislink.order import Order
 from tests.host import hosts
 from tests.host.hosts import SCALE, Host, HostTest, lislab, wait_for
 from tests.host.plain import ACK, ENQ, NAK, Gone, Plain, query, samples_of
@@ -497,7 +498,7 @@ class Answers(HostTest):
             outbox = Outbox(lambda: self.fail("a store is asked"), [hosts.sys.executable, file], 1, SLOW, print)
             return await asyncio.gather(*(outbox.answer(site, [], asked) for _ in range(8)))
 
-        with unittest.mock.patch("lislink.host.outbox.COMMAND", 600.0):
+        with unittest.mock.patch("lislab.host.outbox.COMMAND", 600.0):
             found = asyncio.run(answers())
         self.same("answers", [one.batch.texts for one in found], [query("S7")] * 8)
         with open(file + ".counts", encoding="ascii") as counts:

@@ -5,8 +5,9 @@ import socket
 import threading
 import time
 
-from lislink.orders.book import PERHAPS, open_book
-from lislink.orders.order import Order
+from lislab.model.book import PERHAPS
+from lislab.model.books import open_book
+from lislink.order import Order
 from tests.host import hosts
 from tests.host.hosts import Host, HostTest, wait_for
 from tests.host.plain import ACK, Gone, Plain, query

@@ -8,8 +8,9 @@ import subprocess
 import sys
 import time
 
-from lislink import Message, Row, cli
-from lislink.host.store import open_store
+from lislink import Message, Row
+from lislab.cli import main as cli
+from lislab.model.stores import open_store
 from lislink.message import NAMES
 from lislink.rows import marks_of
 from tests import ROOT
@@ -55,7 +56,7 @@ with open(sys.argv[1], "ab") as file:
 def taken(words, path, fault=None):
     """What a command that fails each other time has taken, without repeats."""
     taker = ["--once", "--", sys.executable, "-c", TAKER, path]
-    program = [FAULTY, fault] if fault else ["-m", "lislink"]
+    program = [FAULTY, fault] if fault else ["-m", "lislab"]
     for _ in range(20):
         done = subprocess.run([sys.executable, *program, *words, *taker], capture_output=True, env=ENV, check=False)
         if done.returncode == 0:
@@ -172,7 +173,7 @@ class OutOf:
         words = ["deliver", "--store", self.store, "--cursor", cursor, "--directory", folder]
         shown = lislab("status", "--store", self.store, "--cursor", cursor).stdout
         self.has("the status before it", shown, "3 messages not delivered, the oldest of 2")
-        going = subprocess.Popen([sys.executable, "-m", "lislink", *words], stderr=subprocess.DEVNULL, env=ENV)
+        going = subprocess.Popen([sys.executable, "-m", "lislab", *words], stderr=subprocess.DEVNULL, env=ENV)
         self.true("it begins", wait_for(lambda: os.path.exists(cursor)))
         second = lislab(*words, "--once")
         self.same("one at a time", (second.returncode, "another delivery" in second.stderr), (3, True))
@@ -282,7 +283,7 @@ class Files(HostTest):
     def test_no_library(self):
         """Without the library a host doesn't start, since it could answer nobody."""
         done = subprocess.run(
-            [sys.executable, "-m", "lislink", "serve", "--store", self.path("none.db"), "--listen", "0"],
+            [sys.executable, "-m", "lislab", "serve", "--store", self.path("none.db"), "--listen", "0"],
             env={**ENV, "LISLINK_LIBRARY": self.path("none.so")},
             capture_output=True,
             text=True,

@@ -2,8 +2,8 @@
 import random
 import re
 
-from lislink.host import lines, options
-from lislink.host.plainlink import MOST, PlainReceiver
+from lislab.model import lines, options
+from lislab.host.plainlink import MOST, PlainReceiver
 from lislink.link import Note
 from tests.host.hosts import Found, Host, HostTest, lislab, trouble, wait_for
 from tests.host.test_lines import ACK, ENQ, EOT, NAK, TEXTS, Client

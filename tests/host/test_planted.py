@@ -1,6 +1,4 @@
 """The table of planted faults, as far as it is checked without planting them."""
-import os
-
 from tests.host import SOURCE, planted
 from tests.host.hosts import HostTest
 
@@ -13,5 +11,5 @@ class Planted(HostTest):
         tests = sorted(planted.name_of(one) for one in planted.found())
         self.same("each test has a fault", sorted([*planted.FAULTS, *planted.WITH_THEIR_OWN]), tests)
         for edit in [*planted.FAULTS.values(), *planted.HARMLESS]:
-            with open(os.path.join(SOURCE, "lislink", edit.file), encoding="utf-8") as file:
+            with open(planted.path_of(edit, SOURCE), encoding="utf-8") as file:
                 self.same(f"{edit.file}: {edit.old!r}", file.read().count(edit.old), 1)

@@ -13,8 +13,9 @@ import time
 import unittest
 import unittest.mock
 
-from lislink.host import status
-from lislink.host.store import StoreError, open_store
+from lislab.watch import status
+from lislab.model.store import StoreError
+from lislab.model.stores import open_store
 from tests.host import hosts
 from tests.host.hosts import ENV, Found, Host, HostTest, acknowledged, lislab, sending, wait_for
 from tests.host.test_kills import TROUBLE

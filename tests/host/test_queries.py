@@ -7,14 +7,14 @@ import socket
 import sqlite3
 import time
 
-from lislink.host.outbox import Outbox, Site
-from lislink.host.store import StoreError
-from lislink.orders.asks import Asks
-from lislink.orders.book import open_book
-from lislink.orders.order import Order
-from lislink.orders.query import query_of
+from lislab.host.outbox import Outbox, Site
+from lislab.model.store import StoreError
+from lislab.model.asks import Asks
+from lislab.model.books import open_book
+from lislink.order import Order
+from lislab.model.query import query_of
 from lislink.records import messages
-from lislink.watch.unix import ask
+from lislab.model.unix import ask
 from tests.host import hosts
 from tests.host.hosts import Host, HostTest, lislab, wait_for
 from tests.host.plain import ACK, ENQ, EOT, NAK, Gone, Plain, is_good, samples_of

@@ -8,8 +8,9 @@ import os
 import tempfile
 import unittest.mock
 
-from lislink.host.left import left_of
-from lislink.host.store import UNFINISHED, WHOLE, Add, Begin, End, StoreError, open_store
+from lislab.host.left import left_of
+from lislab.model.store import UNFINISHED, WHOLE, Add, Begin, End, StoreError
+from lislab.model.stores import open_store
 from tests.host.hosts import HostTest, wait_for
 
 BODY = b"H|\\^&|||A\rP|1\rL|1|N\r"

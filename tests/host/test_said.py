@@ -5,11 +5,12 @@ import sys
 import threading
 import unittest.mock
 
-from lislink.host import postgresql, said, serve
-from lislink.host.commits import Committer
-from lislink.host.store import StoreError
-from lislink.orders.book import open_book
-from lislink.orders.order import Order
+from lislab.model import postgresql, said
+from lislab.host import serve
+from lislab.host.commits import Committer
+from lislab.model.store import StoreError
+from lislab.model.books import open_book
+from lislink.order import Order
 from tests.host.hosts import Host, HostTest, lislab
 from tests.host.test_lines import ACK, ENQ, TEXTS, Client, frames
 

@@ -14,9 +14,10 @@ import time
 import tty
 import unittest.mock
 
-from lislink.host import options, serve
-from lislink.host import tty as serial
-from lislink.host.store import open_store
+from lislab.model import options
+from lislab.host import serve
+from lislab.host import tty as serial
+from lislab.model.stores import open_store
 from tests.host.hosts import ENV, SCALE, Found, Host, HostTest, acknowledged, process
 
 #: Where Debian's packages for Python are.
@@ -76,7 +77,8 @@ def folder_of_pyserial():
 #: the kernel has it, and whether pyserial was loaded.
 SHOW = """
 import fcntl, struct, sys, termios
-from lislink.host import options, tty
+from lislab.host import tty
+from lislab.model import options
 one = tty.open_serial(options.serial_of(sys.argv[1]))
 flags = termios.tcgetattr(one)
 speeds = struct.unpack("=36x2I", fcntl.ioctl(one, 0x802C542A, bytes(44)))
@@ -249,7 +251,7 @@ class Serial(HostTest):
         store, log = self.path(f"{name}.db"), self.path(f"{name}.log")
         host = Host(store, "--serial", f"{cable.names[0]}:9600,name=serial", listen=False, env=env)
         words = ["--serial", f"{cable.names[1]}:9600", "--scale", str(SCALE), "--noise", "0.001", "--tries", "0"]
-        words = ["-m", "lislink", "send", *words, "--made", "60", "--log", log, "--quiet"]
+        words = ["-m", "lislab", "send", *words, "--made", "60", "--log", log, "--quiet"]
         one = process(words, stdout=subprocess.DEVNULL, stderr=subprocess.DEVNULL, env=env)
         for _ in range(3):
             time.sleep(0.7)

@@ -8,9 +8,10 @@ import re
 import time
 import unittest.mock
 
-from lislink import cli
-from lislink.host import options, serve
-from lislink.host.store import open_store
+from lislab.cli import main as cli
+from lislab.model import options
+from lislab.host import serve
+from lislab.model.stores import open_store
 from tests.host.hosts import HostTest
 
 

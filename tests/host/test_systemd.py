@@ -10,7 +10,8 @@ import subprocess
 import sys
 import unittest.mock
 
-from lislink.host import notices, said
+from lislab.diagnosis import notices
+from lislab.model import said
 from tests import ROOT, kit
 from tests.host.hosts import ENV, Host, HostTest, lislab, wait_for
 
@@ -137,7 +138,7 @@ class Systemd(HostTest):
 
     def takes(self, words):
         """Whether lislab takes the words of a unit: all but the files that aren't here."""
-        program = "import sys; from lislink import cli; print(cli.parser().parse_args(sys.argv[1:]).command)"
+        program = "import sys; from lislab.cli import main as cli; print(cli.parser().parse_args(sys.argv[1:]).command)"
         done = subprocess.run([sys.executable, "-c", program, *words], env=ENV, capture_output=True, text=True, check=False)
         self.same(" ".join(words), (done.returncode, done.stdout.strip()), (0, words[0]))
 

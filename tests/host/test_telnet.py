@@ -2,10 +2,10 @@
 import random
 import socket
 
-from lislink.host import lines, options
-from lislink.host.telnet import Telnet
-from lislink.orders.book import open_book
-from lislink.orders.order import Order
+from lislab.model import lines, options
+from lislab.host.telnet import Telnet
+from lislab.model.books import open_book
+from lislink.order import Order
 from tests.host.hosts import Found, Host, HostTest, wait_for
 from tests.host.plain import ACK, ENQ, EOT, Plain, frame, samples_of
 from tests.host.test_orders import states

@@ -6,10 +6,10 @@ import unittest.mock
 from collections import Counter
 
 from lislink import frame_bytes
-from lislink.host import serve, turns as turn
-from lislink.host.commits import Committer
+from lislab.host import serve, turns as turn
+from lislab.host.commits import Committer
 from lislink.link import LONG_FRAME_TEXT, Note, Step
-from lislink.watch.pulse import Probe, Pulse
+from lislab.diagnosis.pulse import Probe, Pulse
 from tests.host.hosts import Host, HostTest, wait_for
 from tests.host.test_lines import ACK, ENQ, NAK, TEXTS, Client
 

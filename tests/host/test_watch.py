@@ -14,14 +14,14 @@ from collections import Counter
 from typing import Callable, NamedTuple
 
 from lislink.capture import Capture, Line, read_capture
-from lislink.field.ladder import Ladder
-from lislink.host.store import open_store
+from lislab.field.ladder import Ladder
+from lislab.model.stores import open_store
 from lislink.link import Receiver
-from lislink.watch import ring
-from lislink.watch.live import LiveLadder
-from lislink.watch.pulse import Probe, Pulse
-from lislink.watch.unix import WatchError, ask
-from lislink.watch.verdicts import Meaning
+from lislab.diagnosis import ring
+from lislab.watch.live import LiveLadder
+from lislab.diagnosis.pulse import Probe, Pulse
+from lislab.model.unix import WatchError, ask
+from lislab.diagnosis.verdicts import Meaning
 from tests.host.hosts import Host, HostTest, lislab, process, say, wait_for
 from tests.host.plain import frame
 from tests.host.test_lines import ACK, ENQ, EOT, NAK, TEXTS, Client, frames, session
@@ -367,7 +367,7 @@ class Watch(HostTest):
         `watch` that isn't a terminal prints a row when its line changes."""
         host, rows, states = Host(self.path("goes.db"), scale=1.0), [], []
         for words, found in ((["--line", "fire"], rows), ([], states)):
-            words = ["-m", "lislink", "watch", "--store", host.store, "--every", "0.1", *words]
+            words = ["-m", "lislab", "watch", "--store", host.store, "--every", "0.1", *words]
             one = process(words, stdout=subprocess.PIPE, stderr=subprocess.STDOUT)
             threading.Thread(target=lambda one=one, found=found: found.extend(one.stdout), daemon=True).start()
 

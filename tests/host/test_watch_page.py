@@ -15,13 +15,14 @@ import threading
 import time
 import unittest.mock
 
-from lislink.host.deliver import read_took
-from lislink.host.export import time_text
-from lislink.host.store import UNREADABLE, WHOLE, Add, Begin, End, open_store
-from lislink.watch import metrics, page, plot, tally, web
-from lislink.watch.client import Host as Seen
-from lislink.watch.notify import Notifier
-from lislink.watch.web import Asked, Pages, Server
+from lislab.out.deliver import read_took
+from lislab.out.export import time_text
+from lislab.model.store import UNREADABLE, WHOLE, Add, Begin, End
+from lislab.model.stores import open_store
+from lislab.watch import metrics, page, plot, tally, web
+from lislab.watch.client import Host as Seen
+from lislab.watch.notify import Notifier
+from lislab.watch.web import Asked, Pages, Server
 from tests import ROOT
 from tests.field.test_browser import PICTURES, browser, chromium
 from tests.host.hosts import ENV, Host, HostTest, lislab, process, wait_for
@@ -246,7 +247,7 @@ class Looks(HostTest):
             with open(secret, "w", encoding="ascii") as file:
                 file.write(text)
             os.chmod(secret, mode)
-            done = subprocess.run([sys.executable, "-m", "lislink", "watch", "--store", store, *words], env=ENV,
+            done = subprocess.run([sys.executable, "-m", "lislab", "watch", "--store", store, *words], env=ENV,
                                   capture_output=True, text=True, timeout=WAIT, check=False)
             self.same(f"{words}: status", done.returncode, 2)
             self.has(f"{words}", done.stderr, wanted)
@@ -492,7 +493,7 @@ class Looks(HostTest):
         with open(script, "w", encoding="ascii") as file:
             file.write("import os\nline, state = os.environ['LISLAB_LINE'], os.environ['LISLAB_STATE']\n")
             file.write(f"open({out!r}, 'a').write(line + state + ' ')\n")
-        words = ["-m", "lislink", "watch", "--store", host.store, "--http", "127.0.0.1:0", "--every", "0.1",
+        words = ["-m", "lislab", "watch", "--store", host.store, "--http", "127.0.0.1:0", "--every", "0.1",
                  "--notify", f"{sys.executable} {script}"]
         one = process(words, stdout=subprocess.PIPE, stderr=subprocess.PIPE)
         port = int(re.search(r"listening http://127\.0\.0\.1:(\d+)/", one.stdout.readline())[1])

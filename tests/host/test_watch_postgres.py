@@ -1,8 +1,8 @@
 """What `lislab watch` says of a host whose store is PostgreSQL, also when the server is gone; what its pages read."""
 import time
 
-from lislink.watch import plot, tally
-from lislink.watch.unix import ask
+from lislab.watch import plot, tally
+from lislab.model.unix import ask
 from tests.host.hosts import Host, HostTest, lislab, wait_for
 from tests.host.test_lines import ACK, ENQ, TEXTS, Client, frames
 from tests.host.test_postgres import the_server

@@ -1,4 +1,4 @@
-"""The wheel of the Python package: `pip install ./python`, and from the sdist alone, by a C compiler and no kit.
+"""The wheels of the Python packages: `pip install ./python ./lab`, and from the sdist alone, by a C compiler and no kit.
 
 It is installed in a folder of its own and found from anywhere; its tag is that of the compiler's platform. What is
 older than crates/ isn't built. It asks no network: pip takes Debian's setuptools.
@@ -14,7 +14,7 @@ import zipfile
 
 from tests import ROOT, kit
 from tests.install.test_build import dist_of, says_so, write
-from tests.install.test_install import version
+from tests.install.test_install import files, version
 
 PARTS = ("setuptools", "wheel", "pip")
 PYTHON = os.path.join(ROOT, "python")
@@ -54,7 +54,7 @@ class Wheel(kit.Test):
     def setUp(self):
         """A copy of the repository whose SUMS says that dist/ is of the crates there."""
         self.work = kit.folder_of(self)
-        self.needs("pip", builder(), 11, "the wheel")
+        self.needs("pip", builder(), 13, "the wheels")
         self.copy = f"{self.work}/copy"
         os.mkdir(self.copy)
         left_out = shutil.ignore_patterns("out", "must-fail", "mutants", "harmless")
@@ -64,7 +64,8 @@ class Wheel(kit.Test):
                 shutil.copytree(path, f"{self.copy}/{name}", ignore=left_out)
             else:
                 shutil.copy(path, f"{self.copy}/{name}")
-        shutil.copytree(dist_of(kit.built("build")), f"{self.copy}/dist")
+        for name, path in (("lab", f"{ROOT}/lab"), ("dist", dist_of(kit.built("build")))):
+            shutil.copytree(path, f"{self.copy}/{name}", ignore=shutil.ignore_patterns("__pycache__", ".mypy_cache"))
         says_so(self.copy)
 
     def sdist(self):
@@ -79,6 +80,10 @@ class Wheel(kit.Test):
         said, wheels = pip_wheel(builder(), f"{self.copy}/python", f"{self.work}/wheel")
         self.same("the wheel of the folder", [os.path.basename(it) for it in wheels], [name])
         self.same("what is left in the folder", sorted(os.listdir(f"{self.copy}/python")), sorted(os.listdir(PYTHON)))
+        there = files(f"{self.copy}/lab")
+        said, lab = pip_wheel(builder(), f"{self.copy}/lab", f"{self.work}/lab")
+        self.same("that of lislab", [os.path.basename(it) for it in lab], [f"lislab-{version()}-py3-none-any.whl"])
+        self.same("what is left in its folder", files(f"{self.copy}/lab"), there)
         sdist = self.sdist()
         write(f"{self.copy}/crates/lis_text/src/lib.rt", "// a change\n", "a")
         said, none = pip_wheel(builder(), f"{self.copy}/python", f"{self.work}/old")
@@ -92,21 +97,21 @@ class Wheel(kit.Test):
         with zipfile.ZipFile(wheels[0]) as one, zipfile.ZipFile(alone[0]) as other:
             self.same("its files", {it: one.read(it) for it in one.namelist()},
                       {it: other.read(it) for it in other.namelist()})
-        self.is_installed(alone[0])
+        self.is_installed([alone[0], *lab])
 
-    def is_installed(self, wheel):
-        """The wheel in a folder of its own: the package, its library, the command and its extras."""
+    def is_installed(self, wheels):
+        """The wheels in a folder of their own: the packages, the library, the command and its extras."""
         home = f"{self.work}/home"
         venv.create(home, with_pip=False, symlinks=True)
         scheme = "venv" if "venv" in sysconfig.get_scheme_names() else "posix_prefix"
         target = sysconfig.get_path("purelib", scheme, vars={"base": home, "platbase": home})
-        words = [builder(), "-m", "pip", "install", "-q", "--no-index", "--no-deps", "--target", target, wheel]
+        words = [builder(), "-m", "pip", "install", "-q", "--no-index", "--no-deps", "--target", target, *wheels]
         self.runs(words, env=environment())
         how = {"env": environment(), "cwd": self.work}
         sample = os.path.join(ROOT, "samples", "session.capture")
-        ran = self.runs([f"{home}/bin/python", "-m", "lislink", "ladder", sample], **how)
+        ran = self.runs([f"{home}/bin/python", "-m", "lislab", "ladder", sample], **how)
         self.has("the package finds its library", ran.stdout + ran.stderr if ran else "", "texts 2, differences 0")
         code = ("import lislink; from importlib.metadata import metadata\n"
-                "print(lislink.__version__, metadata('lislink').get_all('Provides-Extra'))")
+                "print(lislink.__version__, metadata('lislab').get_all('Provides-Extra'))")
         self.runs([f"{home}/bin/python", "-c", code], f"{version()} ['hl7', 'postgres', 'serial']\n", **how)
         self.runs([f"{target}/bin/lislab", "--help"], env=environment(PYTHONPATH=target), cwd=self.work)

@@ -15,8 +15,8 @@ import time
 import tty
 import xml.etree.ElementTree
 
-from lislink.play import wire
-from lislink.play.frames import made
+from lislab.play import wire
+from lislab.play.frames import made
 from tests import kit
 from tests.host import SOURCE
 from tests.play.hosts import PLAYS, Plain, Restarts, SCALE, SHORT, UNASKED, play, read, scripts, short
@@ -219,7 +219,7 @@ class Plays(kit.Test):
         """The command as a user has it who has built nothing, with every file that it writes."""
         host, folder = Plain(self), kit.folder_of(self)
         page, xml = os.path.join(folder, "page.html"), os.path.join(folder, "plays.xml")
-        words = [sys.executable, "-m", "lislink", "play", scripts("results")[0], "--to", f"127.0.0.1:{host.port}",
+        words = [sys.executable, "-m", "lislab", "play", scripts("results")[0], "--to", f"127.0.0.1:{host.port}",
                  "--scale", str(SCALE), "--report", page, "--junit", xml, "--kept", f"cat {host.kept}"]
         env = {**os.environ, "PYTHONPATH": SOURCE, "LISLINK_LIBRARY": "/nonexistent", "PYTHONDONTWRITEBYTECODE": "1"}
         self.runs(words, re.compile(r"steps \d+ differences 0\n"), env=env, cwd=folder)
@@ -276,7 +276,7 @@ class Lines(kit.Test):
         """`lislab play` as a process that waits for a connection, and its port."""
         env = {**os.environ, "PYTHONPATH": SOURCE, "LISLINK_LIBRARY": "/nonexistent", "PYTHONDONTWRITEBYTECODE": "1"}
         how = ["--listen", "0", "--scale", str(SCALE), "--within", "5"]
-        process = subprocess.Popen([sys.executable, "-m", "lislink", "play", script, *how, *words], env=env, text=True,
+        process = subprocess.Popen([sys.executable, "-m", "lislab", "play", script, *how, *words], env=env, text=True,
                                    stdout=subprocess.PIPE, stderr=subprocess.PIPE)
         self.addCleanup(lambda: (process.kill(), process.communicate()))
         return process, process.stdout.readline().strip().rpartition(":")[2]

@@ -5,10 +5,10 @@ import random
 import time
 import tracemalloc
 
-from lislink.play import script
-from lislink.play.frames import made, read_frame, units_of
-from lislink.play.script import ScriptError, read_script, steps_of
-from lislink.play.wanted import AnyUnit, Exact, Framed, Frames, Marks, Session, differences, is_like
+from lislab.play import script
+from lislab.play.frames import made, read_frame, units_of
+from lislab.play.script import ScriptError, read_script, steps_of
+from lislab.play.wanted import AnyUnit, Exact, Framed, Frames, Marks, Session, differences, is_like
 from tests import ROOT
 from tests.field.lab import lislab
 from tests.play.hosts import read, scripts

@@ -4,8 +4,8 @@ import os
 import subprocess
 from concurrent.futures import ThreadPoolExecutor
 
-from lislink.orders.book import open_book
-from lislink.orders.order import Order
+from lislab.model.books import open_book
+from lislink.order import Order
 from tests import ROOT
 from tests.field.lab import lislab
 from tests.host.hosts import Found, Host, HostTest, lislab as run_lislab, process
@@ -91,7 +91,7 @@ class Serve(HostTest):
 
 def against_send(path):
     """Whether a play of the computer against `lislab send` has no difference, its name, and what was printed."""
-    words = ["-m", "lislink", "play", path, "--listen", "0", "--scale", str(3 * SHORT), "--within", "10"]
+    words = ["-m", "lislab", "play", path, "--listen", "0", "--scale", str(3 * SHORT), "--within", "10"]
     one = process(words, stdout=subprocess.PIPE, stderr=subprocess.PIPE)
     port = one.stdout.readline().strip().rpartition(":")[2]
     records = os.path.join(ROOT, "samples", "panel.records")

@@ -26,8 +26,8 @@ from .link import (
     frame_bytes,
 )
 from .message import Entry, Fault, Finding, Found, Message, read_all
-from .orders.order import Order, OrderError
-from .orders.order import texts_of as order_texts
+from .order import Order, OrderError
+from .order import texts_of as order_texts
 from .places import MessagePlaces, ResultView, View, message_places
 from .records import MessageError, Reader, Record, Writer, messages, next_header, records
 from .rows import Row

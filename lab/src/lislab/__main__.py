@@ -1,0 +1,7 @@
+"""`python -m lislab` is `lislab`."""
+import sys
+
+from .cli.main import main
+
+if __name__ == "__main__":
+    sys.exit(main())

@@ -1,0 +1,1 @@
+"""A simulated analyzer, which sends messages and asks for orders."""

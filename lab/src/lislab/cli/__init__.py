@@ -1,0 +1,1 @@
+"""The command `lislab`: the words of each command, and what it runs."""

@@ -1,0 +1,144 @@
+"""`lislab store`: a copy of an SQLite store as one file, with the cursors of its deliveries and what they have set aside,
+made while a host runs; and a store made of such a copy."""
+import argparse
+import contextlib
+import os
+import sqlite3
+from typing import Any, Dict, Iterator, List, Optional, Sequence
+
+from ..model.files import sync_folder, write_synced
+from ..model.options import OptionError
+from ..model.said import say
+from ..model.store import StoreError
+
+#: The table of a copy that has its cursors, and what a cursor's files end in.
+_FILES, _ENDS = "backup_file", ("", ".aside")
+#: What is next to a store while a host runs, and after it was killed.
+_BESIDE = ("", "-wal", "-shm")
+
+
+def add_command(commands: Any) -> None:
+    """Adds the command to those of lislab."""
+    store = commands.add_parser("store", help="copies an SQLite store while a host runs, and makes one of a copy")
+    deeds = store.add_subparsers(dest="deed", metavar="DEED", required=True)
+    for name, run, what in (
+        ("backup", run_backup, "a copy of the store, with the cursors of its deliveries and what they set aside"),
+        ("restore", run_restore, "the store of a copy; no file of a store may be there"),
+    ):
+        one = deeds.add_parser(name, help=what)
+        one.add_argument("--store", required=True, metavar="FILE", help="an SQLite file")
+        one.add_argument("--cursor", action="append", default=[], metavar="FILE", help="of a delivery; once for each")
+        one.add_argument("copy", metavar="COPY", help="the file of the copy")
+        one.set_defaults(run=run)
+
+
+def run_backup(ask: argparse.Namespace) -> int:
+    """Makes a copy."""
+    names = _names(ask.cursor)
+    backup(_sqlite(ask.store), names, ask.copy)
+    say(f"{ask.copy}: a copy of {ask.store}" + (f" with {', '.join(names)}" if names else ""))
+    return 0
+
+
+def run_restore(ask: argparse.Namespace) -> int:
+    """Makes a store of a copy."""
+    names = _names(ask.cursor)
+    restore(ask.copy, _sqlite(ask.store), names)
+    say(f"{ask.store}: the store of {ask.copy}" + (f" with {', '.join(names)}" if names else ""))
+    return 0
+
+
+def _sqlite(store: str) -> str:
+    if store.startswith("spool:") or "://" in store:
+        raise OptionError(f"{store} is no SQLite file: docs/SERVICE.md says how a spool and PostgreSQL are copied")
+    return store
+
+
+def _names(cursors: Sequence[str]) -> Dict[str, str]:
+    """The cursors by their names in a copy."""
+    names = {os.path.basename(path): path for path in cursors}
+    if len(names) < len(cursors):
+        raise OptionError("two cursors have one name: a copy can't tell them apart")
+    return names
+
+
+def backup(store: str, cursors: Dict[str, str], copy: str) -> None:
+    """Copies a store as it is at one moment, and its cursors as they were before it: a delivery that goes on after a
+    restore may send a message again, and leaves none out. StoreError; the copy is there whole, or not at all."""
+    if os.path.exists(copy):
+        raise StoreError(f"{copy} is there already")
+    if not os.path.exists(store):
+        raise StoreError(f"{store}: there is no such store")
+    files = [(name + end, _read(path + end)) for name, path in cursors.items() for end in _ENDS]
+    with _made(copy) as db:
+        _copied(store, db)
+        db.execute(f"CREATE TABLE {_FILES} (name TEXT PRIMARY KEY, data BLOB)")
+        db.executemany(f"INSERT INTO {_FILES} VALUES (?, ?)", [row for row in files if row[1] is not None])
+
+
+def restore(copy: str, store: str, cursors: Dict[str, str]) -> None:
+    """Makes a store of a copy, and the files of its cursors. StoreError if a file of one is there already, or the copy
+    has a cursor that isn't named."""
+    if not os.path.exists(copy):
+        raise StoreError(f"{copy}: there is no such copy")
+    targets = [store + end for end in _BESIDE] + [path + end for path in cursors.values() for end in _ENDS]
+    there = [path for path in targets if os.path.exists(path)]
+    if there:
+        raise StoreError(f"{', '.join(there)}: move it away first")
+    with _made(store) as db:
+        _copied(copy, db)
+        try:
+            files: List[Any] = db.execute(f"SELECT name, data FROM {_FILES}").fetchall()
+        except sqlite3.OperationalError:
+            raise StoreError(f"{copy} is no copy that `lislab store backup` made") from None
+        kept = {name + end: path + end for name, path in cursors.items() for end in _ENDS}
+        unnamed = [name for name, _ in files if name not in kept]
+        if unnamed:
+            raise StoreError(f"the copy has {', '.join(unnamed)}: say by --cursor where its delivery has it")
+        db.execute(f"DROP TABLE {_FILES}")
+        for name, data in files:
+            write_synced(kept[name], data)
+
+
+@contextlib.contextmanager
+def _made(path: str) -> Iterator[sqlite3.Connection]:
+    """A database that takes its name once it is on the disk, whole; its owner's alone."""
+    made = path + ".new"
+    try:
+        os.close(os.open(made, os.O_WRONLY | os.O_CREAT | os.O_TRUNC | os.O_CLOEXEC, 0o600))
+        db = sqlite3.connect(made)
+        try:
+            yield db
+            db.commit()
+            if db.execute("PRAGMA journal_mode=DELETE").fetchone()[0] != "delete":
+                raise StoreError(f"{made}: the copy isn't closed")
+            found = db.execute("PRAGMA quick_check").fetchone()[0]
+            if found != "ok":
+                raise StoreError(f"{made}: {found}")
+        finally:
+            db.close()
+        with open(made, "rb") as file:
+            os.fsync(file.fileno())
+        os.rename(made, path)
+        sync_folder(os.path.dirname(os.path.abspath(path)))
+    except (sqlite3.Error, OSError) as error:
+        raise StoreError(f"{path}: {error}") from None
+    finally:
+        with contextlib.suppress(OSError):
+            os.unlink(made)
+
+
+def _copied(source: str, target: sqlite3.Connection) -> None:
+    one = sqlite3.connect(source, timeout=5.0)
+    try:
+        one.backup(target)
+    finally:
+        one.close()
+
+
+def _read(path: str) -> Optional[bytes]:
+    try:
+        with open(path, "rb") as file:
+            return file.read()
+    except FileNotFoundError:
+        return None

@@ -1,0 +1,138 @@
+"""`lislab order`: the orders of a store are added, listed, cancelled, and sent again."""
+import argparse
+import sys
+import time
+from typing import Any, List
+
+from lislink.order import Order, orders_of
+from ..model.book import FAILED, SENT, STATES, OrderBook, Placed
+from ..model.books import open_book
+from ..model.options import OptionError
+from ..model.said import say, shown
+
+#: Exit statuses, as those of the other commands.
+GOOD, WRONG = 0, 1
+_STATES = (
+    "An order is waiting until it is sent, also after a try that failed; sent when the analyzer has acknowledged each "
+    "frame of it; done when a result of each of its tests has come; failed, with the reason, after the last try of "
+    "`serve --tries`, or if it can't be written in the line's encoding: `lislab order again NUMBER` sends it anew, "
+    "`lislab order cancel NUMBER` gives it up; cancelled, and not sent."
+)
+
+
+def add_commands(commands: Any) -> None:
+    """Adds the command to those of lislab."""
+    top = commands.add_parser("order", help="the orders of a store: add, list, cancel, again")
+    whats = top.add_subparsers(dest="what", required=True, metavar="WHAT")
+    _add_add(whats.add_parser("add", help="add the orders of a file"))
+    _add_list(whats.add_parser("list", help="list orders, each with what became of it", epilog=_STATES))
+    _add_change(whats.add_parser("cancel", help="cancel orders that aren't sent"), run_cancel)
+    _add_change(whats.add_parser("again", help="let orders wait again"), run_again)
+
+
+def _store(parser: argparse.ArgumentParser) -> None:
+    parser.add_argument("--store", required=True, metavar="STORE", help="an SQLite file, spool:DIRECTORY or postgresql://..")
+
+
+def _add_add(one: argparse.ArgumentParser) -> None:
+    _store(one)
+    one.add_argument("orders", nargs="?", default="-", help="CSV, JSON lines or records; standard input if not named")
+    one.add_argument("--line", default="", metavar="NAME", help="for this line, if a row names none")
+    one.add_argument("--some", action="store_true", help="add the good ones of a file that has others too")
+    one.add_argument("--encoding", default="utf-8", help="of the file (utf-8)")
+    one.set_defaults(run=run_add)
+
+
+def _add_list(one: argparse.ArgumentParser) -> None:
+    _store(one)
+    one.add_argument("--sample", metavar="SAMPLE", help="of this sample")
+    one.add_argument("--state", choices=STATES, help="in this state")
+    one.add_argument("--owed", action="store_true", help="those that are sent and lack a result, with the tests that do")
+    one.set_defaults(run=run_list)
+
+
+def _add_change(one: argparse.ArgumentParser, run: Any) -> None:
+    _store(one)
+    one.add_argument("numbers", nargs="+", type=int, metavar="NUMBER", help="of an order, as lislab order list has it")
+    one.set_defaults(run=run)
+
+
+def told(placed: Placed) -> str:
+    """An order in a line: its number, sample, line and tests; then its state, if it isn't new."""
+    order = placed.order
+    words = f"order {placed.number} {order.sample} {order.line or '-'} {','.join(order.tests)}"
+    if placed.state == "waiting" and not placed.reason:
+        return words
+    at = time.strftime("%Y-%m-%d %H:%M:%S", time.localtime(placed.changed))
+    where = f" on {placed.asked}:" if placed.state == FAILED and placed.asked not in ("", order.line) else ""
+    why = f"{where} {placed.reason}" if placed.reason else ""
+    return f"{words} {placed.state} {at}{why}" + (f", tried {placed.tries}" if placed.tries else "")
+
+
+def _data_of(path: str) -> bytes:
+    if path == "-":
+        return sys.stdin.buffer.read()
+    with open(path, "rb") as file:
+        return file.read()
+
+
+def run_add(ask: argparse.Namespace) -> int:
+    """Adds the orders of a file. If one of its rows is no order, nothing is added, unless `--some` is given."""
+    good: List[Order] = []
+    rejected = 0
+    try:
+        for number, found in orders_of(_data_of(ask.orders), ask.encoding):
+            if isinstance(found, str):
+                rejected += 1
+                say(f"line {number}: {found}")
+            else:
+                good.append(found._replace(line=found.line or ask.line))
+    except LookupError:
+        raise OptionError(f"there is no encoding {ask.encoding}") from None
+    if good and (ask.some or not rejected):
+        book = open_book(ask.store)
+        try:
+            for placed in book.add(good):
+                print(shown(told(placed)))
+        finally:
+            book.close()
+    else:
+        good = []
+    print(f"orders {len(good)} rejected {rejected}", flush=True)
+    return WRONG if rejected or not good else GOOD
+
+
+def run_list(ask: argparse.Namespace) -> int:
+    """Lists orders."""
+    book = open_book(ask.store, reading=True)
+    try:
+        for placed in book.listed(ask.sample, SENT if ask.owed else ask.state):
+            lacks = [test for test in placed.order.tests if test not in placed.came]
+            print(shown(told(placed) + (f", no result of {','.join(lacks)}" if ask.owed else "")))
+    finally:
+        book.close()
+    return GOOD
+
+
+def _change(ask: argparse.Namespace, change: Any, state: str, why_not: str) -> int:
+    book, status = open_book(ask.store), GOOD
+    try:
+        for number in ask.numbers:
+            if change(book, number):
+                print(f"order {number} {state}", flush=True)
+            else:
+                say(f"order {number}: {why_not}")
+                status = WRONG
+    finally:
+        book.close()
+    return status
+
+
+def run_cancel(ask: argparse.Namespace) -> int:
+    """Cancels orders."""
+    return _change(ask, OrderBook.cancel, "cancelled", "there is none that waits or has failed, or it is being sent")
+
+
+def run_again(ask: argparse.Namespace) -> int:
+    """Lets orders wait again."""
+    return _change(ask, OrderBook.again, "waiting", "there is none that is sent, failed or cancelled")

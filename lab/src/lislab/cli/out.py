@@ -1,0 +1,219 @@
+"""The commands that bring messages out of a store: `lislab deliver` and `lislab codes`."""
+import argparse
+import os
+import signal
+from types import FrameType
+from typing import Any, List, Optional
+
+from lislink._library import calls
+from ..field.table import form_of
+from ..model import codes
+from ..model.failures import Refused
+from ..model.files import is_locked
+from ..model.options import OptionError, split_peer
+from ..model.said import say
+from ..model.store import StoreError, Stored
+from ..model.stores import open_store
+from ..out import aside, https, mllp
+from ..out import deliver, export
+from ..out.tables import tables_of
+from .host import _COUNT, _FACTOR, _store, add_forms, form_asked
+
+#: Exit statuses, as those of the other commands.
+GOOD, WRONG = 0, 1
+#: Where messages go, and the form that they have there if none is named.
+_SCHEMES = {"mllp": "oru", "mllps": "oru", "https": "fhir", "http": "fhir"}
+
+
+def add_commands(commands: Any) -> None:
+    """Adds the commands to those of lislab."""
+    _add_codes(commands.add_parser("codes", help="checks a table of codes, and what a store has that it lacks"))
+    where = "delivers each whole message: to a command, a directory, MLLP or HTTPS"
+    _add_deliver(commands.add_parser("deliver", help=where))
+
+
+def _add_deliver(one: argparse.ArgumentParser) -> None:
+    _store(one)
+    one.add_argument("--cursor", required=True, metavar="FILE", help="keeps which message was delivered last")
+    one.add_argument(
+        "--to",
+        metavar="WHERE",
+        help="mllp://HOST:PORT, mllps://HOST:PORT (TLS), https://.., or a directory: a file for each message",
+    )
+    one.add_argument("--directory", metavar="DIR", help="the same as --to DIR")
+    one.add_argument(
+        "--format",
+        type=form_of,
+        choices=export.FORMATS,
+        help="(oru over MLLP, fhir over HTTPS, else records)",
+    )
+    add_forms(one)
+    one.add_argument("--ca", metavar="FILE", help="the authorities of a certificate, in PEM; else the system's")
+    one.add_argument("--headers", metavar="FILE", help="header fields for HTTPS, rows of Name: value")
+    one.add_argument(
+        "--seconds", type=_FACTOR, default=60.0, help="how long a command or an answer may take (%(default)s)"
+    )
+    one.add_argument("--once", action="store_true", help="deliver what there is, and end")
+    one.add_argument(
+        "--aside",
+        type=_COUNT,
+        default=0,
+        metavar="N",
+        help="set a message aside that failed N times, and later ones of its samples; others go on",
+    )
+    one.add_argument(
+        "--again", metavar="KEY", help="send this message that is set aside, and those of its samples; all: each one"
+    )
+    one.add_argument(
+        "words", nargs="*", metavar="COMMAND", help="after --: a command that reads a message, and its words"
+    )
+    one.set_defaults(run=run_deliver)
+
+
+def _form_of(ask: argparse.Namespace) -> export.Form:
+    """How messages are written, and that where they go fits it."""
+    where: str = ask.to or ask.directory or ""
+    if [bool(ask.to), bool(ask.directory), bool(ask.words)].count(True) != 1:
+        raise OptionError("name where to by --to or --directory, or a command after --")
+    scheme, slashes, _ = where.partition("://")
+    scheme = scheme if slashes else ""
+    if scheme not in ("", *_SCHEMES):
+        raise OptionError(f"{where}: {', '.join(f'{one}://' for one in _SCHEMES)} or a directory is wanted")
+    if (ask.ca and scheme not in ("mllps", "https")) or (ask.headers and scheme not in ("https", "http")):
+        raise OptionError("--ca is for mllps:// and https://, --headers for https://")
+    form: str = ask.format or _SCHEMES.get(scheme, "records")
+    if scheme in ("mllp", "mllps") and form != "oru":
+        raise OptionError(f"MLLP carries messages of HL7, --format oru, and not {form}")
+    return form_asked(ask, form, say)
+
+
+def _target_of(ask: argparse.Namespace, form: export.Form, lock: int) -> deliver.Target:
+    """What delivers a message, as the words have it."""
+    where: str = ask.to or ask.directory or ""
+    scheme, slashes, rest = where.partition("://")
+    scheme = scheme if slashes else ""
+    write = export.writer_of(form)
+    if scheme in ("mllp", "mllps"):
+        host, port = split_peer(rest.rstrip("/"))
+        context = https.context_of(ask.ca) if scheme == "mllps" else None
+        return mllp.to_mllp(mllp.Mllp(host, port, ask.seconds, context), write)
+    if scheme in ("https", "http"):
+        if ask.headers:
+            https.headers_of(ask.headers)
+        server = https.Https(where, ask.seconds, https.context_of(ask.ca), ask.headers)
+        return https.to_https(server, write, form.form)
+    if where:
+        return deliver.to_directory(where, form.form, write)
+    words: List[str] = ask.words
+    return deliver.to_command(words, write, ask.seconds, lock)
+
+
+def run_deliver(ask: argparse.Namespace) -> int:
+    """Delivers until it is stopped, or what there is, or what was set aside."""
+    if ask.again is not None:
+        return _run_again(ask)
+    form = _form_of(ask)
+    store = open_store(ask.store)
+    cursor = deliver.Cursor(ask.cursor, say)
+    try:
+        kept = _aside_of(ask, form)
+        target = _target_of(ask, form, cursor.lock)
+        one = deliver.Delivery(
+            store, cursor, target, say, aside=kept, wants=_wants(ask), counts=lambda: dict(form.counts)
+        )
+        signal.signal(signal.SIGTERM, _stop)
+        count = deliver.run(one, ask.once)
+        say(f"{count.delivered} messages delivered")
+        for text in [f"{count.empty} messages had nothing to deliver"] if count.empty else []:
+            say(text)
+        for text in export.counted_texts(form):
+            say(text)
+        if kept.held:
+            say(f"{len(kept.held)} messages are set aside")
+        return WRONG if kept.held else GOOD
+    except Refused:
+        return WRONG
+    except deliver.Stopped:
+        return 128 + signal.SIGTERM
+    finally:
+        cursor.close()
+        store.close()
+
+
+def _stop(number: int, frame: Optional[FrameType]) -> None:
+    """The delivery is asked to end: the try that goes on isn't counted."""
+    raise deliver.Stopped
+
+
+def _wants(ask: argparse.Namespace) -> "deliver.Wants":
+    """Which messages are delivered at all."""
+    line, repeats = ask.line, not ask.without_repeats
+    return lambda one: (line is None or one.line == line) and (repeats or one.again_of is None)
+
+
+def _aside_of(ask: argparse.Namespace, form: export.Form) -> aside.Aside:
+    kept = aside.Aside(ask.cursor, int(ask.aside), *([form.tables.reading] if form.tables else []))
+    if kept.most or kept.held:
+        calls()  # without the library no sample could be read
+    return kept
+
+
+def _run_again(ask: argparse.Namespace) -> int:
+    """Sends what is set aside; if a delivery has the cursor, that one is asked to."""
+    if not aside.is_key(ask.again):
+        raise OptionError(f"--again {ask.again}: the key of a message is wanted, or the word all")
+    named = aside.Aside(ask.cursor).together(ask.again)
+    if not named:
+        say(f"{ask.cursor}: nothing is set aside" + ("" if ask.again == aside.ALL else f" by the key {ask.again}"))
+        return WRONG
+    if _is_taken(ask.cursor):
+        aside.wish(ask.cursor, ask.again)
+        say(f"{len(named)} messages are sent by the delivery that has {ask.cursor}")
+        return GOOD
+    form = _form_of(ask)
+    store = open_store(ask.store)
+    cursor = deliver.Cursor(ask.cursor, say)
+    try:
+        target = _target_of(ask, form, cursor.lock)
+        one = deliver.Delivery(store, cursor, target, say, aside=_aside_of(ask, form))
+        return GOOD if deliver.run_again(one, ask.again) else WRONG
+    finally:
+        cursor.close()
+        store.close()
+
+
+def _is_taken(cursor: str) -> bool:
+    """Whether a delivery has this cursor."""
+    try:
+        return os.path.exists(cursor + ".lock") and is_locked(cursor + ".lock")
+    except OSError as error:
+        raise StoreError(f"{cursor}.lock: {error.strerror or error}") from None
+
+
+def _add_codes(one: argparse.ArgumentParser) -> None:
+    one.add_argument("--store", metavar="STORE", help="print each code of its results that the table lacks")
+    one.add_argument("--line", metavar="NAME", help="look at the results of this line alone")
+    one.add_argument("--lines", metavar="FILE", help="a file of lines: which component of each is the test")
+    one.add_argument("file", metavar="FILE", help=f"CSV with a row of names: {', '.join(codes.COLUMNS)}")
+    one.set_defaults(run=run_codes)
+
+
+def run_codes(ask: argparse.Namespace) -> int:
+    """Prints the faults of a table and the codes that it lacks; status 1 if there are some."""
+    read = codes.read_codes(ask.file)
+    for fault in read.faults:
+        print(fault)
+    unknown = {}
+    if ask.store:
+        store = open_store(ask.store)
+        try:
+            found = (one for one in store.messages() if ask.line in (None, one.line))
+            lines = tables_of(None, ask.lines)
+            test_of = (lambda line: lines.reading(line).test) if lines else (lambda line: "")
+            unknown = codes.unknown_of(read.codes, test_of, found)
+        finally:
+            store.close()
+    for name in sorted(unknown):
+        print(f"unknown {name} {unknown[name]}")
+    print(f"codes {len(read.codes)} unknown {len(unknown)}", flush=True)
+    return WRONG if read.faults or unknown else GOOD

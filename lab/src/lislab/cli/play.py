@@ -1,0 +1,243 @@
+"""The command `lislab play`."""
+import argparse
+import os
+import shlex
+import subprocess
+import sys
+import time
+from typing import Any, Callable, Dict, List, NamedTuple, Optional, Tuple, TypeVar
+
+from ..diagnosis.log import LogError, times_beside
+from ..model import options
+from ..model.options import OptionError
+from ..model.said import announce
+from ..play import kept
+from ..play.player import Outcome, Pace, Played, Player, ranges
+from ..play.report import junit_of, page_of
+from ..play.script import BYTES, Script, ScriptError, Step, read_script, steps_of
+from ..play.wanted import is_field
+from ..play.wire import End, LineFailed, On, Place, To
+from .common import say, write_output
+from .host import _FACTOR, _scale
+
+#: Exit statuses, as those of the other commands.
+GOOD, DIFFERS, USAGE, STOPPED = 0, 1, 2, 3
+#: What a folder's scripts end in.
+_ENDINGS = (".play", ".capture")
+_T = TypeVar("_T")
+
+
+class Play(NamedTuple):
+    """A script that is to be played: its name, its path, itself, and its steps."""
+
+    name: str
+    path: str
+    script: Script
+    steps: List[Step]
+
+
+def add_command(commands: Any) -> None:
+    """Adds the command to those of lislab."""
+    one = commands.add_parser("play", help="an acceptance test: plays a script at one end of a line")
+    one.add_argument("script", help="a script or a capture, or a folder of them; - is standard input")
+    _add_line(one)
+    one.add_argument("--fast", action="store_true", help="as fast as replies come, and not by a capture's times")
+    one.add_argument(
+        "--same-but", default="", metavar="FIELDS", help="fields that may differ in all frames, as DATE,H.5"
+    )
+    one.add_argument("--store", metavar="STORE", help="a store of lislab serve: K looks at what it has kept")
+    one.add_argument("--kept", metavar="COMMAND", help="prints the records that the other end has kept, for K")
+    one.add_argument("--restart", metavar="COMMAND", help="restarts the other end, for R")
+    one.add_argument("--report", metavar="FILE", help="write a page of HTML to be signed")
+    one.add_argument("--junit", metavar="FILE", help="write JUnit's XML")
+    _scale(one)
+    one.set_defaults(run=run_play)
+
+
+def _add_line(one: argparse.ArgumentParser) -> None:
+    one.add_argument("--to", metavar="HOST:PORT", help="connect to this port")
+    one.add_argument(
+        "--listen", metavar="[HOST:]PORT", help="wait for a connection; HOST is 127.0.0.1 if it isn't named"
+    )
+    one.add_argument("--serial", metavar="DEVICE:SPEED[,mode=8N1][,flow=..]", help="a serial line")
+    one.add_argument(
+        "--allow", action="append", default=[], metavar="NETWORK", help="who may connect besides this machine"
+    )
+    one.add_argument(
+        "--as", dest="end", choices=("analyzer", "computer"), help="the end that is played (the script says it)"
+    )
+    one.add_argument(
+        "--within",
+        type=_FACTOR,
+        default=60.0,
+        metavar="SECONDS",
+        help="how long the other end may take to connect, or to begin a session (%(default)s)",
+    )
+
+
+def _place(ask: argparse.Namespace) -> Place:
+    if sum(map(bool, (ask.to, ask.listen, ask.serial))) != 1:
+        raise OptionError("name the line by one of --to, --listen and --serial")
+    if ask.serial:
+        return options.serial_of(ask.serial)
+    if ask.to:
+        return To(*options.split_address(ask.to))
+    listen = options.listen_of(ask.listen)
+    networks = options.networks_of(ask.allow)
+    options.check_allowed([listen], networks)
+    return On(listen.host, listen.port, networks)
+
+
+def _read(path: str) -> bytes:
+    """A script; of one that is too long no more than says so."""
+    if path == "-":
+        return sys.stdin.buffer.read(BYTES + 1)
+    with open(path, "rb") as file:
+        return file.read(BYTES + 1)
+
+
+def _script(path: str) -> Script:
+    script = read_script(_read(path))
+    times = path + ".times"
+    return _timed(script, times) if path != "-" and os.path.exists(times) else script
+
+
+def _timed(script: Script, path: str) -> Script:
+    times = times_beside([step.line for step in script.steps], path)
+    return script._replace(steps=[step._replace(time=at) for step, at in zip(script.steps, times)])
+
+
+def _paths(path: str) -> List[Tuple[str, str]]:
+    """The names and paths of the scripts in a folder and the folders in it; or the script itself."""
+    if not os.path.isdir(path):
+        return [(os.path.basename(path) if path != "-" else "standard input", path)]
+    found = []
+    for folder, _, names in os.walk(path):
+        for name in names:
+            if name.endswith(_ENDINGS):
+                whole = os.path.join(folder, name)
+                found.append((os.path.relpath(whole, path), whole))
+    if not found:
+        raise OptionError(f"{path}: no file in it ends in {' or '.join(_ENDINGS)}")
+    return sorted(found)
+
+
+def _plays(ask: argparse.Namespace) -> Tuple[List[Play], str]:
+    """What is to be played, and the mark of the end that plays it: the one that is asked for, or that of all scripts,
+    or else the analyzer. Of a folder only the scripts for that end are played."""
+    but = [name for name in ask.same_but.split(",") if name]
+    for name in but:
+        if not is_field(name):
+            raise OptionError(f"--same-but {name}: a number, LETTER.NUMBER, a name of LIS02-A2, or DATE is wanted")
+    paths, is_folder = _paths(ask.script), os.path.isdir(ask.script)
+    scripts = [_named(name, path, lambda: _script(path)) for name, path in paths]
+    is_computer = ask.end == "computer" if ask.end else all(one.is_computer for one in scripts)
+    own = "<" if is_computer else ">"
+    found: List[Play] = []
+    for (name, path), script in zip(paths, scripts):
+        if not is_folder or script.is_computer == is_computer:
+            steps = _named(name, path, lambda: steps_of(script, own, but))
+            found.append(Play(name, path, script, steps))
+    if not found:
+        raise OptionError(f"{ask.script}: no script in it is for the {ask.end}")
+    return found, own
+
+
+def _named(name: str, path: str, call: Callable[[], _T]) -> _T:
+    """What a call gives; a script that is wrong is named."""
+    try:
+        return call()
+    except ScriptError as error:
+        raise OptionError(f"{name if path == '-' else path}: {error}") from None
+
+
+def _restart_of(words: Optional[str]) -> Callable[[], bool]:
+    def restart() -> bool:
+        if not words:
+            return False
+        done = subprocess.run(shlex.split(words), check=False)
+        if done.returncode:
+            raise LineFailed(f"--restart ended with status {done.returncode}")
+        return True
+
+    return restart
+
+
+def _source_of(ask: argparse.Namespace) -> Optional[kept.Source]:
+    if ask.store and ask.kept:
+        raise OptionError("--store and --kept can't go together")
+    if ask.store:
+        return kept.from_store(ask.store)
+    return kept.from_command(ask.kept) if ask.kept else None
+
+
+def run_play(ask: argparse.Namespace) -> int:
+    """Plays a script, or all of a folder."""
+    place, source = _place(ask), _source_of(ask)
+    plays, own = _plays(ask)
+    pace = Pace(ask.fast, ask.scale, ask.within)
+    if source is None and any(step.mark == "K" for play in plays for step in play.steps):
+        say("what is kept isn't looked at: name --store or --kept")
+    is_one = not os.path.isdir(ask.script)
+    try:
+        end = End(place, ask.within, announce)
+    except OSError as error:
+        raise LogError(f"--listen {ask.listen}: {error.strerror or error}") from None
+    try:
+        played = [_play(play, own, end, pace, source, _restart_of(ask.restart), is_one) for play in plays]
+    finally:
+        end.end()
+    _write(ask, played)
+    outcomes = [one.outcome for one in played]
+    wrong = [one for one in outcomes if one.differences or one.failed]
+    if not is_one:
+        steps, count = sum(one.steps for one in outcomes), sum(len(one.differences) for one in outcomes)
+        print(f"plays {len(played)} failed {len(wrong)} steps {steps} differences {count}", flush=True)
+    if any(one.failed for one in outcomes):
+        return STOPPED
+    return DIFFERS if wrong else GOOD
+
+
+def _play(
+    play: Play,
+    own: str,
+    end: End,
+    pace: Pace,
+    source: Optional[kept.Source],
+    restart: Callable[[], bool],
+    is_one: bool,
+) -> Played:
+    asks = any(step.mark == "K" for step in play.steps)
+    player = Player(play.steps, own, end, pace, kept.Keeping(source if asks else None), restart)
+    begun = time.time()
+    try:
+        outcome = player.play()
+    except LineFailed as error:
+        outcome = player.failed(f"the line failed: {error}")
+    except kept.NotKept as error:
+        outcome = player.failed(f"what is kept can't be looked at: {error}")
+    end.close()
+    _print(play.name, outcome, is_one)
+    return Played(play.name, play.script.about, own, end.own, end.other, begun, time.time() - begun, outcome)
+
+
+def _print(name: str, outcome: Outcome, is_one: bool) -> None:
+    """The differences of a play, and its last line."""
+    for line, (wanted, got) in outcome.differences:
+        print(f"difference {line or 'end'} {wanted} {got}")
+    where = "" if is_one else f"{name}: "
+    if outcome.failed:
+        say(f"{where}{outcome.failed}")
+    elif outcome.skipped:
+        say(f"{where}not played: line {ranges(outcome.skipped)}")
+    head = "" if is_one else f"{name} "
+    stopped = ", and the play stopped" if outcome.failed else ""
+    print(f"{head}steps {outcome.steps} differences {len(outcome.differences)}{stopped}", flush=True)
+
+
+def _write(ask: argparse.Namespace, played: List[Played]) -> None:
+    made: Dict[str, Callable[[], str]] = {"report": lambda: page_of(played), "junit": lambda: junit_of(played)}
+    for name, text in made.items():
+        path = getattr(ask, name)
+        if path:
+            write_output(path, text().encode("utf-8", "replace"))

@@ -1,0 +1,223 @@
+"""`lislab watch`: what goes on on a host's lines, at a glance."""
+import argparse
+import os
+import shlex
+import sys
+import threading
+import time
+from typing import Any, Iterator, List, Optional, Tuple
+
+from lislink.capture import Capture, write_lines
+from ..diagnosis.log import time_text
+from ..diagnosis.ring import capture_of
+from ..field.ladder import Ladder
+from ..field.looks import looks_of
+from ..field.show import row_text, text_of
+from ..model.files import write_whole
+from ..model.options import OptionError, is_loopback, networks_of, split_address
+from ..model.said import announce, say
+from ..model.store import StoreError
+from ..model.unix import WatchError, shown, socket_of
+from ..watch import client
+from ..watch.client import Host
+from ..watch.live import LiveLadder
+from ..watch.notify import Notifier
+from ..watch.web import Asked, Pages, Server, token_of
+from .host import state_file
+
+#: Exit statuses, as those of the other commands.
+GOOD, WRONG = 0, 1
+#: The fewest characters of a token.
+SHORTEST = 16
+#: What a terminal does before a picture is painted anew, and with a bad line, a quiet one, and after each.
+CLEAR, COLOURS, PLAIN = "\x1b[H\x1b[J", {"bad": "\x1b[1;31m", "quiet": "\x1b[2m", "good": "\x1b[32m"}, "\x1b[0m"
+
+
+def add_command(commands: Any) -> None:
+    """Adds the command to those of lislab."""
+    one = commands.add_parser("watch", help="what goes on on a host's lines: a row a line, good, quiet or bad, and why")
+    one.add_argument("--store", required=True, metavar="STORE", help="as serve has it")
+    one.add_argument("--status", metavar="FILE", help="where the host writes its state (STORE.status)")
+    one.add_argument("--once", action="store_true", help="print once; status 1 if a line is bad")
+    one.add_argument("--every", type=float, default=2.0, metavar="SECONDS", help="how often it looks (%(default)s)")
+    one.add_argument("--line", metavar="NAME", help="the ladder of a line as it goes, the oldest row first")
+    one.add_argument("--save", metavar="FILE", help="with --line: write its last bytes as a capture, and end")
+    one.add_argument("--notify", metavar="COMMAND", help="run once when a line turns bad, once when it is good again")
+    one.add_argument("--http", metavar="HOST:PORT", help="serve pages for a browser, and /metrics")
+    one.add_argument(
+        "--allow", action="append", default=[], metavar="NETWORK", help="with --http: who may look besides this machine"
+    )
+    one.add_argument("--token", metavar="FILE", help="with --http: what a browser must give as its password")
+    one.add_argument("--cursor", action="append", default=[], metavar="FILE", help="of a delivery: a row of its own")
+    one.set_defaults(run=run_watch)
+
+
+def run_watch(ask: argparse.Namespace) -> int:
+    """Shows the lines, or one of them."""
+    if ask.save and not ask.line:
+        raise OptionError("--save writes the last bytes of a line: name it by --line")
+    host = Host(ask.store, socket_of(state_file(ask.store, ask.status)), ask.cursor)
+    every = max(0.1, ask.every)
+    if ask.notify and (ask.once or ask.line):
+        raise OptionError("--notify watches all lines, and goes on")
+    if ask.http:
+        return _serve(host, ask, every)
+    if ask.save:
+        return _save(host, ask.line, ask.save)
+    if ask.line:
+        return _ladder_once(host, ask.line) if ask.once else _ladder(host, ask.line, every)
+    if ask.once:
+        data = host.look()
+        _print(client.rows_of(data))
+        return WRONG if client.is_bad(data) else GOOD
+    return _stay(host, every, _notifier(ask))
+
+
+def _print(rows: List[str]) -> None:
+    sys.stdout.write("".join(row + "\n" for row in rows))
+    sys.stdout.flush()
+
+
+def _notifier(ask: argparse.Namespace) -> Optional[Notifier]:
+    words = shlex.split(ask.notify or "")
+    if not words:
+        return None
+    one = Notifier(words, say)
+    one.start()
+    return one
+
+
+def _rows(host: Host, notifier: Optional[Notifier]) -> Tuple[List[str], List[str]]:
+    """The rows of the lines and the deliveries, and the state of each."""
+    try:
+        data = host.look()
+    except StoreError as error:
+        if notifier is not None:
+            notifier.see_nothing(str(error))
+        return [f"the host doesn't answer, nor its store: {shown(str(error))}"], ["bad"]
+    if notifier is not None:
+        notifier.see(data)
+    rows = client.rows_of(data)
+    states = [one["state"] for one in [*data["lines"].values(), *data["deliveries"].values()]]
+    return rows, [""] * (len(rows) - len(states)) + states
+
+
+def _stay(host: Host, every: float, notifier: Optional[Notifier]) -> int:
+    """Paints the rows anew as long as it runs. What is no terminal gets a row when its line changes."""
+    before: List[str] = []
+    host.look()  # a store that isn't there is said at once
+    while True:
+        rows, states = _rows(host, notifier)
+        if sys.stdout.isatty():
+            painted = [f"{COLOURS.get(state, '')}{row}{PLAIN}" for state, row in zip(states, rows)]
+            sys.stdout.write(CLEAR)
+            _print([time.strftime("%Y-%m-%d %H:%M:%S"), *painted])
+        else:
+            _print([f"{time.strftime('%H:%M:%S')}  {row}" for row in rows if row not in before])
+        before = rows
+        time.sleep(every)
+
+
+# ---- pages
+
+
+def _asked(ask: argparse.Namespace) -> Asked:
+    """Where the pages are, and who may see them."""
+    address, port = split_address(ask.http)
+    token = token_of(ask.token)
+    if ask.token and len(token) < SHORTEST:
+        raise OptionError(f"{ask.token}: a token has at least {SHORTEST} characters")
+    if ask.token and os.stat(ask.token).st_mode & 0o077:
+        raise OptionError(f"{ask.token}: a token is its owner's alone: chmod 600")
+    if not is_loopback(address) and not (ask.allow and token):
+        raise OptionError(f"{ask.http} isn't loopback: say by --allow who may look, and by --token FILE with what")
+    return Asked(address, port, networks_of(ask.allow), token, ask.cursor)
+
+
+def _serve(host: Host, ask: argparse.Namespace, every: float) -> int:
+    """Serves pages, and looks whether a line turns bad, as long as it runs."""
+    asked = _asked(ask)
+    host.look()  # a store that isn't there is said at once
+    pages = Pages(host, asked.cursors)
+    pages.tally.start()
+    server, notifier = Server(asked, pages), _notifier(ask)
+    address, port = server.server_address[:2]
+    threading.Thread(target=server.serve_forever, name="pages", daemon=True).start()
+    where = f"[{address!s}]" if ":" in str(address) else str(address)
+    announce(f"listening http://{where}:{port}/")
+    said = ""
+    while True:
+        try:
+            if notifier is not None:
+                notifier.see(pages.data())
+            said = ""
+        except StoreError as error:
+            if notifier is not None:
+                notifier.see_nothing(str(error))
+            if said != str(error):
+                said = str(error)
+                say(said)
+        time.sleep(every)
+
+
+# ---- one line
+
+
+def _captured(host: Host, line: str) -> "tuple[Capture, int]":
+    head, pieces = host.ring(line)
+    return capture_of(pieces, int(head["first"]) > 0), int(head["frame"])
+
+
+def _save(host: Host, line: str, path: str) -> int:
+    """Writes a capture of a line's last bytes, and their times next to it."""
+    capture, _ = _captured(host, line)
+    head = ["" for _ in range(capture.lines[0][0] - 1)] if capture.lines else []
+    rows = [*head, *(time_text(at) for at in capture.times)]
+    write_whole(path, write_lines(row for _, row in capture.lines).encode())
+    write_whole(path + ".times", "".join(row + "\n" for row in rows).encode())
+    say(f"capture: {path}, {len(capture.lines)} lines; times: {path}.times")
+    return GOOD
+
+
+def _ladder_once(host: Host, line: str) -> int:
+    """The ladder of what the host holds of a line."""
+    capture, frame = _captured(host, line)
+    ladder = Ladder(capture, frame_limit=frame)
+    sys.stdout.buffer.write(text_of(ladder).encode("utf-8"))
+    sys.stdout.buffer.flush()
+    return WRONG if any(look.level == "bad" for look in looks_of(ladder)) else GOOD
+
+
+def rows_as_they_come(host: Host, line: str, every: float) -> Iterator[str]:
+    """The rows of a line's ladder, as they are complete. It waits for a host that isn't there."""
+    ladder, after = None, 0
+    while True:
+        try:
+            head, pieces = host.ring(line, after)
+        except WatchError as error:
+            if ladder is None:
+                raise
+            yield f"-- {shown(str(error))}"
+            time.sleep(every)
+            after = 0
+            continue
+        if int(head["next"]) < after:  # another host runs now
+            ladder, after = None, 0
+            continue
+        if ladder is None:
+            ladder = LiveLadder(int(head["frame"]))
+        elif int(head["first"]) > after:
+            yield f"-- {int(head['first']) - after} pieces went by unseen"
+        after = int(head["next"])
+        for row in ladder.grow(pieces):
+            yield from row_text(row)
+        yield ""
+        time.sleep(every)
+
+
+def _ladder(host: Host, line: str, every: float) -> int:
+    for row in rows_as_they_come(host, line, every):
+        if row:
+            _print([row])
+    return GOOD
+

@@ -1,0 +1,1 @@
+"""What is wrong on a line: verdicts, the causes of faults, what a line that runs has seen."""

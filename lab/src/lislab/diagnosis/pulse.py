@@ -1,0 +1,544 @@
+"""How each line of a host does, while it runs: what came last, and what is wrong since when. A probe sees what one
+connection hears and what that meant; the pulse of a line has what its probes saw."""
+import re
+import time
+from collections import Counter, deque
+from typing import Any, Callable, Deque, Dict, List, NamedTuple, Optional, Tuple
+
+from lislink.codes import FrameFault, Note
+from lislink.link import Step
+from ..model.book import Failed
+from ..model.store import WHOLE, End, StoreError
+from .faults import Cause, cause_of_frame
+from .notices import Watch
+from .protocols import has_bare_frames, is_hl7, parity_of, telnet_in
+from .ring import Ring
+from .tape import Tape
+from .verdicts import BAD, GOOD, Verdict, Ways, advice_on, is_way, plain_hint, way_of
+
+#: For so many seconds nothing may follow an acknowledged ENQ, and stray bytes may be without an ENQ; after so many
+#: seconds without a message a line is quiet. They are as many times as long as the timers of a test.
+PATIENCE, QUIET = 10.0, 1800.0
+#: So many rejected frames in a row are bad, and so many bytes that are noise before the next message; so many sessions in
+#: a row that end without a frame; so many echoes.
+IN_A_ROW, EMPTY, ECHOES = 3, 5, 3
+#: So many queries in a row for which there is no order.
+IN_VAIN = 5
+#: So many reasons are counted one by one.
+REASONS = 16
+#: So much is remembered of what was bad.
+PAST = 50
+#: The most bytes that are looked at for another protocol, and of those that come together with a signal; how many bytes
+#: a frame has besides its text, and some.
+LOOKED_AT, TOGETHER, BESIDES = 4096, 256, 64
+#: The upper ends of the buckets of reply times, in seconds.
+BUCKETS = (0.005, 0.01, 0.025, 0.05, 0.1, 0.25, 0.5, 1.0, 2.5, 5.0, 10.0)
+#: How a disk is full, in the words of SQLite, PostgreSQL and the system.
+_FULL = re.compile("disk is full|no space left|file too large|quota exceeded", re.I)
+_SIGNALS = bytes([4, 5, 6, 0x15])
+_ALONE = (Note.OPENED, Note.ENDED)
+_FRAMES = {
+    Note.OUT_OF_TURN: Verdict.OUT_OF_TURN,
+    Note.NO_ROOM: Verdict.NO_ROOM,
+    Note.TEXT_TOO_LONG: Verdict.TEXT_TOO_LONG,
+    Note.TOO_MANY: Verdict.TOO_MANY,
+    Note.OUT_OF_MEMORY: Verdict.MEMORY,
+}
+
+
+class Trouble:
+    """Something that goes wrong again and again: its verdict, since when, how often, and why it was the last time."""
+
+    def __init__(self, verdict: Verdict) -> None:
+        self.verdict, self.since, self.count = verdict, time.time(), 0
+        self.last = ""
+        #: What takes bytes that make no frame, if something does.
+        self.plain = ""
+        #: Why frames are rejected, how often each, in words and by kinds.
+        self.why: "Counter[str]" = Counter()
+        self.kinds: "Counter[Verdict]" = Counter()
+        #: By which other ways checksums are right, and by which all of them are.
+        self.sums: "Counter[Verdict]" = Counter()
+        self.ways: Ways = frozenset()
+
+    def reject(self, cause: Cause) -> None:
+        """A frame is rejected for this cause."""
+        self.kinds[cause.kind] += 1
+        if cause.kind is Verdict.SUM:
+            self.ways = self.ways & cause.ways if self.sums else cause.ways
+            self.sums[cause.verdict] += 1
+        else:
+            self.why[cause.words if len(self.why) < REASONS else "another reason"] += 1
+
+    def reasons(self, has_good: bool) -> "Tuple[Counter[str], str]":
+        """Why frames are rejected, and what to do, if other frames of the sender are right or not."""
+        count, way = sum(self.sums.values()), way_of([self.ways])
+        is_one, why = is_way(way, count, has_good), Counter(self.why)
+        for one, times in self.sums.items():
+            one = way if is_one and way is not None else one
+            why[f"the checksum is wrong: {one.live}" if one is not Verdict.SUM else one.live] += times
+        return why, advice_on(self.kinds.most_common(1)[0][0], has_good, way, count)
+
+
+class Says(NamedTuple):
+    """What is said of a line: the verdict, since when it holds, its sentence, and what to do."""
+
+    verdict: Verdict
+    since: float
+    text: str
+    advice: str
+
+    @property
+    def state(self) -> str:
+        """`good`, `quiet` or `bad`."""
+        return self.verdict.level if self.verdict.level in (GOOD, BAD) else "quiet"
+
+
+def clock(at: float) -> str:
+    """A time of the clock on the wall; with its day, if that isn't today."""
+    there, now = time.localtime(at), time.localtime()
+    return time.strftime("%H:%M" if there[:3] == now[:3] else "%Y-%m-%d %H:%M", there)
+
+
+def span(seconds: float) -> str:
+    """How long something is ago."""
+    for most, unit, name in ((120, 1, "s"), (7200, 60, "min"), (172_800, 3600, "h")):
+        if seconds < most:
+            return f"{max(0, int(seconds / unit))} {name}"
+    return f"{int(seconds / 86400)} days"
+
+
+def many(count: int, name: str) -> str:
+    """So many of something."""
+    return f"{count} {name}" if count == 1 else f"{count} {name}s"
+
+
+def says(verdict: Verdict, since: float, count: int = 0, **values: Any) -> Says:
+    """What a verdict says of a line."""
+    told = {f"{name}s": many(count, name) for name in ("frame", "byte", "message", "order")}
+    told["times"] = "once" if count == 1 else f"{count} times"
+    told.update({"since": clock(since), "plain": "", **values})
+    return Says(verdict, since, verdict.live.format(**told), verdict.live_advice.format(**told))
+
+
+def says_failed(found: Failed) -> Says:
+    """What is said of a line's orders that have failed: no word of a patient."""
+    last = found.newest[0]
+    return says(Verdict.FAILED_ORDERS, found.since, found.many, why=f"{last.number}: {last.reason}")
+
+
+class Pulse:
+    """How a line does: whatever connection it has. `scale` is that of its timers."""
+
+    def __init__(self, frame: int, scale: float) -> None:
+        self.frame, self.scale, self.ring = frame, scale, Ring()
+        self.begun, self.last = time.time(), None  # type: float, Optional[float]
+        self.troubles: Dict[str, Trouble] = {}
+        #: What was bad and is over: since when, until when, and what was said of it.
+        self.past: "Deque[Tuple[float, float, str]]" = deque(maxlen=PAST)
+        self.probes: "List[Probe]" = []
+        #: What is said of orders that have failed, as long as there are some.
+        self._failed: Optional[Says] = None
+        #: How many connections there were; sessions in a row that had no byte between ENQ and EOT.
+        self.connections = self.polls = 0
+        #: When a frame was accepted last, by the clock that only goes on.
+        self.good_at = 0.0
+        #: Frames by why they were rejected; messages by their state; replies by their time, and the sum of these.
+        self.rejected: "Counter[str]" = Counter()
+        self.messages: "Counter[str]" = Counter()
+        self.replies, self.reply_seconds = [0] * (len(BUCKETS) + 1), 0.0
+
+    def wrong(self, kind: str, verdict: Verdict, why: str = "") -> Trouble:
+        """Something went wrong once more."""
+        one = self.troubles.setdefault(kind, Trouble(verdict))
+        one.verdict, one.count, one.last = verdict, one.count + 1, why
+        return one
+
+    def right(self, *kinds: str) -> None:
+        """Something went right: what was wrong before is over, and remembered if it was bad."""
+        for kind in kinds:
+            if kind in self.troubles:
+                self.remember(self._bad(kind))
+                del self.troubles[kind]
+
+    def remember(self, found: Optional[Says]) -> None:
+        """What was bad, if something was, is over."""
+        if found is not None:
+            self.past.append((found.since, time.time(), found.text))
+
+    def _bad(self, kind: str) -> Optional[Says]:
+        """What is said of a kind of trouble, if it is bad by itself."""
+        if kind == "hopeless":
+            return None
+        looks = {"frames": self._frames, "echo": self._echo, "queries": self._queries, "noise": self._noise}
+        return looks[kind]() if kind in looks else self._of(kind)
+
+    def take_failed(self, found: Optional[Failed]) -> None:
+        """Which orders of the line have failed. If none has any more, that some had is remembered."""
+        if found is None:
+            self.remember(self._failed)
+        self._failed = says_failed(found) if found else None
+
+    def says(self, unusable: str = "", is_called: bool = False) -> Says:
+        """What is said of the line now; `unusable` is why its device can't be had, or it can't be connected to, if that
+        is so. Orders that have failed are named as long as nobody did something about them, whatever else is wrong."""
+        found, failed = self._says(unusable, is_called), self._failed
+        if failed is None or found.state != BAD:
+            return failed or found
+        advice = "; ".join(one.advice for one in (found, failed) if one.advice)
+        return found._replace(text=f"{found.text}; {failed.text}", advice=advice)
+
+    def _says(self, unusable: str, is_called: bool) -> Says:
+        """The same of all but orders that have failed."""
+        if unusable:
+            verdict = Verdict.NO_CONNECTION if is_called else Verdict.NO_DEVICE
+            return says(verdict, self.begun, why=unusable)
+        host = self._of("store") or self._of("late") or self._of("own")
+        line = host or self._strange() or self._frames() or self._silent() or self._noise() or self._echo()
+        return line or self._of("lost") or self._of("messages") or self._queries() or self._well()
+
+    def _of(self, kind: str) -> Optional[Says]:
+        """What is said of a kind of trouble, if there is some."""
+        one = self.troubles.get(kind)
+        if one is None:
+            return None
+        return says(one.verdict, one.since, one.count, why=one.last, plain=one.plain, **_parity(one.last))
+
+    def _frames(self) -> Optional[Says]:
+        one = self.troubles.get("frames")
+        if one is None or (one.count < IN_A_ROW and "hopeless" not in self.troubles):
+            return None
+        reasons, advice = one.reasons(self.good_at > 0)
+        most = reasons.most_common(2)
+        why = most[0][0] if len(most) == 1 else "; ".join(f"{count} times {why}" for why, count in most)
+        return says(one.verdict, one.since, one.count, why=why)._replace(advice=advice)
+
+    def _strange(self) -> Optional[Says]:
+        """Bytes that came without a session, on a connection that has no other since."""
+        for probe in self.probes:
+            found = probe.strange()
+            if found is not None:
+                return found
+        return self._of("strange")
+
+    def _silent(self) -> Optional[Says]:
+        """Sessions in which no frame came."""
+        for probe in self.probes:
+            found = probe.silent()
+            if found is not None:
+                return found
+        return self._of("silent")
+
+    def _echo(self) -> Optional[Says]:
+        one = self.troubles.get("echo")
+        return says(one.verdict, one.since, one.count) if one is not None and one.count >= ECHOES else None
+
+    def _noise(self) -> Optional[Says]:
+        one = self.troubles.get("noise")
+        return says(one.verdict, one.since, one.count) if one is not None and one.count >= IN_A_ROW else None
+
+    def _queries(self) -> Optional[Says]:
+        one = self.troubles.get("queries")
+        return says(one.verdict, one.since, one.count) if one is not None and one.count >= IN_VAIN else None
+
+    def _well(self) -> Says:
+        now = time.time()
+        session = next((probe for probe in self.probes if probe.is_open), None)
+        if session is not None:
+            return says(Verdict.GOES_ON, session.opened, session.units)
+        if self.last is None:
+            who = "" if self.probes else ", and nobody is connected"
+            return says(Verdict.NEVER, self.begun, ago=span(now - self.begun), who=who)
+        if now - self.last < QUIET * self.scale:
+            return says(Verdict.WHOLE, self.last, ago=span(now - self.last))
+        verdict = Verdict.ONLINE if self.probes else Verdict.AWAY
+        return says(verdict, self.last, ago=span(now - self.last))
+
+
+def _parity(word: str) -> Dict[str, str]:
+    return {"parity": word, "letter": word[:1].upper()}
+
+
+def protocol_of(data: bytes, otherwise: Verdict) -> "tuple[Verdict, str]":
+    """What bytes are that make no frame, and which parity they carry."""
+    if is_hl7(data):
+        return Verdict.HL7, ""
+    parity = parity_of(data)
+    if parity:
+        return Verdict.PARITY, parity
+    return (Verdict.TELNET if telnet_in(data) > 1 else otherwise), ""
+
+
+class Probe:
+    """Sees what a connection hears and sends, and what that means. It is the tape of the connection, too."""
+
+    def __init__(
+        self, pulse: Pulse, tape: Optional[Tape], say: Callable[[str, str], None], is_careful: bool = False
+    ) -> None:
+        self._pulse, self._file, self._notices, self._is_careful = pulse, tape, Watch(say), is_careful
+        pulse.connections += 1
+        self._number = pulse.connections
+        pulse.probes.append(self)
+        #: Whether a session is open, since when, how many frames it had, and how many of them were accepted.
+        self.is_open, self.opened, self.units, self._good = False, 0.0, 0, 0
+        #: What came since ENQ before a frame, or without a session, and since when it is so; what was sent last.
+        self._got, self._stray, self._since, self._sent = bytearray(), bytearray(), (0.0, 0.0), b""
+        #: The bytes of the unit that is open, those that are heard now, and where the next unit begins in them.
+        self._carry, self._now, self._start = bytearray(), b"", 0
+        #: The number that is due, the frame that was accepted last; whether a text is kept that wasn't answered yet.
+        self._due, self._frame, self._is_kept = 1, b"", False
+
+    # ---- what came, and what it meant
+
+    @property
+    def at(self) -> int:
+        """The place in the connection of the byte that was answered last."""
+        return self._notices.at
+
+    @property
+    def heard(self) -> int:
+        """How many bytes came."""
+        return self._notices.heard
+
+    @property
+    def sessions(self) -> int:
+        """How many sessions there were."""
+        return self._notices.sessions
+
+    def hears(self, data: bytes) -> None:
+        """Bytes that are heard from here on."""
+        self._notices.hears(data)
+        self._carry += self._now[self._start :]
+        del self._carry[: -(self._pulse.frame + BESIDES)]
+        self._now, self._start = data, 0
+        if self.is_open and not self.units:
+            self._got += data[: LOOKED_AT - len(self._got)]
+        elif not self.is_open:
+            self._strays(data)
+
+    def _strays(self, data: bytes) -> None:
+        """Bytes came without a session. Answers to sessions of the host are none of them."""
+        if data.translate(None, _SIGNALS):
+            self._since = self._since if self._stray else (time.time(), time.monotonic())
+            self._stray += data[: LOOKED_AT - len(self._stray)]
+
+    def step(self, place: int, step: Step) -> None:
+        """What a byte meant, at this place of the bytes that are heard."""
+        self._notices.step(place, step)
+        raw = b""
+        if step.note is not Note.TIMED_OUT:
+            raw = bytes(self._carry + self._now[self._start : place + 1]) if step.note not in _ALONE else raw
+            self._carry.clear()
+            self._start = place + 1
+        if step.note in (Note.OPENED, Note.ENDED, Note.TIMED_OUT):
+            self._session(step.note, step.note in _ALONE and self._now[place : place + 1] == b"\x05")
+        elif step.note in (Note.ACCEPTED, Note.DUPLICATE):
+            self._accept(step, raw)
+        elif step.note is Note.REFUSED or step.note in _FRAMES:
+            self.units += 1
+            self._pulse.right("silent", "strange")
+            self._reject(step, raw)
+
+    def _accept(self, step: Step, raw: bytes) -> None:
+        """A frame is acknowledged: a new one, or one that came again by its number."""
+        frame, pulse = raw[raw.rfind(2) :], self._pulse
+        if not self._good:
+            self._first_frame()
+        self.units, self._good = self.units + 1, self._good + 1
+        pulse.right("silent", "strange")
+        if step.note is Note.ACCEPTED:
+            self._due, pulse.polls, pulse.good_at = (self._due + 1) % 8, 0, time.monotonic()
+            pulse.right("frames", "hopeless")
+            self._frame = frame
+        elif self._frame and frame != self._frame:
+            pulse.wrong("lost", Verdict.LOST)
+
+    def _first_frame(self) -> None:
+        """A frame of a session is good: what was bad so far without one is over, also on other connections."""
+        pulse = self._pulse
+        if time.monotonic() - pulse.good_at < PATIENCE * pulse.scale:
+            return  # nothing that is bad began before the last one and so long ago
+        for probe in pulse.probes:
+            if "silent" not in pulse.troubles:
+                pulse.remember(probe.silent())
+            if "strange" not in pulse.troubles:
+                pulse.remember(probe.strange())
+
+    def _reject(self, step: Step, raw: bytes) -> None:
+        """A frame is rejected: the reason is that of a ladder."""
+        if step.note in _FRAMES:
+            verdict = _FRAMES[step.note]
+            cause = Cause(verdict, verdict.live.format(due=self._due))
+        else:
+            # Where the line is heard carefully, a frame that another one began inside of goes on.
+            begin = raw.find(2) if self._is_careful else raw.rfind(2)
+            body = raw[begin + 1 : -1]
+            cause = cause_of_frame(body, FrameFault(step.detail), step.place, self._pulse.frame)
+            cause = cause._replace(words=cause.verdict.live)  # the other words have bytes of the frame
+        self._pulse.rejected[cause.verdict.key] += 1
+        self._pulse.wrong("frames", Verdict.NONE_ACCEPTED).reject(cause)
+
+    def _session(self, note: Note, is_enq: bool) -> None:
+        """A session begins, or is over; by ENQ or otherwise."""
+        found = self.silent() or self.strange()
+        self._over(note, is_enq)
+        if not {"silent", "strange"} & set(self._pulse.troubles):
+            self._pulse.remember(found)
+        if note is not Note.OPENED:
+            self._strays(self._now[self._start : self._start + TOGETHER])
+            return
+        self._pulse.right("strange")
+        self.is_open, self.opened, self.units, self._good, self._due = True, time.time(), 0, 0, 1
+        self._frame = b""
+        self._since, self._stray = (self.opened, time.monotonic()), bytearray()
+        self._got = bytearray(self._now[self._start : self._start + TOGETHER])
+
+    def _over(self, note: Optional[Note] = None, is_enq: bool = False) -> None:
+        """The session is over: what it says of the line, if no frame of it was accepted."""
+        if not self.is_open:
+            return
+        verdict, parity = self._without_frame(is_enq)
+        self.is_open, pulse = False, self._pulse
+        if self.units:
+            if not self._good:
+                pulse.wrong("hopeless", Verdict.NONE_ACCEPTED)
+            return
+        if note is Note.ENDED and verdict is Verdict.NO_FRAME:
+            pulse.polls += 1
+            if pulse.polls < EMPTY:
+                return
+        one = pulse.wrong("silent", verdict, parity)
+        one.since, one.plain = min(one.since, self.opened), plain_hint(self._got)
+
+    def _without_frame(self, is_again: bool = False) -> "tuple[Verdict, str]":
+        """What is wrong with a session in which no frame came; whether ENQ came again in it."""
+        got = bytes(self._got).translate(None, _SIGNALS)
+        if got:
+            return protocol_of(got, Verdict.NO_UNIT if 2 in got else Verdict.NO_STX)
+        before = self._pulse.troubles.get("silent")
+        is_heard = not is_again and (before is None or before.verdict is not Verdict.NOT_HEARD)
+        return (Verdict.NO_FRAME if is_heard else Verdict.NOT_HEARD), ""
+
+    def silent(self) -> Optional[Says]:
+        """What is said of a session that goes on without a frame."""
+        if not self.is_open or self.units or not self._is_long_ago():
+            return None
+        verdict, parity = self._without_frame()
+        before = self._pulse.troubles.get("silent")
+        since = before.since if before else self.opened
+        return says(verdict, since, before.count if before else 1, plain=plain_hint(self._got), **_parity(parity))
+
+    def strange(self) -> Optional[Says]:
+        """What is said of bytes without a session."""
+        if not self._stray or not self._is_long_ago():
+            return None
+        verdict, parity = self._stranger()
+        return says(verdict, self._since[0], len(self._stray), **_parity(parity))
+
+    def _stranger(self) -> "tuple[Verdict, str]":
+        data = bytes(self._stray)
+        has_frames = 2 in data or has_bare_frames(data)
+        return protocol_of(data, Verdict.NOT_OPEN if has_frames else Verdict.NO_PROTOCOL)
+
+    def _is_long_ago(self) -> bool:
+        """Whether it is so for long, and no connection of the line had a good frame since."""
+        since = self._since[1]
+        return since > self._pulse.good_at and time.monotonic() - since >= PATIENCE * self._pulse.scale
+
+    # ---- what the host did
+
+    def replied(self, seconds: float) -> None:
+        """A reply went out so long after the bytes came that it answers."""
+        pulse = self._pulse
+        pulse.replies[next((at for at, most in enumerate(BUCKETS) if seconds <= most), len(BUCKETS))] += 1
+        pulse.reply_seconds += seconds
+        if self._is_kept:
+            self._is_kept = False
+            pulse.right("late")
+
+    def late(self) -> None:
+        """A reply was not sent, since it would have been late."""
+        self._pulse.wrong("late", Verdict.LATE)
+
+    def noise(self, count: int) -> None:
+        """So many ENQ and STX came where no analyzer sends them."""
+        self._pulse.wrong("noise", Verdict.DISTURBED).count += count - 1
+
+    def kept(self) -> None:
+        """A text is kept."""
+        self._is_kept = True
+        self._pulse.right("store")
+
+    def not_kept(self, error: Exception) -> None:
+        """A text could not be kept."""
+        why = str(error)
+        is_full = _FULL.search(why) is not None
+        verdict = Verdict.DISK_FULL if is_full else Verdict.STORE_GONE
+        self._pulse.wrong("store", verdict if isinstance(error, StoreError) else Verdict.TOO_BIG, why)
+
+    def ended(self, end: End) -> None:
+        """A message ended."""
+        pulse = self._pulse
+        pulse.messages[end.state] += 1
+        if end.state == WHOLE:
+            pulse.last = end.at
+            pulse.right("messages", "lost", "noise")
+        else:
+            pulse.wrong("messages", Verdict.NOT_WHOLE, f"{end.state}: {end.reason}")
+
+    def session_over(self) -> None:
+        """The receiver begins anew."""
+        self._notices.session_over()
+        self.is_open = False
+
+    def over(self) -> None:
+        """No more is heard of the connection."""
+        self._notices.over()
+
+    def answered(self) -> None:
+        """A session of the host's own was answered."""
+        self._notices.answered()
+        self._pulse.right("own")
+
+    def in_vain(self, why: str) -> None:
+        """A session of the host's own failed."""
+        self._pulse.wrong("own", Verdict.NO_REPLY, why)
+
+    def found(self, is_any: bool) -> None:
+        """Whether there was an order for a query."""
+        if is_any:
+            self._pulse.right("queries")
+        else:
+            self._pulse.wrong("queries", Verdict.NO_ORDERS)
+
+    # ---- the tape
+
+    def event(self, row: str) -> None:
+        """The timer's end (`T`), or a restart of the receiver (`R`)."""
+        self._pulse.ring.add(self._number, row)
+        if self._file is not None:
+            self._file.event(row)
+
+    def close(self) -> None:
+        """The connection is over."""
+        self._over()
+        if self.strange() is not None:
+            one = self._pulse.wrong("strange", *self._stranger())
+            one.since, one.count = min(one.since, self._since[0]), one.count - 1 + len(self._stray)
+        self._pulse.probes.remove(self)
+        if self._file is not None:
+            self._file.close()
+
+    def bytes(self, mark: str, data: bytes) -> None:
+        """Bytes of the analyzer (`>`) or of the host (`<`)."""
+        self._pulse.ring.add(self._number, mark, data)
+        if self._file is not None:
+            self._file.bytes(mark, data)
+        if mark == "<":
+            self._sent = data
+        elif self._sent:
+            if data.startswith(self._sent):
+                self._pulse.wrong("echo", Verdict.ECHO)
+            else:
+                self._pulse.right("echo")
+            self._sent = b""

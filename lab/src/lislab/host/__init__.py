@@ -1,0 +1,1 @@
+"""The host: it hears lines, keeps each text before it acknowledges it, and sends orders."""

@@ -1,0 +1,363 @@
+"""A line on which the host sends too: it answers queries and sends worklists, each in a session of its own. The
+proved station decides what each byte means and for whom it is; this module decides when a session starts. What the
+analyzer sends comes first."""
+import asyncio
+from collections import deque
+from typing import Any, Deque, Dict, List, NamedTuple, Optional, Sequence, Set
+
+from lislink.codes import Note, Outcome, Phase, Role
+from lislink.link import LinkError
+from lislink.records import MessageError, Reader, messages
+from lislink.rows import Row
+from lislink.station import Answer, Station
+from ..diagnosis.notices import OTHER, REPLY
+from ..model.query import query_of
+from ..model.store import Add, Change
+from .line import ENQ, Line
+from .outbox import Batch, Outbox, Site
+
+#: After a text that can't be kept, and after a session of the host's own that failed on a serial line, none starts for
+#: so many seconds: what is on its way has come by then. The most bytes of a query that are held.
+QUIET, QUERY = 16.0, 1 << 16
+#: So many bytes of a text are searched for a query before the other lines have their turn; of a message the results of
+#: so many samples are noted.
+PIECE, MOST_SAMPLES = 1024, 1000
+#: So many NAKs to its ENQ end a session, and so many times that the other end asked too and then sent nothing.
+BUSY = 6
+_REPLIES = (b"\x04", b"\x06", b"\x15")
+#: The phases after which ENQ goes out again.
+_WAITS = (Phase.BUSY, Phase.CONTENTION)
+#: Why a session of the host's own failed.
+_WHY = {Outcome.TIMED_OUT: "no reply came in time", Outcome.SIX_TRIES: "a frame was rejected six times"}
+_OVER = (Note.OPENED, Note.NOT_READY, Note.ENDED, Note.TIMED_OUT)
+
+
+class Read(NamedTuple):
+    """A message that has ended: its records, if it holds a query, and the samples that it has results for, each with all
+    that may name a test of them."""
+
+    rows: List[Row]
+    results: Dict[str, Set[str]]
+
+
+class Asking:
+    """The queries and the results in the texts of a line. Where a record ends is decided by the proved reader."""
+
+    def __init__(self, encoding: str) -> None:
+        self._encoding = encoding
+        self._reader: Optional[Reader] = None
+        #: The records of the message so far, as far as it may be a query; how long it is, and whether it has one.
+        self._held, self._size, self._asks = bytearray(), 0, False
+        #: The samples that the last order names, and the results of the message.
+        self._samples: List[str] = []
+        self._results: Dict[str, Set[str]] = {}
+
+    def take(self, text: bytes) -> List[Read]:
+        """A piece of a text: the messages that it ends. A message that can't be read has neither queries nor results,
+        and one that is too long for a query no query; MessageError at the first record that can't be read."""
+        found: List[Read] = []
+        if self._reader is None:
+            self._reader = Reader()
+        for row in self._reader.feed(text):
+            self._size, self._asks = self._size + len(row.text) + 1, self._asks or row.letter == "Q"
+            self._held += row.text + b"\r" if self._size <= QUERY else b""
+            self._note(row)
+            if row.letter == "L":
+                is_query = self._asks and self._size <= QUERY
+                rows = [list(one) for one in messages([bytes(self._held)])][0] if is_query else []
+                found.append(Read(rows, self._results))
+                self._held, self._size, self._asks, self._results = bytearray(), 0, False, {}
+        return found
+
+    def _note(self, row: Row) -> None:
+        """Notes what a record says of results."""
+        if row.letter == "O":
+            self._samples = [*self._parts(row, 3), *self._parts(row, 4)]
+        elif row.letter == "R" and len(self._results) < MOST_SAMPLES:
+            for sample in self._samples:
+                self._results.setdefault(sample, set()).update(self._parts(row, 3))
+
+    def _parts(self, row: Row, field: int) -> List[str]:
+        parts = (part.decode(self._encoding, "replace").strip() for repeat in row.field(field) for part in repeat)
+        return [part for part in parts if part]
+
+    def over(self) -> None:
+        """The session is over: no more comes of the message."""
+        if self._reader is not None:
+            self._reader.close()
+        self._reader, self._held, self._size, self._asks = None, bytearray(), 0, False
+        self._samples, self._results = [], {}
+
+
+class TwoWayLine(Line):
+    """A line that is connected, on which the host sends what its outbox has for it."""
+
+    def __init__(self, outbox: Outbox, site: Site, *given: Any) -> None:
+        super().__init__(*given)
+        self._outbox, self._site, self._asking = outbox, site, Asking(site.encoding)
+        #: What is to be sent next; what is being sent; whether the outbox may have more; when a session may start.
+        self._ready: Deque[Batch] = deque()
+        self._sending: Optional[Batch] = None
+        self._has_work, self._free_at, self._busy = True, self._loop.time(), 0
+        #: How often both asked in a row, and what the station did before the last byte.
+        self._contended, self._phase = 0, Phase.NEUTRAL
+        #: The queries that are looked up, one after another.
+        self._answers: "set[asyncio.Task[None]]" = set()
+        self._look_ups = asyncio.Lock()
+        if not self.is_tcp:  # a reply to the host that was here before may still be on its way
+            self._quiet()
+        #: When the host sent something of its own last.
+        self._asked = self._loop.time()
+        #: Whether a session of the host's own had no reply, and nothing came since; whether anything ever came.
+        self._unanswered = self._has_heard = False
+        outbox.wakes(self._woken)
+
+    def _begin(self, frame: int) -> None:
+        self._station = Station(Role.COMPUTER, frame_limit=frame, careful=self._is_careful)
+
+    def _is_busy(self) -> bool:
+        return self._station.is_open or self._sending is not None
+
+    def _begin_anew(self) -> None:
+        self._station.close_line()
+        self._quiet()
+
+    def _seconds(self) -> Optional[float]:
+        seconds = self._station.seconds
+        if self.is_tcp or seconds is None or self._station.phase not in _WAITS or self._station.is_open:
+            return seconds
+        # On a serial line ENQ goes out again once no late reply to the last one can come.
+        since = (self._loop.time() - self._asked) / self._limits.scale
+        return max(float(seconds), QUIET - since)
+
+    def _held(self) -> int:
+        return self._station.held
+
+    def _has_room(self, is_there: bool) -> None:
+        if not is_there and self._station.is_open:
+            self._restart("there was no room for a long text")
+
+    def _end(self) -> None:
+        for task in self._answers:
+            task.cancel()
+        if self._sending is not None and self._has_heard and self._sending.placed:
+            self._over_in_vain("the line was closed")
+        elif self._sending is not None:
+            self._outbox.unsent(self._site, self._sending)
+            self._sending = None
+        for batch in self._ready:
+            self._outbox.unsent(self._site, batch)
+        self._outbox.forget(self._site, self._woken)
+        self._station.close()
+        self._asking.over()
+
+    def _quiet(self) -> None:
+        self._free_at = self._loop.time() + QUIET * self._limits.scale
+
+    # ---- what comes
+
+    async def _timed(self, now: float) -> None:
+        waits = self._station.phase in _WAITS and not self._station.is_open
+        if self._site.is_anew and waits and self._station.needs_new_line:
+            self._put_off()
+        else:
+            await self._meant(self._station.timer(), 0, now)
+            self._look_at_room()
+
+    def _put_off(self) -> None:
+        """ENQ would go out again, and a reply to the last one may come late: it goes out on the next connection."""
+        batch, self._sending = self._sending, None
+        self._station.give_up()
+        self._outbox.put_off[self._site.place] = self._busy, self._contended
+        if batch is not None:
+            self._outbox.unsent(self._site, batch)
+        self.stop("for a new connection, on which the host asks again")
+        self._set_timer()
+
+    async def _heard(self, data: bytes, arrived: float) -> None:
+        self._note_late(data)
+        for heard in self._feeds.take(data):
+            before = self._station.noise
+            for place, answer in self._station.hear_placed(heard.data):
+                step = answer.step and self._feeds.restored(heard, answer.step)
+                answer, is_enq = answer._replace(step=step), heard.data[place] == ENQ
+                await self._meant(answer, place + heard.start, arrived, is_enq)
+                await self._take_turns()
+                if self._is_through():
+                    return
+            self._note_noise(self._station.noise - before)
+
+    async def _meant(self, answer: Answer, place: int, arrived: float, is_enq: bool = False) -> None:
+        before, self._phase = self._phase, self._station.phase
+        if answer.step is not None:
+            self._watch.step(place, answer.step)
+            await self._step(answer.step, arrived, is_enq)
+            if answer.step.note in _OVER:
+                self._asking.over()
+            self._contended = 0
+        elif answer.send:
+            self._asked = self._loop.time()
+            self._send(answer.send)
+        elif self._station.phase is Phase.BUSY:
+            self._asked_in_vain()
+        elif self._phase is Phase.CONTENTION and before is not Phase.CONTENTION:
+            self._both_asked()
+        self._set_timer()
+        if self._sending is not None and self._station.phase is Phase.NEUTRAL:
+            self._session_over(self._sending)
+
+    def _note_late(self, data: bytes) -> None:
+        """Says that a reply came after the session to which it belongs had ended without it."""
+        was_unanswered, self._unanswered, self._has_heard = self._unanswered, False, True
+        if was_unanswered and data[:1] in _REPLIES:
+            self._counts["late_replies"] += 1
+            byte = f"byte {self._watch.heard - len(data)} of the connection is 0x{data[0]:02X}"
+            self._say(f"a reply came after the host had given its session up: {byte}", REPLY)
+
+    def _asked_in_vain(self) -> None:
+        """The analyzer doesn't give the line: it is asked again a few times."""
+        self._busy += 1
+        if self._busy >= BUSY:
+            self._station.give_up()
+
+    def _both_asked(self) -> None:
+        """The analyzer asks for the line as well. It comes first; one that then sends nothing isn't waited for without
+        end."""
+        self._contended += 1
+        if self._contended >= BUSY:
+            self._station.give_up()
+
+    async def _keep(self, text: bytes) -> bool:
+        if not await super()._keep(text):
+            return False
+        try:
+            for start in range(0, len(text), PIECE):
+                for read in self._asking.take(text[start : start + PIECE]):
+                    self._takes(read)
+                await self._take_turns()
+        except MessageError:
+            self._asking.over()
+        return True
+
+    def _took_mended(self, key: str, changes: Sequence[Change]) -> None:
+        if self._lost:
+            return
+        body = b"".join(one.body for one in changes if isinstance(one, Add) and one.key == key)
+        for read in Asking(self._site.encoding).take(body[: QUERY + 1]):
+            self._takes(read)
+
+    def _takes(self, read: Read) -> None:
+        """A message is stored."""
+        for sample, tests in read.results.items():
+            self._outbox.came(self._site, sample, tests)
+        if read.rows:
+            self._asks(read.rows)
+
+    def _asks(self, rows: List[Row]) -> None:
+        """A message that holds a query is kept."""
+        self._counts["queries"] += 1
+        task = asyncio.ensure_future(self._look_up(rows))
+        self._answers.add(task)
+        task.add_done_callback(self._looked_up)
+
+    def _looked_up(self, done: "asyncio.Task[None]") -> None:
+        self._answers.discard(done)
+        if not done.cancelled() and done.exception() is not None:
+            self._say(f"a query is given up: {type(done.exception()).__name__}: {done.exception()}", OTHER)
+
+    async def _look_up(self, rows: List[Row]) -> None:
+        """A query is kept: what the outbox has for it is sent as soon as the line is free."""
+        queries = [query_of(row, self._site.encoding, self._site.asks) for row in rows if row.letter == "Q"]
+        if any(one.cancels for one in queries):
+            await self._take_back()
+            return
+        async with self._look_ups:
+            answer = await self._outbox.answer(self._site, queries, b"".join(row.text + b"\r" for row in rows))
+        self._found(answer.is_any)
+        if answer.batch is not None:
+            self._ready.append(answer.batch)
+        self._has_work = True
+        self._wake()
+
+    def _found(self, is_any: bool) -> None:
+        """Whether there was an order for a query. A LIS that hands over none is known by that."""
+        self._counts["found_nothing"] += not is_any
+        self._probe.found(is_any)
+
+    async def _take_back(self) -> None:
+        """The analyzer takes its query back: no answer is sent that hasn't begun."""
+        for task in self._answers - {asyncio.current_task()}:
+            task.cancel()
+        back = [batch for batch in self._ready if batch.is_answer]
+        self._ready = deque(batch for batch in self._ready if not batch.is_answer)
+        waits = self._station.phase in _WAITS
+        if self._sending is not None and self._sending.is_answer and waits:
+            self._station.give_up()
+            back.append(self._sending)
+            self._sending = None
+            self._set_timer()
+        await self._outbox.take_back(self._site, back)
+
+    # ---- what goes out
+
+    def _woken(self, asked: str, line: str) -> None:
+        if asked == self._site.place or (self._site.unasked and not asked and line in ("", self._site.line)):
+            self._has_work = True
+            self._wake()
+
+    def _start_at(self) -> Optional[float]:
+        if self._is_busy() or self._stopping or self._lost or not (self._ready or self._has_work):
+            return None
+        turn = (self._station.turn_seconds or 0) * self._limits.scale
+        return self._free_at + turn
+
+    async def _start(self) -> None:
+        batch = self._ready.popleft() if self._ready else await self._outbox.take(self._site)
+        if batch is None:
+            self._has_work = False
+            return
+        if self._pieces:  # what came while the store was asked is heard first
+            self._ready.appendleft(batch)
+            return
+        try:
+            out = self._station.start(batch.texts, is_quiet=True)  # `_free_at` is over
+        except LinkError as error:
+            self._outbox.failed(self._site, batch, str(error))
+            return
+        self._sending, self._phase = batch, self._station.phase
+        self._busy, self._contended = self._outbox.put_off.pop(self._site.place, (0, 0))
+        self._counts["own_sessions"] += 1
+        self._asked = self._loop.time()
+        self._send(out)
+        self._set_timer()
+
+    def _session_over(self, batch: Batch) -> None:
+        """A session of the host's own is over. If it failed, a reply may still be on its way: the line is closed if it
+        can be connected anew, else none starts until such a reply has come."""
+        outcome = self._station.outcome
+        if outcome is Outcome.DONE:
+            self._watch.answered()
+            self._sending = None
+            self._free_at = self._loop.time()
+            self._counts["orders"] += len(batch.placed)
+            self._outbox.sent(self._site, batch)
+            return
+        if BUSY in (self._busy, self._contended):
+            both = "the analyzer asks for the line, too, and sends nothing"
+            self._over_in_vain("the analyzer is busy" if self._busy >= BUSY else both)
+            self._quiet()
+            if self._site.is_anew:
+                self.stop("since a session of the host's own failed")
+            return
+        self._over_in_vain(_WHY.get(outcome, f"the session ended as {outcome.name}"), outcome is Outcome.SIX_TRIES)
+        self._unanswered = outcome is Outcome.TIMED_OUT
+        self._quiet()
+        if self.is_tcp and outcome is not Outcome.SIX_TRIES:
+            self.stop("since a session of the host's own failed")
+
+    def _over_in_vain(self, why: str, is_rejected: bool = False) -> None:
+        batch, self._sending = self._sending, None
+        assert batch is not None
+        self._counts["failed_sessions"] += 1
+        self._probe.in_vain(why)
+        self._outbox.failed(self._site, batch, why, is_rejected)

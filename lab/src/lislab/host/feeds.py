@@ -1,0 +1,98 @@
+"""LF in the texts of frames, which LIS01-A2 forbids (6.3) since LF ends a frame: of a line that mends it the receiver
+hears each such frame with another byte in its place.
+
+Where such a frame ends is decided here, by code that is tested and not proved: at LF after ETX or ETB, two bytes and
+CR. Whether it is taken is decided by the proved receiver: the digits of its checksum are changed by as much as its
+bytes, so that it is right exactly if what came was right. What is kept is what came."""
+import re
+from typing import Iterator, NamedTuple, Optional
+
+from lislink.codes import Note
+from lislink.link import Step
+
+_STX, _LF, _VT = b"\x02", b"\n", b"\x0b"
+#: What ends a frame, and what breaks one off.
+_END, _BREAKS = re.compile(rb"[\x03\x17][^\n]{2}\r\n"), re.compile(rb"[\x02\x04\x05]")
+_ENDS = re.compile(rb"[\x04\x05]")
+#: The bytes of a frame besides its text, and what drops a text.
+_AROUND = 7
+_DROPS = (Note.OPENED, Note.NOT_READY, Note.ENDED, Note.TIMED_OUT)
+
+
+class Heard(NamedTuple):
+    """Bytes for the receiver, as many as came; the place of the first one among those that came last, less than 0 for
+    earlier ones; and the text of the frame that they are, as it came."""
+
+    data: bytes
+    start: int = 0
+    text: Optional[bytes] = None
+
+
+class AsItComes:
+    """A line on which nothing is changed."""
+
+    def take(self, data: bytes) -> Iterator[Heard]:
+        """What the receiver hears of these bytes."""
+        yield Heard(data)
+
+    def restored(self, heard: Heard, step: Step) -> Step:
+        """What a byte meant, with the text as it came."""
+        return step
+
+
+class LineFeeds(AsItComes):
+    """A line whose frames may hold LF. A frame is heard when all of it has come. STX breaks a frame off, unless it is
+    heard carefully: then the frame has it in it, and is rejected."""
+
+    def __init__(self, limit: int, is_careful: bool = False) -> None:
+        self._most, self._breaks = limit + _AROUND, _ENDS if is_careful else _BREAKS
+        #: The frame that goes on, and the texts so far of one text.
+        self._frame, self._texts = bytearray(), bytearray()
+
+    def take(self, data: bytes) -> Iterator[Heard]:
+        at = 0
+        while at < len(data):
+            if not self._frame:
+                start = data.find(_STX, at)
+                start = len(data) if start < 0 else start
+                if start > at:
+                    yield Heard(data[at:start], at)
+                self._frame += data[start : start + 1]
+                at = start + 1
+            else:
+                found = self._breaks.search(data, at)
+                end = data.find(_LF, at) + 1 or len(data)
+                end = min(end, found.start()) if found else end
+                self._frame += data[at:end]
+                at = end
+                if _END.fullmatch(self._frame[-5:]):
+                    yield self._over(_without_lf(bytes(self._frame)), at, bytes(self._frame[2:-5]))
+                elif found and end == found.start() or len(self._frame) > self._most:
+                    # It is broken off, or too long. Its sender has given it up, or will: there is no reply to it.
+                    yield self._over(bytes(len(self._frame)), at)
+
+    def _over(self, data: bytes, at: int, text: Optional[bytes] = None) -> Heard:
+        self._frame.clear()
+        return Heard(data, at - len(data), text)
+
+    def restored(self, heard: Heard, step: Step) -> Step:
+        if step.note is Note.ACCEPTED:
+            self._texts += heard.text or b""
+        if step.text is None:
+            if step.note in _DROPS:
+                self._texts.clear()
+            return step
+        text = bytes(self._texts)
+        self._texts.clear()
+        if len(text) != len(step.text):
+            raise AssertionError("a text isn't as long as its frames")
+        return step._replace(text=text)
+
+
+def _without_lf(frame: bytes) -> bytes:
+    """A frame with VT for each LF before its end, its checksum changed by as much."""
+    body, end, digits = frame[:-5], frame[-5:-4], frame[-4:-2]
+    count = body.count(_LF)
+    if count and re.fullmatch(rb"[0-9A-Fa-f]{2}", digits):
+        digits = b"%02X" % ((int(digits, 16) + count) % 256)
+    return body.replace(_LF, _VT) + end + digits + frame[-2:]

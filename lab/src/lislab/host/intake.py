@@ -1,0 +1,266 @@
+"""The messages in the texts of a line. Where a record ends, which may come next and which is the last of its message
+is decided by the proved reader."""
+import hashlib
+import re
+from typing import Callable, Dict, Iterable, Iterator, List, Optional, Tuple
+
+from lislink.codes import Reason, Status
+from lislink.letters import Letters
+from lislink.records import MessageError, Reader
+from ..model.store import UNFINISHED, UNREADABLE, WHOLE, Add, Begin, Change, End, new_key
+from .unknown import Unknown
+
+_WORDS = {
+    Reason.BAD_RECORD: "malformed",
+    Reason.NOT_HEADER: "no header before it",
+    Reason.NO_PARENT: "no record above it that it belongs to",
+    Reason.SECOND_HEADER: "a second header",
+    Reason.TOO_LONG: "too long",
+    Reason.OUT_OF_MEMORY: "out of memory",
+}
+
+
+#: A step of the work takes so many bytes of a text, if a record ends there. So many bytes of each message are held.
+PIECE, FIRST = 1024, 1 << 16
+_NEXT_HEADER = re.compile(rb"\r[Hh][^0-9A-Za-z]")
+
+
+class TooLong(Exception):
+    """A message has more bytes than the line takes."""
+
+
+class Pool:
+    """So many bytes for all lines of a host, besides the first ones of each, which it has for itself."""
+
+    def __init__(self, most: int) -> None:
+        self._left = most
+
+    def taken(self, has: int, size: int) -> Optional[int]:
+        """What somebody has of it now who had `has` and holds so many bytes; None if there is no room for them."""
+        wants = max(0, size - FIRST)
+        if wants - has > self._left:
+            return None
+        self._left -= wants - has
+        return wants
+
+
+class Held:
+    """How many bytes of messages that aren't whole yet the lines of a host may hold: the first ones of each message,
+    and of longer ones up to `most` of one and `all_lines` of all."""
+
+    def __init__(self, most: int, all_lines: int = 0) -> None:
+        self.most, self._pool = most, Pool(all_lines or most)
+
+    def takes(self, one: "_Message") -> bool:
+        """Whether a message may be held as long as it is now."""
+        has = self._pool.taken(one.held, len(one.body or b"")) if one.size <= self.most else None
+        one.held = one.held if has is None else has
+        return has is not None
+
+    def drop(self, one: "_Message") -> None:
+        """A message is held no more."""
+        one.held, one.body = self._pool.taken(one.held, 0) or 0, None
+
+
+class _Message:
+    """A message that isn't whole yet: its digest so far, its records so far, and why it can't be read."""
+
+    def __init__(self, begin: Begin, body: Optional[bytearray], is_coded: bool) -> None:
+        self.key, self.begin, self.reader, self.digest = begin.key, begin, Reader(), hashlib.sha256()
+        #: Whether the codes of its results are looked up.
+        self.is_coded = is_coded
+        #: All its bytes, as long as they aren't too many to be mended; how many of them count.
+        self.body, self.held = body, 0
+        self.places = self.size = self.records = 0
+        self.fault, self.letters = "", Letters(begin.encoding)
+        #: Where its last record ended, in bytes of the message.
+        self.ended = 0
+
+
+class Intake:
+    """What is to be kept of each text of a line. Of a message it holds what `held` allows until it ends, and the bytes
+    of one that isn't whole until they are taken out of `bodies`: how it began, and its bytes, by its key."""
+
+    def __init__(
+        self,
+        line: str,
+        peer: str,
+        encoding: str,
+        most: int,
+        clock: Callable[[], float],
+        held: Optional[Held] = None,
+        unknown: Optional[Unknown] = None,
+    ) -> None:
+        self.line, self.peer, self.encoding, self.most, self.clock = line, peer, encoding, most, clock
+        #: The codes that the line's table lacks.
+        self.unknown = unknown or Unknown(line)
+        self._held, self.bodies = held, {}  # type: Optional[Held], Dict[str, Tuple[Begin, bytes]]
+        self._message: Optional[_Message] = None
+        #: The ends of messages that aren't known to be kept.
+        self._ends: List[End] = []
+        #: What the letters of whole messages look like that have ended, by their keys, if it is another encoding.
+        self.letters: Dict[str, str] = {}
+
+    def take(self, text: bytes) -> Iterator[List[Change]]:
+        """The changes that keep a text, step by step, each of which is short work; TooLong if a message passes the
+        limit. Call `kept` when those so far are kept; if they can't be, or not all were taken, call `undo`."""
+        for piece in _pieces(text):
+            at = 0
+            while at < len(piece):
+                changes: List[Change] = []
+                if self._message is None:
+                    self._begin(changes)
+                at += self._take_some(piece[at:], changes)
+                self._ends += [change for change in changes if isinstance(change, End)]
+                yield changes
+
+    def also(self, ends: Iterable[End]) -> None:
+        """Messages that others were made of end with these changes too."""
+        self._ends += ends
+
+    def kept(self) -> None:
+        """All changes so far are kept."""
+        self._ends = []
+
+    @property
+    def goes_on(self) -> bool:
+        """Whether a message began that isn't ended."""
+        return self._message is not None
+
+    def spoil(self, reason: str) -> None:
+        """The message that goes on is not to be delivered, whatever comes of it, and not to be mended."""
+        one = self._message
+        if one is not None:
+            one.fault, one.body = _after(one, reason) + (f"; {one.fault}" if one.fault else ""), None
+
+    def undo(self, reason: str) -> List[Change]:
+        """The changes if those that were given last aren't kept: their messages are not whole."""
+        ends, self._ends = self._ends, []
+        undone = [one._replace(state=UNFINISHED, reason=reason) if one.state == WHOLE else one for one in ends]
+        changes = [*undone, *self.drop(reason)]
+        self.bodies = {}
+        return changes
+
+    def drop(self, reason: str) -> List[Change]:
+        """The changes if no more comes of the message: what was acknowledged of it stays, with the reason."""
+        one = self._message
+        if one is None:
+            return []
+        changes: List[Change] = []
+        self._end(UNREADABLE if one.fault else UNFINISHED, one.fault or _after(one, reason), changes)
+        return changes
+
+    def _begin(self, changes: List[Change]) -> None:
+        begin = Begin(new_key(), self.line, self.peer, self.encoding, self.clock())
+        self._message = _Message(begin, bytearray() if self._held else None, self.unknown.table is not None)
+        changes.append(begin)
+
+    def _take_some(self, text: bytes, changes: List[Change]) -> int:
+        """Takes the bytes of a text that belong to the message: how many, perhaps none if the message ends."""
+        one = self._message
+        assert one is not None
+        if one.fault:
+            return self._pass_over(one, text, 0, changes)
+        try:
+            for letter in self._looked_up(one, text) if one.is_coded else one.reader.letters(text):
+                one.records += 1
+                one.ended = one.reader.read
+                if letter == "L":
+                    end = one.ended - one.size
+                    self._add(one, text[:end], changes)
+                    self._end(WHOLE, "", changes)
+                    return end
+        except MessageError as error:
+            return self._reject(one, text, error, changes)
+        self._add(one, text, changes)
+        return len(text)
+
+    def _looked_up(self, one: _Message, text: bytes) -> Iterator[str]:
+        """The letters of the records that a text ends, each of which is looked up."""
+        for row in one.reader.feed(text):
+            self.unknown.look(one.key, row, self.encoding)
+            yield row.letter
+
+    def _reject(self, one: _Message, text: bytes, error: MessageError, changes: List[Change]) -> int:
+        """A record can't be read where it is."""
+        start = one.ended - one.size  # where it begins in the text; below 0 in an earlier one
+        if start >= 0 and one.records and is_header(text, start):
+            self._add(one, text[:start], changes)
+            self._end(UNFINISHED, _after(one, "a header comes before its L record"), changes)
+            return start
+        one.fault = _fault(one, text, error)
+        return self._pass_over(one, text, text.find(b"\r", max(start, 0)) + 1 or len(text), changes)
+
+    def _pass_over(self, one: _Message, text: bytes, start: int, changes: List[Change]) -> int:
+        """Puts a text to a message that can't be read, up to the next header."""
+        if not is_header(text, start):
+            found = _NEXT_HEADER.search(text, start)
+            start = found.start() + 1 if found else len(text)
+        self._add(one, text[:start], changes)
+        if start < len(text):
+            self._end(UNREADABLE, one.fault, changes)
+        return start
+
+    def _add(self, one: _Message, body: bytes, changes: List[Change]) -> None:
+        if not body:
+            return
+        if one.size + len(body) > self.most:
+            raise TooLong(f"the message has more than {self.most} bytes")
+        changes.append(Add(one.key, one.places, self.clock(), body))
+        one.places += 1
+        one.size += len(body)
+        one.digest.update(body)
+        one.letters.take(body)
+        if one.body is not None and self._held is not None:
+            one.body += body
+            if not self._held.takes(one):
+                self._held.drop(one)
+
+    def _end(self, state: str, reason: str, changes: List[Change]) -> None:
+        one, self._message = self._message, None
+        assert one is not None
+        one.reader.close()
+        look = one.letters.look() if state == WHOLE else ""
+        if look:
+            self.letters[one.key] = look
+        if state != WHOLE and one.body:
+            self.bodies[one.key] = one.begin, bytes(one.body)
+        if self._held is not None:
+            self._held.drop(one)
+        changes.append(End(one.key, self.line, state, reason, one.digest.hexdigest(), one.size, self.clock()))
+
+
+def is_header(text: bytes, start: int = 0) -> bool:
+    """Whether the record at this place may be a header: H, and a byte that may be a delimiter."""
+    first, second = text[start : start + 1], text[start + 1 : start + 2]
+    return first in (b"H", b"h") and bool(second) and not second.isalnum()
+
+
+def _pieces(text: bytes) -> Iterator[bytes]:
+    """A text in pieces, each of which but the last ends with a record."""
+    start = 0
+    while start < len(text):
+        last = text.rfind(b"\r", start, start + PIECE) + 1
+        end = last or text.find(b"\r", start + PIECE) + 1 or len(text)
+        yield text[start:end]
+        start = end
+
+
+def _after(one: _Message, reason: str) -> str:
+    """Why no more comes of a message, and where it stops."""
+    return f"{reason}, after record {one.records}, at byte {one.size}"
+
+
+def _fault(one: _Message, text: bytes, error: MessageError) -> str:
+    """Why a record can't be read: its number in the message, where it begins there, and the code with its byte."""
+    words = f"record {error.number}, from byte {one.ended}: {_WORDS.get(error.reason, error.reason.name)}"
+    if error.reason is Reason.NO_PARENT:
+        return f"{words}: {chr(error.detail)}"
+    if error.reason is not Reason.BAD_RECORD:
+        return words
+    words = f"{words}: {Status(error.detail).name}"
+    if error.detail != Status.FORBIDDEN:
+        return words
+    place = one.ended + error.place
+    byte = text[place - one.size : place - one.size + 1] if place >= one.size else b""
+    return f"{words}, byte {place}" + (f" is 0x{byte[0]:02X}" if byte else "")

@@ -1,0 +1,540 @@
+"""One line of a host: it hears bytes, keeps texts, and replies. The proved receiver decides what each byte means and
+what is answered; this module decides when an answer goes out: after its text is kept, and never late."""
+import asyncio
+import functools
+from collections import Counter, deque
+from typing import Callable, Deque, Dict, List, Optional, Sequence, Tuple
+
+from lislink.codes import Note
+from lislink.link import RECEIVER, Receiver, Step
+from ..diagnosis.notices import CODES, CONNECTION, LETTERS, MESSAGE, NOISE, REJECTED, REPLY
+from ..diagnosis.pulse import Probe
+from ..model.options import Limits
+from ..model.store import MENDED, WHOLE, Add, Change, End, StoreError
+from .asleep import Asleep
+from .commits import Committer
+from .feeds import AsItComes, LineFeeds
+from .intake import FIRST, Intake, Pool, TooLong
+from .mend import LINE_FEEDS, Ended
+from .mender import Bodies, Mender, is_mended
+from .turns import Share, Turns
+
+#: How many bytes may wait to be heard before the line is read no further; how many bytes of a long text are kept in one
+#: row.
+WAITING, TOGETHER = 1 << 16, 1 << 14
+#: EOT after so many seconds without a frame is that of an analyzer that heard no reply.
+BROKEN = 10.0
+#: What helps an analyzer whose sessions begin without the end of the one before.
+ENQ, ANEW = 5, "careful=no of its line answers its first ENQ"
+#: What ends a session, and what that makes of a message without its L record.
+_ENDS = {
+    Note.OPENED: "a new session began before its L record",
+    Note.NOT_READY: "a new session began before its L record",
+    Note.ENDED: "the session ended before its L record",
+    Note.TIMED_OUT: "the analyzer fell silent before its L record",
+}
+_NOISE = "there was noise on the line before its L record"
+_TAKEN = (Note.ACCEPTED, Note.DUPLICATE)
+_COUNTED = {
+    Note.OPENED: "sessions",
+    Note.ACCEPTED: "frames",
+    Note.DUPLICATE: "duplicates",
+    Note.OUT_OF_TURN: "out_of_turn",
+    Note.REFUSED: "rejected",
+    Note.NO_ROOM: "rejected",
+    Note.TEXT_TOO_LONG: "rejected",
+    Note.TOO_MANY: "rejected",
+    Note.OUT_OF_MEMORY: "rejected",
+    Note.TIMED_OUT: "timeouts",
+}
+
+
+def _is_over(at: Optional[float], now: float) -> bool:
+    return at is not None and now >= at
+
+
+def _join(part: List[Change], changes: List[Change]) -> None:
+    """Puts changes after others. Bytes of one message that follow each other are kept together."""
+    if part and changes:
+        last, first = part[-1], changes[0]
+        if isinstance(last, Add) and isinstance(first, Add) and last.key == first.key and len(last.body) < TOGETHER:
+            part[-1] = last._replace(body=last.body + first.body)
+            changes = changes[1:]
+    part += changes
+
+
+class Wire:
+    """What a line needs of its transport."""
+
+    is_tcp = False
+
+    def write(self, data: bytes) -> None:
+        """Sends bytes at once, or never."""
+        raise NotImplementedError
+
+    def close(self) -> None:
+        """Closes the line."""
+
+    def pause(self) -> None:
+        """Reads no further for now."""
+
+    def resume(self) -> None:
+        """Reads on."""
+
+
+class Line:
+    """A line that is connected."""
+
+    #: Whether the machine was suspended, and nobody took note of it yet; the room for texts that aren't complete.
+    asleep, room = Asleep(), Pool(1 << 40)
+
+    def __init__(
+        self,
+        wire: Wire,
+        intake: Intake,
+        committer: Committer,
+        limits: Limits,
+        counts: "Counter[str]",
+        probe: Probe,
+        frame: int,
+        say: Callable[[str, str], None],
+        turns: Turns,
+        mender: Mender,
+        is_careful: bool = False,
+    ) -> None:
+        self._mender, self._is_careful = mender, is_careful
+        #: Where in the connection the last ENQ was that was heard as noise; less than 0 for none.
+        self._noise_at = -1
+        #: Messages that ended, of which it is to be tried which setting would deliver them.
+        self._tries: List[Ended] = []
+        #: Whether the last frame was taken, and when a reply went out last.
+        self._is_taken, self._replied = False, 0.0
+        self._wire, self._intake, self._committer, self._limits = wire, intake, committer, limits
+        self._counts, self._say, self._share = counts, say, Share(turns)
+        self._tape = self._watch = self._probe = probe
+        self._feeds = self._feeds_of(frame)
+        self._loop = asyncio.get_running_loop()
+        self._begin(frame)
+        self._pieces: Deque[Tuple[float, bytes]] = deque()
+        self._size, self._paused_at = 0, None  # type: int, Optional[float]
+        #: When it was read last, and until when what is read may have come since it was read before a pause.
+        self._read_at = self._old_until = self._old = self._loop.time()
+        self._due: Optional[float] = None
+        #: When bytes came last, by the loop's clock; whether there was a session.
+        self.last_byte = self._loop.time()
+        self.had_session = False
+        #: Whether a text is kept in parts; how much of the room for texts it has.
+        self._is_long, self._has = False, 0
+        self._lost = self._stopping = self._is_cut = False
+        #: Why the line is closed, once that is known.
+        self._closed = ""
+        self._waiter: "Optional[asyncio.Future[None]]" = None
+        #: When its last message was kept, by the clock on the wall.
+        self.last: Optional[float] = None
+
+    # ---- what is other on a line on which the host sends too
+
+    def _begin(self, frame: int) -> None:
+        """Makes the end that hears the line."""
+        self._receiver = Receiver(frame_limit=frame, careful=self._is_careful)
+
+    def _feeds_of(self, frame: int) -> AsItComes:
+        """What is between the line and the end that hears it."""
+        return LineFeeds(frame, self._is_careful) if self._mender.names & LINE_FEEDS else AsItComes()
+
+    def _is_busy(self) -> bool:
+        """Whether a session goes on."""
+        return self._receiver.is_open
+
+    def _begin_anew(self) -> None:
+        """Drops what is held: the analyzer is heard again when it asks for the line."""
+        self._receiver.restart()
+
+    def _seconds(self) -> Optional[float]:
+        """How long the timer runs before it is over."""
+        return RECEIVER if self._receiver.is_open else None
+
+    def _end(self) -> None:
+        self._receiver.close()
+
+    def _held(self) -> int:
+        """How many bytes of a text are held that isn't complete."""
+        return self._receiver.held
+
+    def _has_room(self, is_there: bool) -> None:
+        """Takes no more of a text for which there is no room."""
+        self._receiver.set_room(is_there)
+
+    async def _timed(self, now: float) -> None:
+        """The timer's time is over."""
+        step = self._receiver.timer()
+        self._watch.step(0, step)
+        await self._step(step, now)
+        self._look_at_room()
+
+    async def _heard(self, data: bytes, arrived: float) -> None:
+        for heard in self._feeds.take(data):
+            before = self._receiver.noise
+            for place, found in self._receiver.hear_placed(heard.data):
+                step = self._feeds.restored(heard, found)
+                self._watch.step(place + heard.start, step)
+                await self._step(step, arrived, heard.data[place] == ENQ)
+                await self._take_turns()
+                if self._is_through():
+                    return
+            self._note_noise(self._receiver.noise - before)
+
+    def _start_at(self) -> Optional[float]:
+        """When a session of the host's own may start, if it has something to send."""
+        return None
+
+    async def _start(self) -> None:
+        """Starts it."""
+
+    # ---- what is the same on each line
+
+    def data(self, data: bytes, arrived: float) -> None:
+        """Bytes came, not before this time of the loop's clock."""
+        if self._paused_at is not None:
+            arrived = min(arrived, self._paused_at)
+        elif arrived <= self._old_until:
+            arrived = min(arrived, self._old)
+        self._read_at = self._loop.time()
+        self._pieces.append((arrived, data))
+        self._size += len(data)
+        if self._size > WAITING:
+            self._pause(arrived)
+        self._wake()
+
+    def _pause(self, since: float) -> None:
+        """Reads no further for now: what is read next may have come from this time on."""
+        if self._paused_at is None:
+            self._paused_at = since
+            self._wire.pause()
+
+    def lost(self, why: str = "by the other end") -> None:
+        """The line is gone: what came is still heard."""
+        self._lost, self._closed = True, self._closed or why
+        self._wake()
+
+    def stop(self, why: str) -> None:
+        """Closes the line as soon as no session goes on."""
+        self._stopping, self._closed = True, self._closed or why
+        self._wake()
+
+    def cut(self, why: str) -> None:
+        """Closes the line now, also within a session: what came and isn't answered yet is too old."""
+        self._pieces.clear()
+        self._size, self._is_cut = 0, True
+        self.stop(why)
+
+    def give_way(self) -> None:
+        """Closes a line that has had no session for another one."""
+        self.stop("for another connection")
+
+    @property
+    def peer(self) -> str:
+        """Who is at the other end."""
+        return self._intake.peer
+
+    @property
+    def is_tcp(self) -> bool:
+        """Whether it is a connection, of which there may be any number."""
+        return self._wire.is_tcp
+
+    def _wake(self) -> None:
+        if self._waiter is not None and not self._waiter.done():
+            self._waiter.set_result(None)
+
+    async def run(self) -> None:
+        """Hears the line until it is closed."""
+        why = "the line was closed before its L record"
+        try:
+            while not await self._nothing_left():
+                now = self._loop.time()
+                if self._pieces:
+                    arrived, data = self._pieces.popleft()
+                    self._size -= len(data)
+                    self.last_byte = now
+                    if self._due is not None and arrived >= self._due:
+                        await self._timer(now)
+                    await self._hear(data, arrived)
+                    await self._take_turns()
+                elif self._due is not None and now >= self._due:
+                    await self._timer(now)
+                elif _is_over(self._start_at(), now):
+                    await self._start()
+                elif now - self.last_byte >= self._limits.idle:
+                    self._counts["idle"] += 1
+                    self._closed = f"after {self._limits.idle:g} s of silence"
+                    break
+        except asyncio.CancelledError:
+            why = "the host was stopped"
+            self._closed = self._closed or "since the host stops"
+            raise
+        finally:
+            self._lost = True
+            self._drop(f"the line was closed {self._closed}" if self._is_cut else why)
+            self.room.taken(self._has, 0)
+            self._watch.over()
+            self._end()
+            came = f"bytes {self._watch.heard}, sessions {self._watch.sessions}"
+            self._say(f"closed {self._closed or 'after a fault'}; {came}", CONNECTION)
+            self._wire.close()
+            self._tape.close()
+
+    def _is_through(self) -> bool:
+        """Whether the line is to be closed and no session goes on: what came since, as ENQ, is heard by nobody."""
+        return self._stopping and (self._is_cut or not self._is_busy())
+
+    async def _nothing_left(self) -> bool:
+        """Waits until there is something to do; whether the line is over."""
+        if self._is_through():
+            return True
+        if self._pieces:
+            return False
+        if self._paused_at is not None:
+            self._old, self._old_until, self._paused_at = self._paused_at, self._loop.time(), None
+            self._wire.resume()
+        if self._lost:
+            return True
+        others = [at for at in (self._due, self._start_at()) if at is not None]
+        due = min([self.last_byte + self._limits.idle, *others])
+        self._waiter = self._loop.create_future()
+        alarm = self._loop.call_at(due, self._wake)
+        try:
+            await self._waiter
+        finally:
+            alarm.cancel()
+            self._waiter = None
+        self._share.goes_on()
+        return self._is_through() or (self._lost and not self._pieces)
+
+    async def _timer(self, now: float) -> None:
+        self._tape.event("T")
+        await self._timed(now)
+
+    async def _hear(self, data: bytes, arrived: float) -> None:
+        self._tape.bytes(">", data)
+        self._watch.hears(data)
+        await self._heard(data, arrived)
+        self._look_at_room()
+
+    def _look_at_room(self) -> None:
+        """Takes room for the text that is open. What all lines hold over the first bytes of each is limited."""
+        held = self._held()
+        if held <= FIRST and not self._has:
+            return
+        has = self.room.taken(self._has, held)
+        self._has_room(has is not None)
+        self._has = self._has if has is None else has
+
+    async def _take_turns(self) -> None:
+        """Lets the others have their turn, if this line has had more than they."""
+        if self._share.is_over():
+            self._pause(self._read_at)
+            await self._share.wait()
+
+    def _note_noise(self, count: int) -> None:
+        """Notes how many ENQ and STX came inside a session or a frame, where no analyzer sends them."""
+        if count:
+            self._counts["noise"] += count
+            self._probe.noise(count)
+
+    def _note_enq(self, step: Step) -> None:
+        """Says of an ENQ whether it is noise: it came in a session, and had no reply. An analyzer that begins anew without
+        EOT sends the next one at once; noise is followed by the rest of its frame, or by EOT."""
+        at, before = self._watch.at, self._noise_at
+        self._noise_at = at if step.note is Note.ENDED else -1
+        if step.note is Note.ENDED:
+            self._say(f"noise on the line: byte {at} of the connection, in a session, is ENQ; it has no reply", NOISE)
+        elif 0 <= before == at - 1:
+            self._say(f"ENQ came again, with nothing between: if the analyzer begins anew without EOT, {ANEW}", NOISE)
+
+    async def _step(self, step: Step, arrived: float, is_enq: bool = False) -> None:
+        if is_enq:
+            self._note_enq(step)
+        self.had_session = self.had_session or step.note is Note.OPENED
+        if step.note in _COUNTED:
+            self._counts[_COUNTED[step.note]] += 1
+        if step.note in _ENDS:
+            is_over = self._is_taken and arrived - self._replied < BROKEN * self._limits.scale
+            is_over = is_over and step.note is Note.ENDED and not is_enq
+            self._drop(_NOISE if is_enq and step.note is Note.ENDED else _ENDS[step.note], is_over)
+        self._is_taken = step.note in _TAKEN or (self._is_taken and step.note not in REJECTED)
+        if step.text is not None and not await self._keep(step.text):
+            return
+        if step.reply and not self._answer(step.reply, arrived):
+            return
+        self._set_timer()
+
+    def _set_timer(self) -> None:
+        seconds = self._seconds()
+        self._due = None if seconds is None else self._loop.time() + seconds * self._limits.scale
+
+    def _answer(self, reply: bytes, arrived: float) -> bool:
+        """Sends a reply, if its sender may still be waiting for it."""
+        if self._is_cut:
+            self._restart(self._closed)
+            return False
+        age = self._loop.time() - arrived + self.asleep.seconds()
+        if age > self._limits.reply * self._limits.scale:
+            self._counts["late"] += 1
+            byte = f"byte {self._watch.at} of the connection"
+            self._say(f"a reply is late and isn't sent: {byte} came {age:.1f} s ago", REPLY)
+            self._probe.late()
+            self._restart("the reply would have been late")
+            return False
+        self._probe.replied(self._loop.time() - arrived)
+        self._send(reply)
+        self._replied = self._loop.time()
+        return True
+
+    def _send(self, data: bytes) -> None:
+        self._tape.bytes("<", data)
+        self._wire.write(data)
+
+    async def _keep(self, text: bytes) -> bool:
+        """Keeps a text; if it can't be kept there is no reply, and the receiver begins anew."""
+        self._counts["texts"] += 1
+        try:
+            await self._keep_in_parts(text)
+        except (StoreError, TooLong) as error:
+            self._counts["not_kept"] += 1
+            self._probe.not_kept(error)
+            self._is_long = False
+            self._tries.clear()
+            undone = self._intake.undo(f"a text could not be kept: {error}")
+            if undone:
+                self._put_later(undone)
+            self._restart("a text could not be kept")
+            return False
+        self._probe.kept()
+        return True
+
+    async def _keep_in_parts(self, text: bytes) -> None:
+        """Keeps a text, one part of its changes after another: however many they are, no other line waits for all."""
+        part: List[Change] = []
+        for changes in self._intake.take(text):
+            changes = await self._mended(changes)
+            if len(part) + len(changes) > self._committer.part:
+                self._is_long = True
+                await self._put(part)
+                part = []
+            _join(part, changes)
+            await self._take_turns()
+        if part:
+            await self._put(part)
+        self._is_long = False
+        self._mender.begin_tries(self._tries, self._put_later)
+
+    async def _mended(self, changes: List[Change]) -> List[Change]:
+        """The same changes, with what is made of the messages that end and aren't whole."""
+        if self._intake.bodies:
+            bodies, self._intake.bodies = self._intake.bodies, {}
+            changes = await self._mender.of_all(changes, bodies, True, self._tries)
+            self._share.goes_on()
+            self._intake.also(is_mended(changes))
+        return changes
+
+    async def _put(self, part: Sequence[Change]) -> None:
+        if any(isinstance(one, End) and one.state == WHOLE for one in part):
+            await self._mender.order.over()  # nothing overtakes what is made of an earlier message
+        self._share.rests()
+        await self._committer.put(part, self._is_long)
+        self._share.goes_on()
+        self._intake.kept()
+        await self._take_turns()
+        self._note_ends(part)
+
+    def _note_ends(self, changes: Sequence[Change]) -> None:
+        """Counts the messages that ended, and says which are not whole."""
+        for change in changes:
+            if not isinstance(change, End):
+                continue
+            self._note_codes(change)
+            self._note_letters(change)
+            self._counts["messages" if change.state == WHOLE else "quarantined"] += 1
+            if change.state == WHOLE or (change.size and not change.reason.startswith(MENDED)):
+                self._probe.ended(change)
+            if change.state == WHOLE:
+                self.last = change.at
+                if change.reason:
+                    self._counts["mended"] += 1
+                    self._took_mended(change.key, changes)
+            elif change.size:
+                state = "" if change.reason.startswith(MENDED) else f"{change.state}: "
+                self._say(f"message {change.key} is {state}{change.reason}", MESSAGE)
+
+    def _note_codes(self, end: End) -> None:
+        """Counts the codes of a message that the line's table lacks, and says which they are."""
+        count, names = self._intake.unknown.ended(end.key, end.state == WHOLE)
+        if count:
+            self._counts["unknown_codes"] += count
+            self._say(f"message {end.key} has codes that the line's table lacks: {names}", CODES)
+
+    def _note_letters(self, end: End) -> None:
+        """Says of a whole message that its letters look like those of another encoding."""
+        look = self._intake.letters.pop(end.key, "")
+        if look and end.state == WHOLE:
+            about = f"message {end.key}: its letters are {look}"
+            self._say(f"{about}, and the line's encoding is {self._intake.encoding}", LETTERS)
+
+    def _took_mended(self, key: str, changes: Sequence[Change]) -> None:
+        """A message was mended by these changes, and is kept or will be."""
+
+    def _restart(self, reason: str) -> None:
+        self._begin_anew()
+        self._set_timer()
+        self._counts["restarts"] += 1
+        self._tape.event("R")
+        self._watch.session_over()
+        self._drop(reason)
+        self._look_at_room()
+
+    def _drop(self, reason: str, is_over: bool = False) -> None:
+        """No more comes of the message that goes on; whether the analyzer ended it so."""
+        changes = self._intake.drop(reason)
+        if self._intake.bodies:
+            bodies, self._intake.bodies = self._intake.bodies, {}
+            self._mender.order.begin(functools.partial(self._end_later, changes, bodies, is_over))
+        elif changes:
+            self._put_later(changes)
+
+    async def _end_later(self, changes: List[Change], bodies: Bodies, is_over: bool) -> None:
+        """Ends a message for which no reply waits, with what is made of it."""
+        tries: List[Ended] = []
+        made = await self._mender.of_all(changes, bodies, is_over, tries)
+        if made:
+            await self._put_later(made)
+        self._mender.begin_tries(tries, self._put_later)
+
+    def _put_later(self, changes: Sequence[Change]) -> "asyncio.Future[None]":
+        """Keeps changes for which no reply waits. What they end is counted and said once it is kept."""
+        kept = self._committer.put_later(changes, self._is_long)
+        kept.add_done_callback(lambda done: None if done.cancelled() else self._note_ends(changes))
+        return kept
+
+
+class Ticks:
+    """The earliest time at which bytes can have come. A host that was stopped, or was busy, reads late what came long
+    before. What a turn of the loop reads was not there in the turn before it, and that turn began after the last tick
+    but one. So `before`, the time of that tick, is early enough, however long the host was stopped."""
+
+    def __init__(self, period: float, look: Callable[[], None] = lambda: None) -> None:
+        self._loop, self._period, self._look = asyncio.get_running_loop(), period, look
+        self._last = self.before = self._loop.time()
+        self._handle = self._loop.call_later(period, self._tick)
+
+    def _tick(self) -> None:
+        self.before, self._last = self._last, self._loop.time()
+        self._handle = self._loop.call_later(self._period, self._tick)
+        self._look()
+
+    def stop(self) -> None:
+        """Ends the ticks."""
+        self._handle.cancel()
+
+
+Counts = Dict[str, "Counter[str]"]
+Say = Callable[[str], None]

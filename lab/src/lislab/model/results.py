@@ -1,0 +1,434 @@
+"""What a message says, in the terms that other systems share: patients, orders with their results, and comments. A
+message of which this can't be said surely is quarantined: nothing of it goes out."""
+import datetime
+import functools
+import re
+import zoneinfo
+from collections import Counter
+from typing import Dict, Iterator, List, Mapping, NamedTuple, Optional, Tuple
+
+from lislink.letters import UTF_8, looks_like
+from lislink.message import Entry, Fault, Message, read_all
+from .failures import Quarantined, Refused
+from .numbers import number_of
+from .options import LETTERS, TWICE
+from .store import Stored
+from .unix import shown
+
+#: A time as records have it: a date, and maybe a time of day.
+_TIME = re.compile(r"(\d{4})(\d\d)(\d\d)(?:(\d\d)(?:(\d\d)(\d\d)?)?)?$", re.ASCII)
+#: Report types of an order (LIS02-A2, 9.4.26) that say something of it, also without a result.
+REPORTS = "CPFXIYZ"
+#: The fields of a patient's identities. The most records of a message.
+IDENTITIES, MOST_RECORDS = (3, 4, 5), 250_000
+
+
+class Reading(NamedTuple):
+    """How a line's records are read: its settings, as a file of lines has them. Empty ones are not given."""
+
+    sample: str = ""
+    test: str = ""
+    zone: str = ""
+    letters: str = ""
+    twice: str = ""
+    #: That of the line now. A message goes by the one that it came with, unless its letters aren't of that.
+    encoding: str = ""
+
+
+class Coding(NamedTuple):
+    """What a table of codes says of a test: the laboratory's code with its system, the unit's code in UCUM, and the
+    field that came."""
+
+    code: str
+    system: str = ""
+    ucum: str = ""
+    field: str = ""
+
+
+class Coded(NamedTuple):
+    """A message as it goes out by a table of codes: how it is read, what the table says of the tests of its records, by
+    the record's number in the message and the test's place in it, and how many results it leaves out."""
+
+    one: Stored
+    reading: Reading = Reading()
+    codings: Mapping[Tuple[int, int], Coding] = {}
+    left_out: int = 0
+
+
+class Comment(NamedTuple):
+    """A comment: who says it (P practice, L laboratory, I instrument), and what."""
+
+    source: str
+    text: str
+
+
+class Result(NamedTuple):
+    """A result, each field as text without blanks around it, and how often its order had its code before."""
+
+    code: str
+    name: str
+    system: str
+    value: str
+    unit: str
+    ucum: str
+    range: str
+    flags: List[str]
+    nature: str
+    status: str
+    operator: str
+    at: str
+    instrument: str
+    comments: List[Comment]
+    #: The whole field of the test, and which one of its code this is: 0 if its code is there once.
+    field: str
+    turn: int
+
+
+class Identity(NamedTuple):
+    """An identity of a patient, and its authority and type if the message names them."""
+
+    value: str
+    authority: str = ""
+    kind: str = ""
+
+
+class Ordered(NamedTuple):
+    """An order: its record, the sample, the instrument's sample, its tests, and whether it is a control."""
+
+    record: Entry
+    sample: str
+    instrument_sample: str
+    tests: List[Coding]
+    control: bool
+    comments: List[Comment]
+
+
+class Case(NamedTuple):
+    """What goes out together: the orders of a patient; or, without a patient, controls, or orders below a query."""
+
+    patient: Optional[Entry]
+    orders: List[Ordered]
+    comments: List[Comment]
+
+    @property
+    def is_control(self) -> bool:
+        """Whether these are controls."""
+        return self.orders[0].control
+
+
+def message_of(one: Stored) -> Message:
+    """The message that is kept; `Refused` if it can't be read."""
+    for each in read_all(one.body, one.encoding):
+        if isinstance(each, Fault):
+            raise Refused(f"message {one.number} can't be read: {each.error}")
+        return each.message
+    raise Refused(f"message {one.number} has no records")
+
+
+class Told:
+    """A message as another system gets it: its cases; `Quarantined` if they can't be said surely."""
+
+    def __init__(self, coded: Coded) -> None:
+        if coded.one.body.count(b"\r") > MOST_RECORDS:
+            raise Quarantined(f"it has more than {MOST_RECORDS} records")
+        self.one, self.reading, self._codings = coded.one, coded.reading, coded.codings
+        self.marks = marks_of(self.one)
+        #: The tests of results, by the records' numbers.
+        self._tests: Dict[int, Tuple[str, str, Coding, str]] = {}
+        self._look_at_letters()
+        self.message = message_of(self.one)
+        #: How many orders are left out, since nothing is said of them; how many codes are twice in an order.
+        self.orders_left_out = self.twice = 0
+        self.cases = [case for entry in self.message.entries if entry.letter in "PQ" for case in self._cases(entry)]
+
+    def _look_at_letters(self) -> None:
+        why = letters_fault(self.one.body, self.one.encoding)
+        if why and self.reading.letters != LETTERS[1]:
+            raise Quarantined(why)
+        self.has_other_letters = bool(why)
+        self.marks += [why] if why else []
+
+    def _cases(self, above: Entry) -> Iterator[Case]:
+        """The case of a patient or a query, and that of the controls below it, which are of no patient."""
+        told = [one for one in above.orders if one.results or comments_of(one) or report_of(one)]
+        self.orders_left_out += len(above.orders) - len(told)
+        orders = [self._ordered(one, above) for one in told]
+        own, controls = [[one for one in orders if one.control is of] for of in (False, True)]
+        if own and above.letter == "P":
+            self._check_patient(above)
+        if own:
+            yield Case(above if above.letter == "P" else None, own, comments_of(above))
+        if controls:
+            yield Case(None, controls, [])
+
+    def _check_patient(self, record: Entry) -> None:
+        """Whether the identities are sure; one in which the line's setting says where the sample is may have more."""
+        for field in IDENTITIES:
+            why = identity_of(record, field)[1]
+            if why and not self.reading.sample.startswith(f"P.{field}."):
+                raise Quarantined(f"patient, record {record.number} of the message: {why}")
+
+    def _ordered(self, record: Entry, above: Entry) -> Ordered:
+        sample, why = sample_of(record, above, self.reading)
+        if not why and not sample and not (above.letter == "P" and identities_of(above)):
+            why = "neither a sample nor a patient is named"
+        if why:
+            raise Quarantined(f"order, record {record.number} of the message: {why}")
+        self._check(record)
+        tests = []
+        for at, parts in enumerate(repeats_of(record, 5)):
+            coding = self._codings.get((record.number, at)) or Coding(code_among(parts, self.reading))
+            tests += [coding] if coding.code else []
+        other = record.row.field(4)
+        instrument = record.text(4).strip() if len(other) == 1 and len(other[0]) == 1 else ""
+        control = is_control(self.message, record)
+        return Ordered(record, sample, "" if instrument == sample else instrument, tests, control, comments_of(record))
+
+    def _check(self, order: Entry) -> None:
+        """Whether each result has its test, and no test two contents."""
+        seen: Dict[str, Entry] = {}
+        for entry in order.results:
+            code, field = self._test(entry)[:2]
+            if not code:
+                raise Quarantined(f"result, record {entry.number} of the message: no test is named")
+            first = seen.setdefault(code, entry)
+            if first is entry or all(content_of(first, number) == content_of(entry, number) for number in (4, 5)):
+                continue
+            self.twice += 1
+            merged = self._test(first)[1] != field and self.reading.twice != TWICE[1]
+            if merged or self.reading.twice == TWICE[0]:
+                why = "out of different fields R-3" if merged else "with different values"
+                raise Quarantined(f"order, record {order.number} of the message: {shown(code)} is there twice, {why}")
+
+    def _test(self, entry: Entry) -> Tuple[str, str, Coding, str]:
+        """The code of a result, its whole field, what the table says of it, and its name."""
+        found = self._tests.get(entry.number)
+        if found is None:
+            parts = parts_of(entry, 3)
+            coding = self._codings.get((entry.number, 0)) or Coding(code_among(parts, self.reading))
+            name = parts[1] if len(parts) == 4 and parts[1] != coding.code else ""
+            found = self._tests[entry.number] = coding.code, coding.field or "^".join(parts), coding, name
+        return found
+
+    def results(self, order: Ordered) -> Iterator[Result]:
+        """The results of an order."""
+        found = [(entry, self._test(entry)) for entry in order.record.results]
+        total, turns = Counter(test[0] for _, test in found), Counter()  # type: Counter[str], Counter[str]
+        for entry, test in found:
+            turns[test[0]] += 1
+            yield self._result(entry, test, turns[test[0]] if total[test[0]] > 1 else 0)
+
+    def _result(self, entry: Entry, test: Tuple[str, str, Coding, str], turn: int) -> Result:
+        _, field, coding, name = test
+        repeats = 1 if entry.row.plain(7) is not None else len(entry.row.field(7))
+        flags = [entry.text(7, at).strip() for at in range(repeats)]
+        return Result(
+            coding.code,
+            name,
+            coding.system,
+            content_of(entry, 4),
+            content_of(entry, 5),
+            coding.ucum,
+            content_of(entry, 6),
+            [one for one in flags if one],
+            field_text(entry, 8),
+            field_text(entry, 9),
+            entry.text(11).strip(),
+            time_of(entry.text(13)) or time_of(entry.text(12)),
+            entry.text(14).strip() or self.message.header.text(5).strip(),
+            comments_of(entry),
+            field,
+            turn,
+        )
+
+    def at(self, text: str) -> str:
+        """A time in the form of HL7, with the line's zone if it has one; empty for anything else."""
+        moment, text = moment_of(text), text.strip()
+        if moment is None:
+            return ""
+        if len(text) == 8 or not self.reading.zone:
+            return text
+        return text + moment.replace(tzinfo=zoneinfo.ZoneInfo(self.reading.zone)).strftime("%z")
+
+    def iso(self, text: str) -> str:
+        """The same in the form of ISO 8601, which has no time of day without a zone: then it is the date."""
+        moment, text = moment_of(text), text.strip()
+        if moment is None:
+            return ""
+        if len(text) < 12 or not self.reading.zone:
+            return moment.date().isoformat()
+        return moment.replace(tzinfo=zoneinfo.ZoneInfo(self.reading.zone)).isoformat()
+
+
+def is_control(message: Message, order: Entry) -> bool:
+    """Whether an order, or its whole message, is a control, and no sample of a patient."""
+    return "Q" in (order.text(12).strip().upper(), message.header.text(12).strip().upper())
+
+
+def report_of(order: Entry) -> str:
+    """The report type of an order that says something also without a result; empty for any other."""
+    word = order.text(26).strip().upper()
+    return word if len(word) == 1 and word in REPORTS else ""
+
+
+def identities_of(patient: Entry) -> Dict[int, Identity]:
+    """A patient's identities by their fields: the practice's (3), the laboratory's (4), and the third (5)."""
+    found = {field: identity_of(patient, field)[0] for field in IDENTITIES}
+    return {field: one for field, one in found.items() if one.value}
+
+
+def identity_of(patient: Entry, field: int) -> Tuple[Identity, str]:
+    """An identity of a patient, and why it isn't sure. Of components, as those of CX in HL7, the first one is the
+    identity, the fourth its authority, the fifth its type; with any other one no one can say which it is."""
+    plain = patient.row.plain(field)
+    if plain is not None:
+        return Identity(plain.decode(patient.encoding, "replace").strip()), ""
+    parts = parts_of(patient, field)
+    value, check, scheme, authority, kind, *others = [*parts, *[""] * (5 - len(parts))]
+    is_one = len(patient.row.field(field)) == 1 and (value or not parts) and not (check or scheme or any(others))
+    if is_one:
+        return Identity(value, authority, kind), ""
+    return Identity(_whole(patient, field)), f"which part of P-{field} is the patient's identity?"
+
+
+def parts_of(entry: Entry, field: int) -> List[str]:
+    """The components of a field without blanks around them, up to the last one that isn't empty."""
+    plain = entry.row.plain(field)
+    if plain is not None:
+        text = plain.decode(entry.encoding, "replace").strip()
+        return [text] if text else []
+    repeats = entry.row.field(field)
+    return _filled(repeats[0], entry.encoding) if repeats else []
+
+
+def repeats_of(entry: Entry, field: int) -> List[List[str]]:
+    """The same of each repeat of a field."""
+    return [_filled(parts, entry.encoding) for parts in entry.row.field(field)]
+
+
+def _filled(parts: List[bytes], encoding: str) -> List[str]:
+    found = [part.decode(encoding, "replace").strip() for part in parts]
+    while found and not found[-1]:
+        found.pop()
+    return found
+
+
+def code_of(entry: Entry, field: int, reading: Reading = Reading()) -> str:
+    """The code of a test: the components that the line's setting names; without one the maker's code if nothing is
+    after it (LIS02-A2, 6.6.1), else the whole field, so that two tests never have one code."""
+    return code_among(parts_of(entry, field), reading)
+
+
+def code_among(parts: List[str], reading: Reading) -> str:
+    """The same, of the components of a field."""
+    if reading.test:
+        places = [int(one) - 1 for one in reading.test.split("^")]
+        return "^".join(parts[at] if at < len(parts) else "" for at in places).strip("^")
+    return parts[3] if len(parts) == 4 else "^".join(parts)
+
+
+def sample_of(order: Entry, patient: Optional[Entry], reading: Reading = Reading()) -> Tuple[str, str]:
+    """The sample of an order, and why it isn't sure. Without a setting it is O-3, or O-4 if that is empty; which one of
+    several components it is, no one can say: one may be the rack."""
+    if reading.sample == "none":
+        return "", ""
+    if reading.sample:
+        letter, field, component = (reading.sample.split(".") + [""])[:3]
+        entry = order if letter == "O" else patient
+        repeats = entry.row.field(int(field)) if entry is not None else []
+        if entry is None or len(repeats) > 1 or (not component and repeats and len(repeats[0]) > 1):
+            return _whole(order, int(field)), f"{reading.sample} is not one sample"
+        text = entry.text(int(field), 0, int(component or 1) - 1).strip()
+        return text, "" if text else f"{reading.sample}, the sample, is empty"
+    for number in (3, 4):
+        repeats = order.row.field(number)
+        text = _whole(order, number)
+        if text and (len(repeats) > 1 or len(repeats[0]) > 1):
+            return text, f"which part of O-{number} is the sample? The line needs a setting, as sample = O.{number}.1"
+        if text:
+            return text, ""
+    return "", "the sample is missing: O-3 and O-4 are empty"
+
+
+def _whole(entry: Entry, field: int) -> str:
+    """A field as one text; empty if it has delimiters alone."""
+    is_there = any(part.strip() for repeat in entry.row.field(field) for part in repeat)
+    return field_text(entry, field) if is_there else ""
+
+
+def comments_of(entry: Entry) -> List[Comment]:
+    """The comments on a record."""
+    if not entry.notes:
+        return []
+    found = [Comment(one.text(3), field_text(one, 4)) for one in entry.notes if one.letter == "C"]
+    return [one for one in found if one.text]
+
+
+def marks_of(one: Stored) -> List[str]:
+    """What is to be said of a whole message: which one it repeats, and what was mended in it."""
+    again = [] if one.again_of is None else [f"repeat of message {one.again_of}"]
+    return again + ([one.reason] if one.reason else [])
+
+
+def text_of(entry: Entry, field: int) -> str:
+    """A field as its text; with components or repeats as `whole` has it."""
+    plain = entry.row.plain(field)
+    if plain is not None:
+        return plain.decode(entry.encoding, "replace")
+    parts = entry.parts(field)
+    return parts if isinstance(parts, str) else entry.whole(field)
+
+
+def field_text(entry: Entry, field: int) -> str:
+    """The same without blanks around it."""
+    return text_of(entry, field).strip()
+
+
+def content_of(entry: Entry, field: int) -> str:
+    """The same of a value, a unit or a range: alone if other components are empty, and two numbers as a range."""
+    plain = entry.row.plain(field)
+    if plain is not None:
+        return plain.decode(entry.encoding, "replace").strip()
+    parts = parts_of(entry, field) if len(entry.row.field(field)) == 1 else []
+    filled = [part for part in parts if part]
+    if len(filled) == 1:
+        return filled[0]
+    is_range = field == 6 and len(parts) == 2 and all(number_of(part) for part in parts)
+    return "-".join(parts) if is_range else field_text(entry, field)
+
+
+def letters_fault(body: bytes, encoding: str) -> str:
+    """Why the letters of a message aren't of its encoding; empty if they may be."""
+    try:
+        body.decode(encoding)
+    except UnicodeDecodeError as error:
+        return f"byte {error.start} of the message is no letter of {encoding}, the line's encoding"
+    if looks_like(body, encoding) != UTF_8:
+        return ""
+    return f"its letters are those of UTF-8, and the line's encoding is {encoding}"
+
+
+def in_its_letters(one: Stored, reading: Reading) -> Stored:
+    """A message in the encoding that its line has now, if its letters are of that and not of the one it came with."""
+    if not reading.encoding or not letters_fault(one.body, one.encoding):
+        return one
+    return one if letters_fault(one.body, reading.encoding) else one._replace(encoding=reading.encoding)
+
+
+def time_of(text: str) -> str:
+    """A date or a time as records have it; empty for anything else."""
+    text = text.strip()
+    return text if moment_of(text) is not None else ""
+
+
+@functools.lru_cache(maxsize=64)  # the results of a message mostly have the same times
+def moment_of(text: str) -> Optional[datetime.datetime]:
+    """What a time of a record means, which has no zone; None for anything else."""
+    found = _TIME.match(text.strip()) if text else None
+    if found is None:
+        return None
+    year, month, day, hour, minute, second = [int(one or 0) for one in found.groups()]
+    try:
+        return datetime.datetime(year, month, day, hour, minute, second)
+    except ValueError:
+        return None

@@ -1,0 +1,24 @@
+"""The samples that a message is about: its order among others is kept by them."""
+import contextlib
+from typing import FrozenSet, Optional, Set
+
+from lislink.message import Entry
+from lislink.records import MessageError, Reader
+from .results import Reading, parts_of, sample_of
+from .store import Stored
+
+
+def samples_of(one: Stored, reading: Reading = Reading()) -> FrozenSet[str]:
+    """The samples of a message's orders, as the line's settings have them; the whole field where that isn't sure, and a
+    patient's identity where there is no sample. None if it names none. A record is read at a time, so that a message
+    that is too large for a delivery isn't for this."""
+    found: Set[str] = set()
+    above: Optional[Entry] = None
+    with Reader() as reader, contextlib.suppress(MessageError):
+        for row in reader.feed(one.body):
+            if row.letter in "PQ":
+                above = Entry(row, 0, one.encoding)
+            elif row.letter == "O" and above is not None:
+                text = sample_of(Entry(row, 0, one.encoding), above, reading)[0]
+                found.update((text or "^".join(parts_of(above, 3) or parts_of(above, 4))).split("\\"))
+    return frozenset(found - {""})

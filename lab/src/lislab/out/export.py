@@ -1,0 +1,202 @@
+"""`lislab export`: messages out of a store."""
+import datetime
+import json
+import re
+from collections import Counter
+from typing import Callable, Dict, Iterator, List, NamedTuple, Optional, Sequence
+
+from lislink.message import Fault, read_all
+from ..field import table
+from ..model.codes import mark_of
+from ..model.results import Coded, Told, code_of, content_of, field_text, identities_of, is_control, sample_of
+from ..model.store import UNFINISHED, UNREADABLE, WHOLE, Store, Stored
+from . import fhir, oru
+from .oru import Wishes
+from .tables import Tables
+
+FORMATS = ("records", "json", "csv", "tsv", "oru", "fhir")
+#: What makes the bytes of a message; of None those at the head of all.
+Writer = Callable[[Optional[Stored]], bytes]
+#: The columns of a table before those of a result, and after them; the last one of all is `control`, Q for a control.
+OWN, LAST = ("number", "line", "received", "again_of"), ("mended",)
+#: A cell that a program for tables would take for a formula, unless it is a number.
+_FORMULA, _NUMBER = re.compile(r"\s*[=+\-@]"), re.compile(r"[+-]?[\d.,]+(?:[eE][+-]?\d+)?$", re.ASCII)
+
+
+class Wanted(NamedTuple):
+    """Which messages are wanted."""
+
+    states: List[str]
+    after: int
+    since: Optional[float]
+    line: Optional[str]
+    repeats: bool
+
+
+def time_of(word: str) -> float:
+    """The time of `2026-11-27`, `2026-11-27T10:30`, or these with a zone; ValueError for anything else."""
+    return datetime.datetime.fromisoformat(word.replace("Z", "+00:00")).timestamp()
+
+
+def time_text(at: Optional[float]) -> str:
+    """A time of the clock on the wall, with its zone; empty if there is none."""
+    return "" if at is None else datetime.datetime.fromtimestamp(at).astimezone().isoformat(timespec="milliseconds")
+
+
+def wanted_of(store: Store, wanted: Wanted) -> Iterator[Stored]:
+    """The messages that are wanted: whole ones by their numbers, then the others."""
+    if WHOLE in wanted.states:
+        for one in store.messages(wanted.after):
+            if _is_wanted(one, wanted):
+                yield one
+    if UNFINISHED in wanted.states or UNREADABLE in wanted.states:
+        for one in store.others():
+            if one.state in wanted.states and _is_wanted(one, wanted):
+                yield one
+
+
+def _is_wanted(one: Stored, wanted: Wanted) -> bool:
+    at = one.began if one.ended is None else one.ended
+    if wanted.since is not None and at < wanted.since:
+        return False
+    return (wanted.line is None or one.line == wanted.line) and (wanted.repeats or one.again_of is None)
+
+
+class Form(NamedTuple):
+    """How messages are written: in which form, by which table of codes and settings of lines, and as their receiver
+    wants it. A table has these columns; its formulas are made harmless; controls go out too, or they alone."""
+
+    form: str
+    tables: Optional[Tables] = None
+    fields: Sequence[str] = table.USUAL
+    safe: bool = False
+    controls: str = "with"
+    wishes: Optional[Wishes] = None
+    #: Whether a table is kept back too, as the forms of HL7 are, if a result has no sample or no test.
+    is_strict: bool = True
+    #: What was left out, and what else is to be looked at, is counted here.
+    counts: "Counter[str]" = Counter()
+
+
+def writer_of(form: Form) -> Writer:
+    """What writes messages in this form. It fails with `Quarantined` for a message that can't be said surely."""
+    coded: Callable[[Stored], Coded] = Coded
+    if form.tables:
+        coded = form.tables.applied
+    if form.form == "records":
+        return lambda one: b"" if one is None else coded(one).one.body
+    if form.form == "json":
+        return lambda one: b"" if one is None else (_json(_as_data(coded(one).one)) + "\n").encode()
+    return _message_writer(form, coded) if form.form in ("oru", "fhir") else _table_writer(form, coded)
+
+
+def counted_texts(form: Form) -> List[str]:
+    """What was left out so far, and what else is to be looked at."""
+    return [f"{count} {name}" for name, count in form.counts.items() if count]
+
+
+def _json(data: object) -> str:
+    return json.dumps(data, ensure_ascii=False)
+
+
+def _message_writer(form: Form, coded: Callable[[Stored], Coded]) -> Writer:
+    """What writes each message by itself in a form of HL7. One that isn't whole, or says nothing of a patient or a
+    control, gives nothing."""
+    write = oru.oru_of if form.form == "oru" else fhir.bundle_of
+    wishes = form.wishes or oru.Wishes()
+    return lambda one: b"" if one is None or one.state != WHOLE else write(_told(form, coded(one)), wishes)
+
+
+def _told(form: Form, coded: Coded) -> Told:
+    """A message as its receiver gets it; what is left out of it is counted."""
+    told = Told(coded)
+    if form.controls != "with":
+        wanted = [one for one in told.cases if one.is_control is (form.controls == "only")]
+        form.counts["orders left out by --controls"] += sum(len(one.orders) for one in told.cases if one not in wanted)
+        told.cases = wanted
+    form.counts["results left out by a table"] += coded.left_out
+    form.counts["orders left out, without a result"] += told.orders_left_out
+    form.counts["tests twice in an order, with different values"] += told.twice
+    form.counts["messages with letters of another encoding"] += told.has_other_letters
+    return told
+
+
+def _table_writer(form: Form, coded: Callable[[Stored], Coded]) -> Writer:
+    """What writes results as rows."""
+    more = [table.Column("mark", lambda where: mark_of(where[3]))] if form.tables else []
+    control = table.Column("control", lambda where: "Q" if is_control(where[0], where[2]) else "")
+    own, last = ([table.Column(name, lambda where: "") for name in names] for names in (OWN, LAST))
+    line = table.line_writer(form.form, [*own, *table.columns_of(list(form.fields)), *more, *last, control])
+
+    def rows(one: Optional[Stored]) -> bytes:
+        if one is None:
+            return line(None).encode()
+        message = coded(one)
+        if form.is_strict and one.state == WHOLE:
+            _told(form, message)
+        columns = [*table.columns_of(list(form.fields), usual=_usual(message)), *more, control]
+        own = ["" if one.number is None else str(one.number), one.line, time_text(one.ended), one.again_of or ""]
+        found = table.rows_of(message.one.body, columns, one.encoding)
+        wanted = {"with": ("", "Q"), "without": ("",), "only": ("Q",)}[form.controls]
+        told = [row for row, _ in found if row and row[-1] in wanted]
+        mended = one.reason if one.state == WHOLE else ""
+        cells = ([*own, *row[:-1], mended, row[-1]] for row in told)
+        return "".join(line(_harmless(row) if form.safe else row) for row in cells).encode()
+
+    return rows
+
+
+def _usual(coded: Coded) -> Dict[str, Callable[[table.Where], str]]:
+    """The usual columns of a table as the forms of HL7 have them: the sample and the test by the settings of the line,
+    no patient of a control, no blanks around a text."""
+
+    def patient(where: table.Where) -> str:
+        if where[1].letter != "P" or is_control(where[0], where[2]):
+            return ""
+        return next((one.value for one in identities_of(where[1]).values()), "")
+
+    def test(where: table.Where) -> str:
+        coding = coded.codings.get((where[3].number, 0))
+        return coding.code if coding else code_of(where[3], 3, coded.reading)
+
+    texts = {"value": 4, "unit": 5, "range": 6, "flag": 7, "status": 9}
+    return {
+        "sample": lambda where: sample_of(where[2], where[1], coded.reading)[0],
+        "patient": patient,
+        "test": test,
+        **{name: _text(field) for name, field in texts.items()},
+        "date": lambda where: field_text(where[3], 13) or field_text(where[3], 12),
+        "instrument": lambda where: field_text(where[3], 14) or field_text(where[0].header, 5),
+    }
+
+
+def _text(field: int) -> Callable[[table.Where], str]:
+    """What makes the cell of a result's field."""
+    return lambda where: (content_of if field < 7 else field_text)(where[3], field)
+
+
+def _harmless(row: List[str]) -> List[str]:
+    """Cells of which none is a formula: one that would be has an apostrophe before it."""
+    return [f"'{one}" if _FORMULA.match(one) and not _NUMBER.match(one) else one for one in row]
+
+
+def _as_data(one: Stored) -> "dict[str, object]":
+    row: "dict[str, object]" = {
+        "number": one.number,
+        "key": one.key,
+        "line": one.line,
+        "peer": one.peer,
+        "began": time_text(one.began),
+        "received": time_text(one.ended),
+        "state": one.state,
+        "again_of": one.again_of,
+    }
+    if one.state == WHOLE:
+        found = [each for each in read_all(one.body, one.encoding) if not isinstance(each, Fault)]
+        if one.reason:
+            row["mended"] = one.reason
+        row["message"] = found[0].message.to_dict() if found else None
+    else:
+        row["reason"] = one.reason
+        row["records"] = one.body.decode(one.encoding, "replace")
+    return row

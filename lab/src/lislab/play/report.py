@@ -1,0 +1,124 @@
+"""What a laboratory keeps and signs: one page of HTML with each play as a ladder; and JUnit's XML for machines."""
+import datetime
+import re
+from typing import Iterator, List, Sequence
+from xml.sax.saxutils import escape, quoteattr
+
+from ..diagnosis.faults import words
+from ..field.ladder import Row
+from ..field.page import STYLE, escaped, rows_of
+from .frames import NAMES, read_frame
+from .player import Event, Played, ranges
+
+_NAMES = {number: name for name, number in NAMES.items()}
+_PRINT = """
+.about{color:#445}col.p{width:36%}col.q{width:30%}.sign{margin:2.5rem 0 1rem;width:100%;table-layout:fixed}
+.sign td{padding:2.2rem 1rem .2rem 0;border-bottom:1px solid #445}.sign tr.under td{padding:.1rem 0;border:0;color:#445}
+section{break-after:page}section:last-of-type{break-after:auto}
+"""
+_POLICY = "default-src 'none'; style-src 'unsafe-inline'; img-src data:"
+_BAD = re.compile(r"[^\t\n\r\x20-\ud7ff\ue000-\ufffd]")
+
+
+def _row(event: Event, own: str) -> Row:
+    frame = read_frame(event.data)
+    note = "; ".join(f"wanted {wanted}, got {got}" for wanted, got in event.differences)
+    level = "bad" if event.differences else "plain" if event.mark in (own, "-") else "good"
+    base = Row(event.line, event.time, event.mark, "event", event.words, note, level, event.data)
+    if event.mark == "-":
+        return base
+    if frame is not None:
+        title = f"frame {frame.number} {words(frame.text)}" + ("" if frame.is_last else "<ETB>")
+        return base._replace(kind="frame", title=title, number=frame.number, last=frame.is_last, text=frame.text)
+    title = _NAMES.get(event.data[0], "") if len(event.data) == 1 else ""
+    return base._replace(kind="unit", title=title or words(event.data) or "nothing")
+
+
+def _section(one: Played, anchors: str) -> Iterator[str]:
+    found, outcome = one.outcome.differences, one.outcome
+    yield f'<section><h2 id="{escaped(one.name)}">{escaped(one.name)}</h2>'
+    yield "".join(f'<p class="about">{escaped(line)}</p>' for line in one.about)
+    yield f'<div class="counts"><span><b>{outcome.steps}</b> steps</span><span data-count="differences">'
+    end = "analyzer" if one.mark == ">" else "computer"
+    yield f"<b>{len(found)}</b> differences</span><span>played as the {end} from {escaped(one.own or '-')}</span>"
+    yield f"<span>at the other end {escaped(one.other or '-')}</span><span>{_clock(one.begun)}</span></div>"
+    if outcome.failed:
+        yield f'<p class="look bad">The play stopped: {escaped(outcome.failed)}</p>'
+    for line, (wanted, got) in found:
+        where = f'<a href="#{anchors}{line}">line {line}</a>' if line else "the end"
+        yield f'<div class="look bad" data-difference="{line}">At {where}: wanted <code>{escaped(wanted)}</code>, '
+        yield f"got <code>{escaped(got)}</code></div>"
+    if outcome.skipped:
+        yield f'<p class="look">Not played: line {ranges(outcome.skipped)}.</p>'
+    if not found and not outcome.failed:
+        yield '<p class="look">No difference.</p>'
+    yield '<table class="ladder"><colgroup><col class="n"><col class="t"><col class="p"><col class="q"><col>'
+    yield "</colgroup>"
+    yield "<thead><tr><th>line</th><th>time</th><th>analyzer</th><th style='text-align:right'>computer</th>"
+    yield "<th>what differs</th></tr></thead><tbody>"
+    yield from rows_of([_row(event, one.mark) for event in outcome.events], False, anchors)
+    yield "</tbody></table></section>"
+
+
+def _clock(seconds: float) -> str:
+    return datetime.datetime.fromtimestamp(seconds).astimezone().isoformat(" ", "seconds")
+
+
+def _sums(plays: Sequence[Played]) -> Iterator[str]:
+    yield '<table class="ladder"><thead><tr><th>play</th><th>steps</th><th>differences</th></tr></thead><tbody>'
+    for one in plays:
+        count = len(one.outcome.differences)
+        level = "bad" if count or one.outcome.failed else ""
+        end = ", and the play stopped" if one.outcome.failed else ""
+        yield f'<tr class="{level}"><td><a href="#{escaped(one.name)}">{escaped(one.name)}</a></td>'
+        yield f"<td>{one.outcome.steps}</td><td>{count}{end}</td></tr>"
+    yield "</tbody></table>"
+
+
+def page_of(plays: Sequence[Played]) -> str:
+    """The page, with a place for two signatures."""
+    title = plays[0].name if len(plays) == 1 else f"{len(plays)} plays"
+    wrong = sum(bool(one.outcome.differences or one.outcome.failed) for one in plays)
+    date = _clock(plays[0].begun)
+    sums = "".join(_sums(plays)) if len(plays) > 1 else ""
+    sections = "".join("".join(_section(one, f"p{place}l")) for place, one in enumerate(plays, 1))
+    return f"""<!doctype html>
+<html lang="en"><head><meta charset="utf-8"><meta name="viewport" content="width=device-width">
+<meta http-equiv="Content-Security-Policy" content="{_POLICY}">
+<link rel="icon" href="data:,"><title>{escaped(title)}: play</title><style>{STYLE}{_PRINT}</style></head><body>
+<header><h1>Acceptance test of a line: {escaped(title)}</h1><div class="counts"><span>{date}</span>
+<span><b>{len(plays)}</b> played</span><span><b>{wrong}</b> with differences</span></div></header><main>
+{sums}{sections}
+<table class="sign"><tr><td></td><td></td></tr><tr class="under"><td>for the laboratory: name, date, signature</td>
+<td>for the maker: name, date, signature</td></tr></table></main>
+<footer>Made by lislab play, which is tested, and not proved. This page holds what was sent: keep it as patients' data.
+</footer>
+</body></html>
+"""
+
+
+def junit_of(plays: Sequence[Played]) -> str:
+    """The same as JUnit's XML: a test for each play."""
+    failures = sum(bool(one.outcome.differences) and not one.outcome.failed for one in plays)
+    errors = sum(bool(one.outcome.failed) for one in plays)
+    seconds = sum(one.seconds for one in plays)
+    rows: List[str] = ['<?xml version="1.0" encoding="UTF-8"?>']
+    counts = f'tests="{len(plays)}" failures="{failures}" errors="{errors}" time="{seconds:.3f}"'
+    rows.append(f'<testsuite name="lislab play" {counts}>')
+    for one in plays:
+        name = quoteattr(_clean(one.name))
+        rows.append(f'<testcase classname="lislab.play" name={name} time="{one.seconds:.3f}">')
+        found = [f"difference {line or 'end'} {wanted} {got}" for line, (wanted, got) in one.outcome.differences]
+        text = escape(_clean("\n".join(found)))
+        if one.outcome.failed:
+            rows.append(f"<error message={quoteattr(_clean(one.outcome.failed))}>{text}</error>")
+        elif found:
+            rows.append(f'<failure message="{len(found)} differences">{text}</failure>')
+        rows.append("</testcase>")
+    return "\n".join([*rows, "</testsuite>"]) + "\n"
+
+
+def _clean(text: str) -> str:
+    """Text without what XML can't have."""
+    return _BAD.sub("?", text)
+

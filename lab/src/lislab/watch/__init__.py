@@ -1,0 +1,1 @@
+"""What a host and its deliveries do, for those who look."""

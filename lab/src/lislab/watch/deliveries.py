@@ -1,0 +1,56 @@
+"""How deliveries do: whether one goes on, since when nothing goes and why, how many messages wait, and what is set
+aside. A delivery is known by its cursor."""
+import os
+import time
+from typing import Any, Dict, Sequence
+
+from ..diagnosis.pulse import clock, many
+from ..model.files import is_locked
+from ..model.store import Store, StoreError
+from ..out.aside import held_of
+from ..out.deliver import read_cursor, read_state
+from .tally import undelivered
+
+#: So many seconds a message may wait for a delivery that isn't running, before this is bad.
+PATIENCE = 60.0
+#: What a delivery is that fails, isn't running, or has set messages aside.
+FAILS, DOWN, ASIDE, GOOD = "delivery-fails", "delivery-down", "set-aside", "delivers"
+
+
+def deliveries_of(store: Store, cursors: Sequence[str]) -> Dict[str, Dict[str, Any]]:
+    """A row for each delivery, and one for what it has set aside, as those of lines are."""
+    rows: Dict[str, Dict[str, Any]] = {}
+    for path in cursors:
+        name = f"delivery {os.path.basename(path)}"
+        try:
+            rows[name] = _delivery(store, path)
+            held = held_of(path)
+        except (StoreError, OSError) as error:
+            rows[name] = _row("bad", FAILS, time.time(), str(error), 0)
+            continue
+        if held:
+            first = held[0]
+            text = f"{many(len(held), 'message')} set aside; message {first.number}: {first.why}"
+            rows[f"{name}: aside"] = _row("bad", ASIDE, first.at, text, len(held))
+    return rows
+
+
+def _row(state: str, verdict: str, since: float, says: str, waiting: int) -> Dict[str, Any]:
+    return {"state": state, "verdict": verdict, "since": since, "says": says, "waiting": waiting, "advice": ""}
+
+
+def _delivery(store: Store, path: str) -> Dict[str, Any]:
+    waiting, found = undelivered(store, path), read_state(path)
+    wait = f"; {many(waiting, 'message')} not delivered" if waiting else ""
+    is_running = os.path.exists(path + ".lock") and is_locked(path + ".lock")
+    if is_running and found.why:
+        return _row("bad", FAILS, found.since, f"nothing goes since {clock(found.since)}: {found.why}{wait}", waiting)
+    if not is_running and waiting:
+        first = next(iter(store.messages(read_cursor(path)[0], 1)), None)
+        since = time.time() if first is None else first.ended or first.began
+        why = f": {found.why}" if found.why else ""
+        state = "bad" if time.time() - since > PATIENCE else "quiet"
+        return _row(state, DOWN, since, f"the delivery isn't running{why}{wait}", waiting)
+    more = "".join(f"; {count} {name}" for name, count in found.counts.items() if count)
+    says = f"all is delivered{more}" if not waiting else f"it goes on{wait}{more}"
+    return _row("good" if is_running else "quiet", GOOD, found.since, says, waiting)

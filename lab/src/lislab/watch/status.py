@@ -1,0 +1,199 @@
+"""`lislab status`: the lines of a host, what is kept, and what isn't delivered yet."""
+import json
+import time
+from typing import Any, Dict, Iterator, List, NamedTuple, Optional
+
+from ..model.book import Failed
+from ..model.books import reading_book
+from ..model.said import shown
+from ..model.store import Store
+from ..out.aside import held_of
+from ..out.deliver import read_cursor
+from ..out.export import time_text
+
+#: A state that was written longer ago than this, in seconds, is old; so many failed orders of a line are named.
+OLD, NAMED = 10.0, 20
+_COLUMNS = (
+    "line",
+    "connected",
+    "came",
+    "whole",
+    "queries",
+    "again",
+    "mended",
+    "unfinished",
+    "unreadable",
+    "rejected",
+    "late",
+    "not_kept",
+    "last",
+)
+
+
+class Waiting(NamedTuple):
+    """What a delivery has still to do."""
+
+    cursor: str
+    messages: int
+    oldest: Optional[float]
+    aside: List[Dict[str, Any]]
+
+
+def read_state(path: Optional[str]) -> Dict[str, Any]:
+    """What the host wrote last; nothing if it wrote nothing."""
+    try:
+        with open(path or "", encoding="utf-8") as file:
+            return dict(json.load(file))
+    except (OSError, ValueError):
+        return {}
+
+
+def age_of(state: Dict[str, Any]) -> Optional[float]:
+    """How many seconds ago the host wrote its state; below 0 if the clock was set back since, None if there is none."""
+    return round(time.time() - float(state["at"]), 1) if state else None
+
+
+def is_fresh(age: Optional[float]) -> bool:
+    """Whether a state of this age is that of now."""
+    return age is not None and -OLD < age < OLD
+
+
+def runs(store: Store, state: Dict[str, Any]) -> bool:
+    """Whether the host is running: it has its store. One that lost its connection may not have it for a while, and
+    writes its state all the same."""
+    if store.is_held(str(state.get("host", ""))):
+        return True
+    return not store.held_to_the_end and not state.get("stopped") and is_fresh(age_of(state))
+
+
+def waiting_of(store: Store, path: str, most: int = 1000) -> Waiting:
+    """How much a delivery with this cursor has still to do; it counts up to a limit."""
+    after = read_cursor(path)[0]
+    oldest, count = None, 0
+    for one in store.messages(after, most):
+        oldest = one.ended if count == 0 else oldest
+        count += 1
+    aside = [{"key": held.key, "number": held.number, "tries": held.tries, "why": held.why} for held in held_of(path)]
+    return Waiting(path, count, oldest, aside)
+
+
+def rows_of(store: Store, state: Dict[str, Any]) -> List[Dict[str, Any]]:
+    """A row for each line that is known."""
+    kept = {one.line: one for one in store.counts()}
+    live: Dict[str, Any] = state.get("lines", {})
+    rows = []
+    for name in sorted({*kept, *live}):
+        row: Dict[str, Any] = {
+            one: live.get(name, {}).get(one, 0)
+            for one in ("connected", "queries", "found_nothing", "rejected", "late", "not_kept", "noise")
+        }
+        row["came"] = live.get(name, {}).get("connections", 0)
+        row["late"] += live.get(name, {}).get("late_replies", 0)
+        row["line"] = name
+        one = kept.get(name)
+        row.update(
+            {
+                "whole": one.whole if one else 0,
+                "again": one.again if one else 0,
+                "mended": one.mended if one else 0,
+                "unfinished": one.unfinished if one else 0,
+                "unreadable": one.unreadable if one else 0,
+                "last": time_text(one.last) if one else "",
+            }
+        )
+        rows.append(row)
+    return rows
+
+
+def data_of(store: Store, state: Dict[str, Any], cursors: List[str]) -> Dict[str, Any]:
+    """All of it as data."""
+    waiting = [waiting_of(store, path) for path in cursors]
+    with reading_book(store) as book:
+        orders, failed = book.counts(), book.failed(NAMED)
+    return {
+        "running": runs(store, state),
+        "state_age": age_of(state),
+        "since": time_text(state.get("begun")),
+        "process": state.get("process"),
+        "commits": state.get("commits", 0),
+        "failed_commits": state.get("failed_commits", 0),
+        "refused_connections": state.get("refused_connections", 0),
+        "lines": rows_of(store, state),
+        "would": state.get("would", {}),
+        "unknown_codes": state.get("unknown_codes", {}),
+        "notices": state.get("notices", {}),
+        "not_said": state.get("not_said", {}),
+        "undelivered": [{**one._asdict(), "oldest": time_text(one.oldest)} for one in waiting],
+        "orders": orders,
+        "failed_orders": {line: _failed_of(one) for line, one in failed.items()},
+    }
+
+
+def _failed_of(found: Failed) -> Dict[str, Any]:
+    """The orders of a line that have failed, as data. The names of patients stay in the store."""
+    newest = [
+        {
+            "number": one.number,
+            "sample": one.order.sample,
+            "tests": one.order.tests,
+            "reason": one.reason,
+            "tries": one.tries,
+            "at": time_text(one.changed),
+        }
+        for one in found.newest
+    ]
+    return {"count": found.many, "newest": newest}
+
+
+def _old(age: Optional[float]) -> str:
+    """What is said of a state that isn't that of now."""
+    if age is None:
+        return "; there is no state that it wrote"
+    where = "old" if age > 0 else "ahead of the clock"
+    return f"; its state is {abs(age):.0f} seconds {where}"
+
+
+def text_of(data: Dict[str, Any]) -> str:
+    """The same for a reader."""
+    if data["running"]:
+        head = (
+            f"the host is running since {data['since']}, process {data['process']}: {data['commits']} commits, "
+            f"{data['failed_commits']} failed; {data['refused_connections']} connections turned away"
+        )
+        head = head if is_fresh(data["state_age"]) else f"the host is running{_old(data['state_age'])}"
+    else:
+        head = "the host is not running"
+    cells = [list(_COLUMNS)] + [[str(row[one]) for one in _COLUMNS] for row in data["lines"]]
+    widths = [max(len(row[place]) for row in cells) for place in range(len(_COLUMNS))]
+    rows = ["  ".join(cell.ljust(width) for cell, width in zip(row, widths)).rstrip() for row in cells]
+    for one in data["undelivered"]:
+        oldest = f", the oldest of {one['oldest']}" if one["messages"] else ""
+        aside = f"; {len(one['aside'])} set aside" if one["aside"] else ""
+        rows.append(f"{one['cursor']}: {one['messages']} messages not delivered{oldest}{aside}")
+        for held in one["aside"]:
+            rows += [f"  {held['key']} failed {held['tries']} times: {held['why']}"] if held["tries"] else []
+    for name, settings in sorted(data["would"].items()):
+        rows += [f"{name}: {setting} would deliver {count} messages" for setting, count in sorted(settings.items())]
+    for name, codes in sorted(data["unknown_codes"].items()):
+        rows.append(f"{name}: codes that its table lacks: " + ", ".join(f"{code} {codes[code]}" for code in codes))
+    for name, kinds in sorted(data["not_said"].items()):
+        counts = ", ".join(f"{count} of kind {kind}" for kind, count in sorted(kinds.items()))
+        rows.append(f"{name}: notices that were not said: {counts}")
+    return "".join(shown(row) + "\n" for row in [head, *rows, *_order_rows(data)])
+
+
+def _order_rows(data: Dict[str, Any]) -> Iterator[str]:
+    """How many orders are in each state, and the last ones of each line that have failed."""
+    if data["orders"]:
+        yield "orders: " + ", ".join(f"{count} {state}" for state, count in data["orders"].items())
+    for name, found in data["failed_orders"].items():
+        for one in found["newest"]:
+            yield f"  {_failed_row(name, one)}"
+        others = found["count"] - len(found["newest"])
+        if others:
+            yield f"  and {others} more of {name}: lislab order list --state failed"
+
+
+def _failed_row(line: str, one: Dict[str, Any]) -> str:
+    at = one["at"][:19].replace("T", " ")
+    return f"order {one['number']} {one['sample']} {line} failed {at} {one['reason']}, tried {one['tries']}"
