@@ -9,7 +9,7 @@ use Rattle.std.proofs.lemmas.Iterator.Adapters.{position_from-zero}
 use Rattle.std.proofs.lemmas.List.{length-drop, take_all}
 use Rattle.lis_record_values.specs.Delimiters.{DelimiterBytes}
 use Rattle.lis_bytes.proofs.SearchLemmas.{clean-before}
-use Rattle.lis_bytes.proofs.LastBits.{last-bits}
+use Rattle.lis_bytes.proofs.LastBits.{last_shifted}
 use Rattle.lis_record_read.proofs.Stops.{all-fail}
 use Rattle.lis_bytes.proofs.MarkLemmas.{bits-small, front-bits}
 use Rattle.lis_record_read.specs.inside.FrontReading.{stops}
@@ -108,9 +108,7 @@ module _ (d : DelimiterBytes) (text : List ℕ) where
         few = omega arith;
         within = omega (arith, size, length-drop from text);
         are =
-            ap (λ (n : ℕ). n / 2 ^ (16 - length rest)) are
-            ∙ ap (λ (l : List ℕ). mask_l (map (stops d d.escape) (take 16 l)) / 2 ^ (16 - length rest)) at
-            ∙ last-bits (stops d d.escape) text (length rest) room (omega arith)
+            last_shifted (stops d d.escape) text last (length rest) bits room (omega arith) at are
             ∙ ap (λ (n : ℕ). mask_l (map (stops d d.escape) (drop n text))) begins
             ∙ ap (λ (l : List ℕ). mask_l (map (stops d d.escape) l)) (sym whole);
       }
