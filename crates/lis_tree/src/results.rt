@@ -1,6 +1,6 @@
 //! The results of a message, each with the order and the patient that it belongs to (LIS02-A2).
 
-ghost use Rattle.std.specs.Prelude.{◌≡◌, ◌<◌, ◌∷◌, [], MatchOption, None, length, true, false};
+ghost use Rattle.std.specs.Prelude.{◌≡◌, ◌<◌, ◌∷◌, [], MatchOption, None, length, true, false, ⊤};
 ghost use Rattle.std.specs.Iterator.{MakesProgress, YieldsFirstBy, item_count};
 ghost use Rattle.lis_tree.specs.Results.{group_results, order_left, results_left};
 ghost use Rattle.lis_tree.specs.inside.ResultsLeft.{size_left};
@@ -124,7 +124,7 @@ impl<'a> Iterator for Results<'a> {
             (λ found. results_left self.old
             ≡ record { patient = found.patient.now; order = found.order.now; entry = found.entry.now }
             ∷ results_left self.new) }
-        ensures goes { MakesProgress can_next (item_count results_left) self.old result self.new }
+        ensures goes { MakesProgress (λ _. ⊤) (item_count results_left) self.old result self.new }
     {
         loop {
             if let Some(found) = self.take() {
