@@ -24,7 +24,7 @@ QEMU = "qemu-aarch64"
 def tour():
     """The commands of README's tour, each with its line and with what it prints."""
     text = kit.read("README.md")
-    begun = text.index("\n## Five minutes on your own line\n")
+    begun = text.index("\n## Try it\n")
     part = text[begun:text.index("\n## ", begun + 1)]
     above = text[:begun].count("\n")
     return [(line + above, command, wanted) for _, lines, line in test_pages.blocks(part)
