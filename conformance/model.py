@@ -237,8 +237,8 @@ MARK = re.compile(rb"[\x02\x04\x05\x0a]")
 
 
 class CarefulReceiver(Receiver):
-    """A receiver that hears carefully, by docs/LINK.md. While the line is open ENQ ends the session as EOT does, with no
-    reply, and what came before it is forgotten. A frame goes from its STX to the next LF, so an STX within it is one of
+    """A receiver that hears carefully, by docs/LINK.md. While the line is open ENQ ends the session as EOT does, with
+    no reply, and what came before it is forgotten. A frame goes from its STX to the next LF, so an STX within it is one of
     its bytes, which no frame may hold. `noise` counts each such ENQ and STX on an open line."""
 
     def restart(self):

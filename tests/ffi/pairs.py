@@ -14,8 +14,9 @@ def frames_of(paths):
     for path in paths:
         with open(path, "rb") as file:
             lines = [line.split(b" ") for line in file.read().split(b"\n")]
-        for side in (b"<", b">"):
-            stream = b"".join(bytes.fromhex(words[1].decode()) for words in lines if len(words) == 2 and words[0] == side)
+        for mark in (b"<", b">"):
+            side = [words[1] for words in lines if len(words) == 2 and words[0] == mark]
+            stream = b"".join(bytes.fromhex(digits.decode()) for digits in side)
             found.update(body for body in bodies_of(stream) if isinstance(model.read_frame(body, USUAL), model.Frame))
     return sorted(found)
 

@@ -1,5 +1,5 @@
-"""One changed byte of a frame, by the model and by the library: what a careful receiver says to it, and to the frame sent
-again. Each change of short frames, at both limits on a text, and by the model alone at small ones; and of 1,000 frames
+"""One changed byte of a frame, by the model and by the library: what a careful receiver says to it, and to the frame
+sent again. Each change of short frames, at both limits on a text, and by the model alone at small ones; and of 1,000 frames
 with texts of up to 240 bytes, at each place, to a byte that the link reads and to another one. Nothing is acknowledged
 that wasn't taken.
 
@@ -59,8 +59,8 @@ class Heard:
         return steps
 
     def changed(self, frame, number, place, byte):
-        """A frame with one changed byte, and what follows: a NAK, and the frame is taken when it is sent again; no reply,
-        so that the sender's timer ends the session; or it was the frame."""
+        """A frame with one changed byte, and what follows: a NAK, and the frame is taken when it is sent again; no
+        reply, so that the sender's timer ends the session; or it was the frame."""
         self.begin()
         steps = self.both(frame[:place] + bytes([byte]) + frame[place + 1:])
         replies = [step.reply for step in steps if step.reply is not None]

@@ -16,7 +16,8 @@ use Rattle.lis_link.specs.Receiver.{on_classified, with_heard}
 use Rattle.lis_link.specs.Sender.{timer_in}
 use Rattle.lis_careful.specs.Careful.{careful_by, ends_session, heard_as, on_byte_carefully, session_ended}
 use Rattle.lis_careful.specs.World.{CarefulSignal, ends, gives, careful_signal_by, careful_signals, with_heard_first}
-use Rattle.lis_careful.specs.OneByte.{IsHeardAs, nothing, session_end, bad_frame, itself, replies_of, taken_of, with_first}
+use Rattle.lis_careful.specs.OneByte.{IsHeardAs, nothing, session_end, bad_frame, itself, replies_of, taken_of}
+use Rattle.lis_careful.specs.OneByte.{with_first}
 use Rattle.lis_careful.specs.Follows.{after_bytes, AreAnswered, Follows, is_taken, is_sent_again, is_silent}
 use Rattle.lis_careful.specs.Follows.{FollowsOneByte}
 use Rattle.lis_careful.proofs.Receiving.{not_ended, none_ends, on_byte-past}

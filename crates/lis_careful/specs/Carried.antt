@@ -1,5 +1,5 @@
--- Sessions on a link whose receiver hears carefully: one is carried through at once where the line isn't open, and after
--- one more ENQ where it is (LIS01-A2, 6.3 to 6.6).
+-- Sessions on a link whose receiver hears carefully: one is carried through at once if the line isn't open, and after
+-- one more ENQ if it is (LIS01-A2, 6.3 to 6.6).
 use Rattle.std.specs.Prelude.{◌≡◌, ℕ, suc, true, false, List, [], ◌∷◌, ◌++◌, length, Some}
 use Rattle.lis_link.specs.declared.sender.Outcome.TheVariants.{TimedOut}
 use Rattle.lis_world.specs.declared.event.Event.{Event}

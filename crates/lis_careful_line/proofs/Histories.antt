@@ -2,7 +2,8 @@
 use Rattle.std.proofs.Common.{◌≡◌, ℕ, Bool, true, false, List, [], ◌∷◌, ◌++◌, map, refl, ap, ◌∙◌, subst}
 use Rattle.std.specs.List.{fold}
 use Rattle.lis_frame.specs.Limit.{IsLimit}
-use Rattle.lis_station.specs.Line.{Item, sent, answered, TwoWay, turned, StationEvent, start, arrive, arrive_without_room}
+use Rattle.lis_station.specs.Line.{Item, sent, answered, TwoWay, turned, StationEvent, start, arrive}
+use Rattle.lis_station.specs.Line.{arrive_without_room}
 use Rattle.lis_station.specs.Line.{damage, lose, timer, give_up, close_line, restart, set_ready, ask_turn, happens}
 use Rattle.lis_station.specs.Line.{LineEvent, at_analyzer, at_computer, after_line_event, new_two_way, AreSafe}
 use Rattle.lis_station.proofs.Both.{unit_load}

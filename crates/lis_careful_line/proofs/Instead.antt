@@ -25,7 +25,8 @@ use Rattle.lis_careful.proofs.Histories.{Noticed, nothing, ending_in, one_bad, n
 use Rattle.lis_station.specs.Laws.{IsExclusive}
 use Rattle.lis_station.specs.Station.{awaits_reply, heard, line_closed, on_station_byte}
 use Rattle.lis_station.specs.Line.{Item, sent, answered, TwoWay, with_station, steps, comes, item_bytes, left_line}
-use Rattle.lis_station.specs.Line.{roomed, room_near, timed, is_single, is_noise_to_sender, is_noise, has_byte, damaged_in}
+use Rattle.lis_station.specs.Line.{roomed, room_near, timed, is_single, is_noise_to_sender, is_noise, has_byte}
+use Rattle.lis_station.specs.Line.{damaged_in}
 use Rattle.lis_station.specs.Line.{StationEvent, arrive, arrive_without_room, damage, lose, timer, close_line, happens}
 use Rattle.lis_station.proofs.Both.{IsLoad}
 use Rattle.lis_station.proofs.Events.{shut_if_awaits, sender_noise}

@@ -5,7 +5,8 @@ use Rattle.std.specs.List.{fold}
 use Rattle.std.proofs.lemmas.Bool.{and_parts}
 use Rattle.lis_frame.specs.Limit.{IsLimit}
 use Rattle.lis_world.specs.Late.{reply_may_come}
-use Rattle.lis_station.specs.Line.{Item, sent, answered, TwoWay, turned, StationEvent, start, arrive, arrive_without_room}
+use Rattle.lis_station.specs.Line.{Item, sent, answered, TwoWay, turned, StationEvent, start, arrive}
+use Rattle.lis_station.specs.Line.{arrive_without_room}
 use Rattle.lis_station.specs.Line.{damage, lose, timer, give_up, close_line, restart, set_ready, ask_turn, timed}
 use Rattle.lis_station.specs.Line.{happens, at_analyzer, at_computer, new_two_way}
 use Rattle.lis_late_line.specs.Late.{LateEvent, on_line, reconnect, happens_late, timed_late, after_late_event}
@@ -17,7 +18,8 @@ use Rattle.lis_late_line.proofs.LateLaw.{IsEnough, enough_new, enough_quiet, Hol
 use Rattle.lis_late_line.proofs.LateLaw.{safe_on_new_lines, safe_on_quiet_lines}
 use Rattle.lis_careful_line.specs.Line.{Care, happens_with, after_late_event_with, are_in_time_with}
 use Rattle.lis_careful_line.specs.Laws.{AreLateHistories, SafeByRuleCarefully}
-use Rattle.lis_careful_line.proofs.Instead.{Instead, not_at_all, as_it_is, bad, lost_anew, bad_anew, events_of, OpensFor}
+use Rattle.lis_careful_line.proofs.Instead.{Instead, not_at_all, as_it_is, bad, lost_anew, bad_anew, events_of}
+use Rattle.lis_careful_line.proofs.Instead.{OpensFor}
 use Rattle.lis_careful_line.proofs.Instead.{from, FrontLoad, Fits, arrive_as, arrive_without_room_as, damage_as}
 use Rattle.lis_careful_line.proofs.Rooms.{HasRoom, turned_rooms, late_rooms}
 

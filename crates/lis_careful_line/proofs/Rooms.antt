@@ -86,7 +86,9 @@ receiver_keeps limit b item t =
       room = λ has.
           ap (λ (s : StationState). s.receiver.room) (heard_station limit item (on_byte limit b r) t)
           ∙ (heard_leaves (signal_after limit r.past b) (record r { past = b ∷ r.past })).1 ∙ has;
-      far_same = reply_far t.far.to_drop given.reply (noted item given given.note t1) ∙ noted_far item given given.note t1;
+      far_same =
+          reply_far t.far.to_drop given.reply (noted item given given.note t1)
+          ∙ noted_far item given given.note t1;
     }
 
 byte_keeps : (limit b : ℕ) (item : Item) (t : TwoWay) → Keeps t (steps item (on_station_byte limit b t.near.station) t)

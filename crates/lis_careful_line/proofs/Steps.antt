@@ -21,7 +21,8 @@ use Rattle.lis_careful.proofs.Heard.{no_end, given_of, later_no_end, given_first
 use Rattle.lis_station.specs.declared.station.Turn.TheVariants.{Free}
 use Rattle.lis_station.specs.Station.{StationState, awaits_reply, asking, heard, reply_step, replied, routed}
 use Rattle.lis_station.specs.Station.{on_station_byte}
-use Rattle.lis_station.specs.Line.{Item, sent, answered, TwoWay, followed_by, with_station, emitted_out, noted, reply_out}
+use Rattle.lis_station.specs.Line.{Item, sent, answered, TwoWay, followed_by, with_station, emitted_out, noted}
+use Rattle.lis_station.specs.Line.{reply_out}
 use Rattle.lis_station.specs.Line.{steps, comes, room_near, has_byte}
 use Rattle.lis_station.proofs.Noise.{quiet_byte, no_reply_out}
 use Rattle.lis_careful_station.specs.Station.{routed_carefully, on_station_byte_carefully}
@@ -44,7 +45,8 @@ reply_station zero (Some b) t = refl
 reply_station zero None t = refl
 reply_station (suc n) reply t = refl
 
-pub emitted_station : {limit : ℕ} (emit : EmitOf limit) (t : TwoWay) → (emitted_out emit t).near.station ≡ t.near.station
+pub emitted_station : {limit : ℕ} (emit : EmitOf limit) (t : TwoWay)
+    → (emitted_out emit t).near.station ≡ t.near.station
 emitted_station Emits.Nothing t = refl
 emitted_station Emits.Enq t = refl
 emitted_station Emits.Eot t = refl

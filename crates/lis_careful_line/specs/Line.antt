@@ -1,5 +1,5 @@
--- Two stations on one line, either of which may hear carefully what is for its receiver: on a line that answers in time,
--- and on one that answers late.
+-- Two stations on one line, either of which may hear carefully what is for its receiver: on a line that answers in
+-- time, and on one that answers late.
 use Rattle.std.specs.Prelude.{ℕ, Bool, true, false, List, [], ◌∷◌, if◌then◌else◌, ◌&&◌}
 use Rattle.std.specs.List.{fold}
 use Rattle.lis_link.specs.Receiver.{ReceiverState}

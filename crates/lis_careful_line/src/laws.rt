@@ -7,8 +7,8 @@ ghost use Rattle.lis_careful_line.specs.Laws.{SafeByRuleCarefully};
 
 /// Whatever happens on a line between two stations, of which either or both hear carefully, could have happened between
 /// two as the profile has them: where ENQ or EOT ends a session in silence, the receiver's timer ran out, its line was
-/// closed, and what came was lost or came damaged; where a frame begins inside an unfinished one, it came damaged. So in
-/// each direction each session is safe, over every list of events. At every limit on a frame's text.
+/// closed, and what came was lost or came damaged; where a frame begins inside an unfinished one, it came damaged. So
+/// in each direction each session is safe, over every list of events. At every limit on a frame's text.
 pub fn safe_carefully_both_ways_of<const N: usize>()
     requires { IsLimit N }
     ensures history { AreLineHistories N }
