@@ -1,13 +1,17 @@
 """What tools/ makes of the sources is up to date, and what it is made of is right; its scripts notice what is wrong."""
 import glob
+import io
 import os
 import re
 import shutil
 import subprocess
 import sys
 import tempfile
+import time
+import unittest.mock
+from contextlib import redirect_stdout
 
-from tests import kit
+from tests import kit, side_by_side
 
 # What tools/trust must say of a wrong change: the file, its text, the wrong one, and a part of what is said.
 WRONG = [
@@ -268,6 +272,36 @@ class Targets(kit.Test):
                 words = ["bash", "-uc", f". tests/counted; count {script} > /dev/null; ends"]
                 ran = subprocess.run(words, cwd=kit.ROOT, capture_output=True, text=True)
                 self.same(said, (ran.stdout, ran.returncode), (f"{wanted}\n", int(" 0 failed" not in wanted)))
+
+    def test_side_by_side(self):
+        """Files that run side by side: what each prints comes as a whole, and a file that ends without its last line is a
+        failure. The longest of the last run begins."""
+        ends = "echo 'a/%s: %s in 1 s'; echo 'a: 2 passed'"
+        scripts = {"good": ends % ("good", "2 passed, 0 failed"), "died": "echo one; kill -9 $$",
+                   "bad": "echo FAILED: a/bad.T: x;" + ends % ("bad", "1 passed, 1 failed")}
+        begun = []
+
+        def begin(name):
+            begun.append(name)
+            printed = tempfile.TemporaryFile("w+", encoding="utf-8")
+            process = subprocess.Popen(["sh", "-c", scripts[name[2:]]], stdout=printed)
+            return side_by_side.Running(name, process, printed, time.monotonic())
+
+        build, said = kit.folder_of(self), io.StringIO()
+        with open(f"{build}/times", "w", encoding="ascii") as file:
+            file.write("a/bad 3.0 1.0\na/good 5.0 1.0\na/died 4.0 1.0\n")
+        with (unittest.mock.patch.object(side_by_side, "begin", begin), redirect_stdout(said),
+              unittest.mock.patch.dict(os.environ, TESTED_BUILD=build, JOBS="1")):
+            found = side_by_side.run([("a", name) for name in scripts])
+        self.same("passed and failed", found, (3, 2))
+        self.same("the longest begins", begun, ["a/good", "a/died", "a/bad"])
+        rows = said.getvalue().splitlines()
+        self.same("what is printed", rows, [
+            "a/good: 2 passed, 0 failed in 1 s; 2 left, about 7 s", "one",
+            "FAILED: a/died ended with -9 before it said how many passed", "a/died: 0 passed, 1 failed; 1 left, about 3 s",
+            "FAILED: a/bad.T: x", "a/bad: 1 passed, 1 failed in 1 s"])
+        with open(f"{build}/times", encoding="ascii") as file:
+            self.same("how long they took", sorted(row.split()[0] for row in file), ["a/bad", "a/died", "a/good"])
 
     def test_gate(self):
         """.ci/run adds up both targets; one that fails or prints no last line is a failure. Where dist/ is not what the
