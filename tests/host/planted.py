@@ -144,7 +144,7 @@ FAULTS = {
         "host/line.py", "(self._is_cut or not self._is_busy())", "not self._is_busy()"
     ),
     "test_late.Suspended.test_a_reply_that_was_asleep": Edit(
-        "host/line.py", "- arrived + self.asleep.seconds()", "- arrived"
+        "host/line.py", "- arrived + self._asleep.seconds()", "- arrived"
     ),
     "test_late.Suspended.test_clocks": Edit("host/asleep.py", "            self._noted = self._drift()\n", "            pass\n"),
     "test_lines.Lines.test_cuts": Edit(
@@ -177,6 +177,7 @@ FAULTS = {
     "test_lines.Lines.test_enq_behind_eot": Edit(
         "host/line.py", "                if self._is_through():\n                    return\n", ""
     ),
+    "test_lines.Lines.test_observers": Edit("diagnosis/events.py", "except Exception as error:", "except OSError as error:"),
     "test_lines.Lines.test_giving_way": Edit("host/line.py", "return self._is_through() or (", "return ("),
     "test_lines_file.LinesFile.test_enq_behind_eot": Edit(
         "host/line.py", "        if self._is_through():\n            return True\n        if self._pieces", "        if self._pieces"
@@ -185,7 +186,7 @@ FAULTS = {
         "host/line.py", "return self._stopping and (self._is_cut or not self._is_busy())", "return self._stopping"
     ),
     "test_lines.Lines.test_capture": Edit(
-        "host/line.py", 'self._tape.bytes("<", data)', 'self._tape.bytes("<", b"")'
+        "host/line.py", "self._tell(Sent(data))", 'self._tell(Sent(b""))'
     ),
     "test_lines.Lines.test_words": Edit(
         "model/options.py",
@@ -243,7 +244,7 @@ FAULTS = {
         "model/options.py", "tuple(one for one in NAMES if one in given)", "tuple(given)"
     ),
     "test_noise.Noise.test_one_byte": Edit("host/serve.py", 'place.careful != "no"', "False"),
-    "test_noise.Careful.test_enq_and_stx": Edit("host/line.py", "            self._probe.noise(count)\n", ""),
+    "test_noise.Careful.test_enq_and_stx": Edit("host/line.py", "            self._tell(Noise(count))\n", ""),
     "test_noise.Careful.test_anew": Edit("host/serve.py", 'place.careful != "no"', "True"),
     "test_noise.Careful.test_mends": Edit("host/feeds.py", "_ENDS if is_careful else _BREAKS", "_BREAKS"),
     "test_notices.Said.test_a_bad_line": Edit(
@@ -259,7 +260,7 @@ FAULTS = {
         "diagnosis/notices.py", "AT_ONCE, SECONDS = 10, 30.0", "AT_ONCE, SECONDS = 1000, 30.0"
     ),
     "test_notices.Said.test_frames": Edit(
-        "diagnosis/notices.py", "if self._rejected_at != self._taken:", "if self._taken >= 0:"
+        "diagnosis/reports.py", "if self._rejected_at != self._taken:", "if self._taken >= 0:"
     ),
     "test_notices.Said.test_late_reply": Edit(
         "host/duplex.py", "if was_unanswered and data[:1] in _REPLIES:", "if data[:1] not in _REPLIES:"
@@ -492,7 +493,7 @@ FAULTS = {
         "diagnosis/pulse.py", "verdict if isinstance(error, StoreError) else Verdict.TOO_BIG", "Verdict.STORE_GONE"
     ),
     "test_watch.Watch.test_last_bytes": Edit("diagnosis/ring.py", 'lines.append(Line("R"))', 'lines.append(Line("T"))'),
-    "test_watch.Watch.test_no_reply_to_the_host": Edit("host/duplex.py", "        self._probe.in_vain(why)\n", ""),
+    "test_watch.Watch.test_no_reply_to_the_host": Edit("host/duplex.py", "        self._tell(OwnFailed(why))\n", ""),
     "test_watch.Watch.test_no_socket": Edit(
         "host/serve.py", 'say(f"lislab watch can\'t look: {error}")', "raise"
     ),
@@ -564,7 +565,7 @@ HARMLESS = (
     ),
     Edit("host/serve.py", "            host.refused += 1\n", "            host.refused = 1 + host.refused\n"),
     Edit(
-        "diagnosis/notices.py",
+        "diagnosis/reports.py",
         '_taken = 0\n        self._why, self._rejected_at = "", -1\n\n    def _without',
         '_taken = 0\n        self._rejected_at, self._why = -1, ""\n\n    def _without',
     ),

@@ -7,7 +7,7 @@ FAULTS = {
         "watch/plot.py", "is_last = place + 1 == len(shown)", "is_last = place + every >= len(shown)"
     ),
     "test_queries.Queries.test_nothing_found": (
-        "diagnosis/pulse.py", '            self._pulse.right("queries")\n', "            pass\n"
+        "diagnosis/pulse.py", '            pulse.right("queries")\n', "            pass\n"
     ),
     "test_failed.NamedOfSqlite.test_named": ("diagnosis/pulse.py", "return failed or found", "return found"),
     "test_failed.NamedOfSpool.test_named": ("watch/client.py", "book.failed(1)", "{}"),

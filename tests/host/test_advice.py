@@ -3,6 +3,7 @@ from lislink.capture import Capture, Line
 from lislab.field.ladder import Ladder
 from lislab.field.looks import looks_of
 from lislink.link import Receiver
+from lislab.diagnosis.events import Came, Meant
 from lislab.diagnosis.pulse import Probe, Pulse
 from lislab.diagnosis.verdicts import Verdict
 from tests.host.hosts import HostTest
@@ -32,12 +33,11 @@ def all_of(units):
 def told(stream):
     """What is said of a line that sent these bytes: of one that runs, and on a ladder."""
     pulse = Pulse(240, 0.0)  # no timer is waited for
-    probe = Probe(pulse, None, lambda text, kind: None)
+    probe = Probe(pulse)
     with Receiver() as receiver:
-        probe.bytes(">", stream)
-        probe.hears(stream)
+        probe.see(Came(stream))
         for place, step in receiver.hear_placed(stream):
-            probe.step(place, step)
+            probe.see(Meant(place, step))
     found = pulse.says()
     return found, looks_of(Ladder(Capture(1, [(1, Line(">", stream))], [None])))
 

@@ -5,7 +5,6 @@ from collections import Counter
 
 from lislab.host import line
 from lislab.host.commits import Committer
-from lislab.model.options import Limits
 from lislab.model.store import StoreError
 from tests.host.hosts import HostTest
 from tests.host.test_repeats import begun, ended
@@ -56,13 +55,12 @@ class Owed(HostTest):
 
         async def runs():
             given = [unittest.mock.Mock(names=frozenset(), bodies={}) for _ in range(5)]
-            wire, intake, committer, probe, mender = given
-            intake.unknown.ended.return_value = 0, ""
+            wire, intake, committer, observers, mender = given
             kept.append(asyncio.get_running_loop().create_future())
             committer.put_later.return_value = kept[0]
             turns, counts = line.Turns(), Counter()
-            words = (wire, intake, committer, Limits(), counts, probe, 240, lambda *row: said.append(row), turns, mender)
-            one = line.Line(*words)
+            say = lambda *row: said.append(row)  # noqa: E731
+            one = line.Line(line.Parts(wire, intake, observers, say, counts, mender, committer, turns))
             one._put_later(ended("1"))
             await asyncio.sleep(0)
             before = counts["messages"], one.last

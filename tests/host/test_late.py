@@ -8,8 +8,7 @@ import unittest.mock
 from collections import Counter
 
 from lislab.host.asleep import Asleep
-from lislab.host.line import Line
-from lislab.model.options import Limits
+from lislab.host.line import Line, Parts
 from lislab.host.turns import Turns
 from lislab.model.books import open_book
 from lislink.order import Order
@@ -144,9 +143,10 @@ class Suspended(HostTest):
 
         async def runs():
             wire = unittest.mock.Mock(is_tcp=True, write=sent.append)
-            intake, committer, probe, mender = (unittest.mock.Mock(names=frozenset(), bodies={}) for _ in range(4))
-            line = Line(wire, intake, committer, Limits(), Counter(), probe, 240, lambda *_: None, Turns(), mender)
-            line.asleep = Asleep(lambda: drift[0])
+            intake, committer, observers, mender = (unittest.mock.Mock(names=frozenset(), bodies={}) for _ in range(4))
+            given = wire, intake, observers, lambda *_: None, Counter(), mender, committer, Turns()
+            asleep = Asleep(lambda: drift[0])
+            line = Line(Parts(*given, asleep=asleep))
             intake.drop.return_value = []
 
             def take(_):
@@ -159,7 +159,7 @@ class Suspended(HostTest):
                 line.data(unit, asyncio.get_running_loop().time())
                 while line._pieces or line._waiter is None:
                     await asyncio.sleep(0.01)
-                line.asleep.note()
+                asleep.note()
             line.lost()
             await task
             self.same("late", line._counts["late"], 1)

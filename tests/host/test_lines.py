@@ -11,6 +11,7 @@ from collections import Counter
 
 from lislink import FrameFault, frame_bytes
 from lislink.link import LONG_FRAME_TEXT
+from lislab.diagnosis.events import Observers
 from lislab.host import line, serve
 from lislab.model import options
 from tests.host.hosts import NEVER, Found, Host, HostTest, lislab, sending, wait_for
@@ -387,10 +388,9 @@ class Lines(HostTest):
 
         async def runs():
             wire = unittest.mock.Mock(is_tcp=True, write=sent.append)
-            intake, committer, probe, mender = (unittest.mock.Mock(names=frozenset(), bodies={}) for _ in range(4))
+            intake, committer, observers, mender = (unittest.mock.Mock(names=frozenset(), bodies={}) for _ in range(4))
             intake.drop.return_value = []
-            words = (wire, intake, committer, options.Limits(), Counter(), probe, 240, print, line.Turns(), mender)
-            one = line.Line(*words)
+            one = line.Line(line.Parts(wire, intake, observers, print, Counter(), mender, committer, line.Turns()))
             task = asyncio.ensure_future(one.run())
             await asyncio.sleep(0.01)
             one.data(ENQ, asyncio.get_running_loop().time())
@@ -399,6 +399,33 @@ class Lines(HostTest):
 
         asyncio.run(runs())
         self.same("what is sent", sent, [])
+
+    def test_observers(self):
+        """Who listens to a line and fails changes nothing on it: the replies are the same, the others hear the same, and each
+        failure is said."""
+        async def runs(those):
+            sent, heard, said = [], [], []
+            wire = unittest.mock.Mock(is_tcp=True, write=sent.append)
+            intake, committer, mender = (unittest.mock.Mock(names=frozenset(), bodies={}) for _ in range(3))
+            intake.drop.return_value = intake.take.return_value = []
+            observers = Observers([*those, heard.append], lambda text, _: said.append(text))
+            one = line.Line(line.Parts(wire, intake, observers, print, Counter(), mender, committer, line.Turns()))
+            task = asyncio.ensure_future(one.run())
+            for unit in (ENQ, frames(TEXTS)[0], EOT):
+                one.data(unit, asyncio.get_running_loop().time())
+            one.lost()
+            await asyncio.wait_for(task, 60)
+            return sent, [type(event) for event in heard], said
+
+        def fails(_):
+            raise ValueError("it fails")
+
+        good, bad = asyncio.run(runs([])), asyncio.run(runs([fails]))
+        self.same("the replies, and what others hear", bad[:2], good[:2])
+        self.same("the replies", good[0], [ACK, ACK])
+        self.same("it is said", (len(bad[2]), bad[2][0]),
+                  (len(good[1]), "who listens to the line failed at Came: ValueError: it fails"))
+        self.same("nothing is said of the others", good[2], [])
 
     def test_capture(self):
         """What went over a line is a capture that replays without a difference."""

@@ -12,7 +12,7 @@ import unittest.mock
 from collections import Counter
 
 from lislab.host.duplex import TwoWayLine
-from lislab.model.options import Limits
+from lislab.host.line import Parts
 from lislab.host.outbox import Batch, Desk, Outbox, Site
 from lislab.model.stores import open_store
 from lislab.host.turns import Turns
@@ -688,9 +688,9 @@ class Unheard(HostTest):
     def line(self, outbox, sent):
         """A line with orders, over a wire that takes what is sent."""
         wire = unittest.mock.Mock(is_tcp=True, write=sent.append)
-        intake, committer, probe, mender = (unittest.mock.Mock(names=frozenset(), bodies={}) for _ in range(4))
-        given = (wire, intake, committer, Limits(), Counter(), probe, 240, print, Turns(), mender)
-        line = TwoWayLine(outbox, Site("asks", "x", "latin-1", True, "L-I", "1"), *given)
+        intake, committer, observers, mender = (unittest.mock.Mock(names=frozenset(), bodies={}) for _ in range(4))
+        parts = Parts(wire, intake, observers, print, Counter(), mender, committer, Turns())
+        line = TwoWayLine(outbox, Site("asks", "x", "latin-1", True, "L-I", "1"), parts)
         line._intake.drop.return_value = line._intake.take.return_value = []
         return line
 

@@ -89,13 +89,13 @@ print(flags[0], flags[1], flags[2] & ~0o10017, flags[3], flags[6], speeds, "seri
 IOCTL = fcntl.ioctl
 
 
-def waiting(wire, *_):
+def waiting(parts):
     """A line that does nothing."""
 
     async def run():
         await asyncio.sleep(10)
 
-    return unittest.mock.Mock(run=run, last=None, stop=lambda _: wire.close())
+    return unittest.mock.Mock(run=run, last=None, stop=lambda _: parts.wire.close())
 
 
 class Serial(HostTest):

@@ -9,6 +9,7 @@ from lislink import frame_bytes
 from lislab.host import serve, turns as turn
 from lislab.host.commits import Committer
 from lislink.link import LONG_FRAME_TEXT, Note, Step
+from lislab.diagnosis.events import Came, Meant
 from lislab.diagnosis.pulse import Probe, Pulse
 from tests.host.hosts import Host, HostTest, wait_for
 from tests.host.test_lines import ACK, ENQ, NAK, TEXTS, Client
@@ -130,12 +131,12 @@ class Turns(HostTest):
         asked = []
         for count in (1, 300):
             one, looks = Pulse(240, 1.0), []
-            probes = [Probe(one, None, lambda *_: None) for _ in range(count)]
+            probes = [Probe(one) for _ in range(count)]
             with unittest.mock.patch.object(Probe, "silent", lambda probe: looks.append(probe)):
                 for _ in range(50):
                     for note in (Note.OPENED, Note.ACCEPTED, Note.ENDED):
-                        probes[0].hears(b"x")
-                        probes[0].step(0, step(note))
+                        probes[0].see(Came(b"x"))
+                        probes[0].see(Meant(0, step(note)))
             asked.append(len(looks))
         self.true("looks at connections", asked[1] - asked[0] < 300, asked)
 

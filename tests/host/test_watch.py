@@ -19,6 +19,7 @@ from lislab.model.stores import open_store
 from lislink.link import Receiver
 from lislab.diagnosis import ring
 from lislab.watch.live import LiveLadder
+from lislab.diagnosis.events import Came, Closed, Meant
 from lislab.diagnosis.pulse import Probe, Pulse
 from lislab.model.unix import WatchError, ask
 from lislab.diagnosis.verdicts import Meaning
@@ -230,17 +231,16 @@ class Watch(HostTest):
             rng = random.Random(seed)
             stream = b"".join(rng.choice(units) for _ in range(40))
             pulse = Pulse(240, 1.0)
-            probe, at = Probe(pulse, None, lambda text, kind: None), 0
+            probe, at = Probe(pulse), 0
             with Receiver() as receiver:
                 while at < len(stream):
                     piece = stream[at : at + rng.randrange(1, 60)]
                     at += len(piece)
-                    probe.bytes(">", piece)
-                    probe.hears(piece)
+                    probe.see(Came(piece))
                     for place, step in receiver.hear_placed(piece):
-                        probe.step(place, step)
+                        probe.see(Meant(place, step))
                     self.assertTrue(pulse.says().text)
-            probe.close()
+            probe.see(Closed("by the other end"))
             ladder = Ladder(Capture(1, [(1, Line(">", stream))], [None]))
             rows = [row for row in ladder.rows if row.meaning is Meaning.REJECTED]
             wanted = Counter(row.cause.verdict.key for row in rows)

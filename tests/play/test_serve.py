@@ -91,7 +91,7 @@ class Serve(HostTest):
 
 def against_send(path):
     """Whether a play of the computer against `lislab send` has no difference, its name, and what was printed."""
-    words = ["-m", "lislab", "play", path, "--listen", "0", "--scale", str(3 * SHORT), "--within", "10"]
+    words = ["-m", "lislab", "play", path, "--listen", "0", "--scale", str(3 * SHORT), "--within", "120"]
     one = process(words, stdout=subprocess.PIPE, stderr=subprocess.PIPE)
     port = one.stdout.readline().strip().rpartition(":")[2]
     records = os.path.join(ROOT, "samples", "panel.records")

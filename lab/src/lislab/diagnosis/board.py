@@ -1,13 +1,14 @@
 """The board of a host that runs: the pulse of each line, as data for who looks, and the pieces of a line's ring."""
+import functools
 import json
 import time
-from typing import Any, Callable, Dict, Iterable, Mapping, Optional
+from typing import Any, Callable, Dict, Iterable, List, Mapping, Optional
 
 from ..model.book import Failed
 from ..model.options import Connect, Place, no_line
 from ..model.unix import Door
+from .events import Observer
 from .pulse import Probe, Pulse, Says, many
-from .tape import Tape
 
 
 class Board:
@@ -19,11 +20,12 @@ class Board:
         self._failed: Dict[str, Failed] = {}
         self._door: Optional[Door] = None
 
-    def probe(self, place: Place, tape: Optional[Tape], say: Callable[[str, str], None]) -> Probe:
+    def observers(self, place: Place, is_careful: bool) -> List[Observer]:
         """What sees a connection of a line."""
         pulse = self._pulse(place)
         pulse.frame = place.frame
-        return Probe(pulse, tape, say, place.careful != "no")
+        probe = Probe(pulse, is_careful)
+        return [functools.partial(pulse.ring.see, pulse.connections), probe.see]
 
     def _pulse(self, place: Place) -> Pulse:
         if place.name not in self._pulses:

@@ -8,12 +8,14 @@ from typing import Any, Callable, Deque, Dict, List, NamedTuple, Optional, Tuple
 from lislink.codes import FrameFault, Note
 from lislink.link import Step
 from ..model.book import Failed
-from ..model.store import WHOLE, End, StoreError
+from ..model.store import MENDED, WHOLE, End, StoreError
+from .events import (
+    Answered, Came, Closed, Event, Kept, Late, Looked, Meant, MessageEnded, Noise, NotKept, OwnAnswered, OwnFailed, Restarted,
+    Sent,
+)
 from .faults import Cause, cause_of_frame
-from .notices import Watch
 from .protocols import has_bare_frames, is_hl7, parity_of, telnet_in
 from .ring import Ring
-from .tape import Tape
 from .verdicts import BAD, GOOD, Verdict, Ways, advice_on, is_way, plain_hint, way_of
 
 #: For so many seconds nothing may follow an acknowledged ENQ, and stray bytes may be without an ENQ; after so many
@@ -270,14 +272,11 @@ def protocol_of(data: bytes, otherwise: Verdict) -> "tuple[Verdict, str]":
 
 
 class Probe:
-    """Sees what a connection hears and sends, and what that means. It is the tape of the connection, too."""
+    """Sees what a connection hears and sends, and what that means."""
 
-    def __init__(
-        self, pulse: Pulse, tape: Optional[Tape], say: Callable[[str, str], None], is_careful: bool = False
-    ) -> None:
-        self._pulse, self._file, self._notices, self._is_careful = pulse, tape, Watch(say), is_careful
+    def __init__(self, pulse: Pulse, is_careful: bool = False) -> None:
+        self._pulse, self._is_careful = pulse, is_careful
         pulse.connections += 1
-        self._number = pulse.connections
         pulse.probes.append(self)
         #: Whether a session is open, since when, how many frames it had, and how many of them were accepted.
         self.is_open, self.opened, self.units, self._good = False, 0.0, 0, 0
@@ -288,26 +287,55 @@ class Probe:
         #: The number that is due, the frame that was accepted last; whether a text is kept that wasn't answered yet.
         self._due, self._frame, self._is_kept = 1, b"", False
 
+    def see(self, event: Event) -> None:
+        """What happens on the connection."""
+        pulse = self._pulse
+        if isinstance(event, Came):
+            self._hears(event.data)
+        elif isinstance(event, Meant):
+            self._step(event.place, event.step)
+        elif isinstance(event, Sent):
+            self._sent = event.data
+        elif isinstance(event, Answered):
+            self._replied(event.seconds)
+        elif isinstance(event, Kept):
+            self._is_kept = True
+            pulse.right("store")
+        elif isinstance(event, NotKept):
+            self._not_kept(event.error)
+        elif isinstance(event, MessageEnded):
+            self._ended(event.end)
+        elif isinstance(event, Restarted):
+            self.is_open = False
+        elif isinstance(event, Closed):
+            self._close()
+        elif isinstance(event, Looked) and event.is_any:
+            pulse.right("queries")
+        elif isinstance(event, OwnAnswered):
+            pulse.right("own")
+        elif isinstance(event, (Looked, OwnFailed, Late, Noise)):
+            self._wrong(event)
+
+    def _wrong(self, event: Event) -> None:
+        """What counts each time."""
+        if isinstance(event, Looked):
+            self._pulse.wrong("queries", Verdict.NO_ORDERS)
+        elif isinstance(event, OwnFailed):
+            self._pulse.wrong("own", Verdict.NO_REPLY, event.why)
+        elif isinstance(event, Late):
+            self._pulse.wrong("late", Verdict.LATE)
+        elif isinstance(event, Noise):
+            self._pulse.wrong("noise", Verdict.DISTURBED).count += event.times - 1
+
     # ---- what came, and what it meant
 
-    @property
-    def at(self) -> int:
-        """The place in the connection of the byte that was answered last."""
-        return self._notices.at
-
-    @property
-    def heard(self) -> int:
-        """How many bytes came."""
-        return self._notices.heard
-
-    @property
-    def sessions(self) -> int:
-        """How many sessions there were."""
-        return self._notices.sessions
-
-    def hears(self, data: bytes) -> None:
+    def _hears(self, data: bytes) -> None:
         """Bytes that are heard from here on."""
-        self._notices.hears(data)
+        if self._sent and data.startswith(self._sent):
+            self._pulse.wrong("echo", Verdict.ECHO)
+        elif self._sent:
+            self._pulse.right("echo")
+        self._sent = b""
         self._carry += self._now[self._start :]
         del self._carry[: -(self._pulse.frame + BESIDES)]
         self._now, self._start = data, 0
@@ -322,9 +350,8 @@ class Probe:
             self._since = self._since if self._stray else (time.time(), time.monotonic())
             self._stray += data[: LOOKED_AT - len(self._stray)]
 
-    def step(self, place: int, step: Step) -> None:
+    def _step(self, place: int, step: Step) -> None:
         """What a byte meant, at this place of the bytes that are heard."""
-        self._notices.step(place, step)
         raw = b""
         if step.note is not Note.TIMED_OUT:
             raw = bytes(self._carry + self._now[self._start : place + 1]) if step.note not in _ALONE else raw
@@ -447,7 +474,7 @@ class Probe:
 
     # ---- what the host did
 
-    def replied(self, seconds: float) -> None:
+    def _replied(self, seconds: float) -> None:
         """A reply went out so long after the bytes came that it answers."""
         pulse = self._pulse
         pulse.replies[next((at for at, most in enumerate(BUCKETS) if seconds <= most), len(BUCKETS))] += 1
@@ -456,89 +483,28 @@ class Probe:
             self._is_kept = False
             pulse.right("late")
 
-    def late(self) -> None:
-        """A reply was not sent, since it would have been late."""
-        self._pulse.wrong("late", Verdict.LATE)
-
-    def noise(self, count: int) -> None:
-        """So many ENQ and STX came where no analyzer sends them."""
-        self._pulse.wrong("noise", Verdict.DISTURBED).count += count - 1
-
-    def kept(self) -> None:
-        """A text is kept."""
-        self._is_kept = True
-        self._pulse.right("store")
-
-    def not_kept(self, error: Exception) -> None:
+    def _not_kept(self, error: Exception) -> None:
         """A text could not be kept."""
         why = str(error)
         is_full = _FULL.search(why) is not None
         verdict = Verdict.DISK_FULL if is_full else Verdict.STORE_GONE
         self._pulse.wrong("store", verdict if isinstance(error, StoreError) else Verdict.TOO_BIG, why)
 
-    def ended(self, end: End) -> None:
-        """A message ended."""
-        pulse = self._pulse
-        pulse.messages[end.state] += 1
+    def _ended(self, end: End) -> None:
+        """A message ended. One of no bytes isn't counted, nor one of which another one was made."""
+        pulse, is_mended = self._pulse, end.reason.startswith(MENDED)
         if end.state == WHOLE:
+            pulse.messages[end.state] += 1
             pulse.last = end.at
             pulse.right("messages", "lost", "noise")
-        else:
+        elif end.size and not is_mended:
+            pulse.messages[end.state] += 1
             pulse.wrong("messages", Verdict.NOT_WHOLE, f"{end.state}: {end.reason}")
 
-    def session_over(self) -> None:
-        """The receiver begins anew."""
-        self._notices.session_over()
-        self.is_open = False
-
-    def over(self) -> None:
-        """No more is heard of the connection."""
-        self._notices.over()
-
-    def answered(self) -> None:
-        """A session of the host's own was answered."""
-        self._notices.answered()
-        self._pulse.right("own")
-
-    def in_vain(self, why: str) -> None:
-        """A session of the host's own failed."""
-        self._pulse.wrong("own", Verdict.NO_REPLY, why)
-
-    def found(self, is_any: bool) -> None:
-        """Whether there was an order for a query."""
-        if is_any:
-            self._pulse.right("queries")
-        else:
-            self._pulse.wrong("queries", Verdict.NO_ORDERS)
-
-    # ---- the tape
-
-    def event(self, row: str) -> None:
-        """The timer's end (`T`), or a restart of the receiver (`R`)."""
-        self._pulse.ring.add(self._number, row)
-        if self._file is not None:
-            self._file.event(row)
-
-    def close(self) -> None:
+    def _close(self) -> None:
         """The connection is over."""
         self._over()
         if self.strange() is not None:
             one = self._pulse.wrong("strange", *self._stranger())
             one.since, one.count = min(one.since, self._since[0]), one.count - 1 + len(self._stray)
         self._pulse.probes.remove(self)
-        if self._file is not None:
-            self._file.close()
-
-    def bytes(self, mark: str, data: bytes) -> None:
-        """Bytes of the analyzer (`>`) or of the host (`<`)."""
-        self._pulse.ring.add(self._number, mark, data)
-        if self._file is not None:
-            self._file.bytes(mark, data)
-        if mark == "<":
-            self._sent = data
-        elif self._sent:
-            if data.startswith(self._sent):
-                self._pulse.wrong("echo", Verdict.ECHO)
-            else:
-                self._pulse.right("echo")
-            self._sent = b""

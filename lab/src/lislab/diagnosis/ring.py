@@ -5,6 +5,7 @@ import time
 from typing import Iterator, List, NamedTuple, Optional, Tuple
 
 from lislink.capture import LINE_BYTES, Capture, Line
+from .events import Came, Event, Restarted, Sent, TimerOver
 
 #: How many bytes are held of a line, with the head of each piece; and that head: time, connection, mark, length.
 MOST = 256 << 10
@@ -40,6 +41,15 @@ class Ring:
             self.first += 1
         if drop:
             del self._held[:drop]
+
+    def see(self, connection: int, event: Event) -> None:
+        """What goes over a connection of the line."""
+        if isinstance(event, Came):
+            self.add(connection, ">", event.data)
+        elif isinstance(event, Sent):
+            self.add(connection, "<", event.data)
+        elif isinstance(event, (TimerOver, Restarted)):
+            self.add(connection, "T" if isinstance(event, TimerOver) else "R")
 
     def after(self, number: int) -> Tuple[int, bytes]:
         """The pieces from this number on, as they are held, and the number of the first of them."""

@@ -3,17 +3,18 @@ proved station decides what each byte means and for whom it is; this module deci
 analyzer sends comes first."""
 import asyncio
 from collections import deque
-from typing import Any, Deque, Dict, List, NamedTuple, Optional, Sequence, Set
+from typing import Deque, Dict, List, NamedTuple, Optional, Sequence, Set
 
 from lislink.codes import Note, Outcome, Phase, Role
 from lislink.link import LinkError
 from lislink.records import MessageError, Reader, messages
 from lislink.rows import Row
 from lislink.station import Answer, Station
-from ..diagnosis.notices import OTHER, REPLY
+from ..diagnosis.events import Looked, OwnAnswered, OwnFailed, ReplyAfterAll
+from ..diagnosis.notices import OTHER
 from ..model.query import query_of
 from ..model.store import Add, Change
-from .line import ENQ, Line
+from .line import ENQ, Line, Parts
 from .outbox import Batch, Outbox, Site
 
 #: After a text that can't be kept, and after a session of the host's own that failed on a serial line, none starts for
@@ -92,8 +93,8 @@ class Asking:
 class TwoWayLine(Line):
     """A line that is connected, on which the host sends what its outbox has for it."""
 
-    def __init__(self, outbox: Outbox, site: Site, *given: Any) -> None:
-        super().__init__(*given)
+    def __init__(self, outbox: Outbox, site: Site, parts: Parts) -> None:
+        super().__init__(parts)
         self._outbox, self._site, self._asking = outbox, site, Asking(site.encoding)
         #: What is to be sent next; what is being sent; whether the outbox may have more; when a session may start.
         self._ready: Deque[Batch] = deque()
@@ -190,8 +191,7 @@ class TwoWayLine(Line):
     async def _meant(self, answer: Answer, place: int, arrived: float, is_enq: bool = False) -> None:
         before, self._phase = self._phase, self._station.phase
         if answer.step is not None:
-            self._watch.step(place, answer.step)
-            await self._step(answer.step, arrived, is_enq)
+            await self._step(answer.step, arrived, place, is_enq)
             if answer.step.note in _OVER:
                 self._asking.over()
             self._contended = 0
@@ -211,8 +211,7 @@ class TwoWayLine(Line):
         was_unanswered, self._unanswered, self._has_heard = self._unanswered, False, True
         if was_unanswered and data[:1] in _REPLIES:
             self._counts["late_replies"] += 1
-            byte = f"byte {self._watch.heard - len(data)} of the connection is 0x{data[0]:02X}"
-            self._say(f"a reply came after the host had given its session up: {byte}", REPLY)
+            self._tell(ReplyAfterAll(data[0]))
 
     def _asked_in_vain(self) -> None:
         """The analyzer doesn't give the line: it is asked again a few times."""
@@ -282,7 +281,7 @@ class TwoWayLine(Line):
     def _found(self, is_any: bool) -> None:
         """Whether there was an order for a query. A LIS that hands over none is known by that."""
         self._counts["found_nothing"] += not is_any
-        self._probe.found(is_any)
+        self._tell(Looked(is_any))
 
     async def _take_back(self) -> None:
         """The analyzer takes its query back: no answer is sent that hasn't begun."""
@@ -336,7 +335,7 @@ class TwoWayLine(Line):
         can be connected anew, else none starts until such a reply has come."""
         outcome = self._station.outcome
         if outcome is Outcome.DONE:
-            self._watch.answered()
+            self._tell(OwnAnswered())
             self._sending = None
             self._free_at = self._loop.time()
             self._counts["orders"] += len(batch.placed)
@@ -359,5 +358,5 @@ class TwoWayLine(Line):
         batch, self._sending = self._sending, None
         assert batch is not None
         self._counts["failed_sessions"] += 1
-        self._probe.in_vain(why)
+        self._tell(OwnFailed(why))
         self._outbox.failed(self._site, batch, why, is_rejected)

@@ -3,12 +3,15 @@ what is answered; this module decides when an answer goes out: after its text is
 import asyncio
 import functools
 from collections import Counter, deque
-from typing import Callable, Deque, Dict, List, Optional, Sequence, Tuple
+from dataclasses import dataclass, field
+from typing import Callable, Deque, List, Optional, Sequence, Tuple
 
 from lislink.codes import Note
-from lislink.link import RECEIVER, Receiver, Step
-from ..diagnosis.notices import CODES, CONNECTION, LETTERS, MESSAGE, NOISE, REJECTED, REPLY
-from ..diagnosis.pulse import Probe
+from lislink.link import FRAME_TEXT, RECEIVER, Receiver, Step
+from ..diagnosis.events import (
+    Answered, Came, Closed, Kept, Late, Meant, MessageEnded, Noise, NotKept, Observers, Restarted, Sent, TimerOver,
+)
+from ..diagnosis.notices import LETTERS, MESSAGE, REJECTED
 from ..model.options import Limits
 from ..model.store import MENDED, WHOLE, Add, Change, End, StoreError
 from .asleep import Asleep
@@ -24,8 +27,7 @@ from .turns import Share, Turns
 WAITING, TOGETHER = 1 << 16, 1 << 14
 #: EOT after so many seconds without a frame is that of an analyzer that heard no reply.
 BROKEN = 10.0
-#: What helps an analyzer whose sessions begin without the end of the one before.
-ENQ, ANEW = 5, "careful=no of its line answers its first ENQ"
+ENQ = 5
 #: What ends a session, and what that makes of a message without its L record.
 _ENDS = {
     Note.OPENED: "a new session began before its L record",
@@ -82,39 +84,41 @@ class Wire:
         """Reads on."""
 
 
-class Line:
-    """A line that is connected."""
+@dataclass(frozen=True)
+class Parts:
+    """What a line is made of: its own parts, then those that it shares with others."""
 
+    wire: Wire
+    intake: Intake
+    observers: Observers
+    say: Callable[[str, str], None]
+    counts: "Counter[str]"
+    mender: Mender
+    committer: Committer
+    turns: Turns
+    limits: Limits = Limits()
+    frame: int = FRAME_TEXT
+    is_careful: bool = True
     #: Whether the machine was suspended, and nobody took note of it yet; the room for texts that aren't complete.
-    asleep, room = Asleep(), Pool(1 << 40)
+    asleep: Asleep = field(default_factory=Asleep)
+    room: Pool = field(default_factory=lambda: Pool(1 << 40))
 
-    def __init__(
-        self,
-        wire: Wire,
-        intake: Intake,
-        committer: Committer,
-        limits: Limits,
-        counts: "Counter[str]",
-        probe: Probe,
-        frame: int,
-        say: Callable[[str, str], None],
-        turns: Turns,
-        mender: Mender,
-        is_careful: bool = False,
-    ) -> None:
-        self._mender, self._is_careful = mender, is_careful
-        #: Where in the connection the last ENQ was that was heard as noise; less than 0 for none.
-        self._noise_at = -1
+
+class Line:
+    """A line that is connected. It tells what happens on it to its observers, none of which it waits for."""
+
+    def __init__(self, parts: Parts) -> None:
+        self._mender, self._is_careful = parts.mender, parts.is_careful
         #: Messages that ended, of which it is to be tried which setting would deliver them.
         self._tries: List[Ended] = []
         #: Whether the last frame was taken, and when a reply went out last.
         self._is_taken, self._replied = False, 0.0
-        self._wire, self._intake, self._committer, self._limits = wire, intake, committer, limits
-        self._counts, self._say, self._share = counts, say, Share(turns)
-        self._tape = self._watch = self._probe = probe
-        self._feeds = self._feeds_of(frame)
+        self._wire, self._intake, self._committer, self._limits = parts.wire, parts.intake, parts.committer, parts.limits
+        self._counts, self._say, self._share = parts.counts, parts.say, Share(parts.turns)
+        self._asleep, self._room, self._tell = parts.asleep, parts.room, parts.observers.tell
+        self._feeds = self._feeds_of(parts.frame)
         self._loop = asyncio.get_running_loop()
-        self._begin(frame)
+        self._begin(parts.frame)
         self._pieces: Deque[Tuple[float, bytes]] = deque()
         self._size, self._paused_at = 0, None  # type: int, Optional[float]
         #: When it was read last, and until when what is read may have come since it was read before a pause.
@@ -167,9 +171,7 @@ class Line:
 
     async def _timed(self, now: float) -> None:
         """The timer's time is over."""
-        step = self._receiver.timer()
-        self._watch.step(0, step)
-        await self._step(step, now)
+        await self._step(self._receiver.timer(), now)
         self._look_at_room()
 
     async def _heard(self, data: bytes, arrived: float) -> None:
@@ -177,8 +179,7 @@ class Line:
             before = self._receiver.noise
             for place, found in self._receiver.hear_placed(heard.data):
                 step = self._feeds.restored(heard, found)
-                self._watch.step(place + heard.start, step)
-                await self._step(step, arrived, heard.data[place] == ENQ)
+                await self._step(step, arrived, place + heard.start, heard.data[place] == ENQ)
                 await self._take_turns()
                 if self._is_through():
                     return
@@ -275,13 +276,10 @@ class Line:
         finally:
             self._lost = True
             self._drop(f"the line was closed {self._closed}" if self._is_cut else why)
-            self.room.taken(self._has, 0)
-            self._watch.over()
+            self._room.taken(self._has, 0)
             self._end()
-            came = f"bytes {self._watch.heard}, sessions {self._watch.sessions}"
-            self._say(f"closed {self._closed or 'after a fault'}; {came}", CONNECTION)
+            self._tell(Closed(self._closed or "after a fault"))
             self._wire.close()
-            self._tape.close()
 
     def _is_through(self) -> bool:
         """Whether the line is to be closed and no session goes on: what came since, as ENQ, is heard by nobody."""
@@ -311,12 +309,11 @@ class Line:
         return self._is_through() or (self._lost and not self._pieces)
 
     async def _timer(self, now: float) -> None:
-        self._tape.event("T")
+        self._tell(TimerOver())
         await self._timed(now)
 
     async def _hear(self, data: bytes, arrived: float) -> None:
-        self._tape.bytes(">", data)
-        self._watch.hears(data)
+        self._tell(Came(data))
         await self._heard(data, arrived)
         self._look_at_room()
 
@@ -325,7 +322,7 @@ class Line:
         held = self._held()
         if held <= FIRST and not self._has:
             return
-        has = self.room.taken(self._has, held)
+        has = self._room.taken(self._has, held)
         self._has_room(has is not None)
         self._has = self._has if has is None else has
 
@@ -339,21 +336,10 @@ class Line:
         """Notes how many ENQ and STX came inside a session or a frame, where no analyzer sends them."""
         if count:
             self._counts["noise"] += count
-            self._probe.noise(count)
+            self._tell(Noise(count))
 
-    def _note_enq(self, step: Step) -> None:
-        """Says of an ENQ whether it is noise: it came in a session, and had no reply. An analyzer that begins anew without
-        EOT sends the next one at once; noise is followed by the rest of its frame, or by EOT."""
-        at, before = self._watch.at, self._noise_at
-        self._noise_at = at if step.note is Note.ENDED else -1
-        if step.note is Note.ENDED:
-            self._say(f"noise on the line: byte {at} of the connection, in a session, is ENQ; it has no reply", NOISE)
-        elif 0 <= before == at - 1:
-            self._say(f"ENQ came again, with nothing between: if the analyzer begins anew without EOT, {ANEW}", NOISE)
-
-    async def _step(self, step: Step, arrived: float, is_enq: bool = False) -> None:
-        if is_enq:
-            self._note_enq(step)
+    async def _step(self, step: Step, arrived: float, place: int = 0, is_enq: bool = False) -> None:
+        self._tell(Meant(place, step, is_enq))
         self.had_session = self.had_session or step.note is Note.OPENED
         if step.note in _COUNTED:
             self._counts[_COUNTED[step.note]] += 1
@@ -377,21 +363,19 @@ class Line:
         if self._is_cut:
             self._restart(self._closed)
             return False
-        age = self._loop.time() - arrived + self.asleep.seconds()
+        age = self._loop.time() - arrived + self._asleep.seconds()
         if age > self._limits.reply * self._limits.scale:
             self._counts["late"] += 1
-            byte = f"byte {self._watch.at} of the connection"
-            self._say(f"a reply is late and isn't sent: {byte} came {age:.1f} s ago", REPLY)
-            self._probe.late()
+            self._tell(Late(age))
             self._restart("the reply would have been late")
             return False
-        self._probe.replied(self._loop.time() - arrived)
+        self._tell(Answered(self._loop.time() - arrived))
         self._send(reply)
         self._replied = self._loop.time()
         return True
 
     def _send(self, data: bytes) -> None:
-        self._tape.bytes("<", data)
+        self._tell(Sent(data))
         self._wire.write(data)
 
     async def _keep(self, text: bytes) -> bool:
@@ -401,7 +385,7 @@ class Line:
             await self._keep_in_parts(text)
         except (StoreError, TooLong) as error:
             self._counts["not_kept"] += 1
-            self._probe.not_kept(error)
+            self._tell(NotKept(error))
             self._is_long = False
             self._tries.clear()
             undone = self._intake.undo(f"a text could not be kept: {error}")
@@ -409,7 +393,7 @@ class Line:
                 self._put_later(undone)
             self._restart("a text could not be kept")
             return False
-        self._probe.kept()
+        self._tell(Kept())
         return True
 
     async def _keep_in_parts(self, text: bytes) -> None:
@@ -452,11 +436,9 @@ class Line:
         for change in changes:
             if not isinstance(change, End):
                 continue
-            self._note_codes(change)
+            self._tell(MessageEnded(change))
             self._note_letters(change)
             self._counts["messages" if change.state == WHOLE else "quarantined"] += 1
-            if change.state == WHOLE or (change.size and not change.reason.startswith(MENDED)):
-                self._probe.ended(change)
             if change.state == WHOLE:
                 self.last = change.at
                 if change.reason:
@@ -465,13 +447,6 @@ class Line:
             elif change.size:
                 state = "" if change.reason.startswith(MENDED) else f"{change.state}: "
                 self._say(f"message {change.key} is {state}{change.reason}", MESSAGE)
-
-    def _note_codes(self, end: End) -> None:
-        """Counts the codes of a message that the line's table lacks, and says which they are."""
-        count, names = self._intake.unknown.ended(end.key, end.state == WHOLE)
-        if count:
-            self._counts["unknown_codes"] += count
-            self._say(f"message {end.key} has codes that the line's table lacks: {names}", CODES)
 
     def _note_letters(self, end: End) -> None:
         """Says of a whole message that its letters look like those of another encoding."""
@@ -487,8 +462,7 @@ class Line:
         self._begin_anew()
         self._set_timer()
         self._counts["restarts"] += 1
-        self._tape.event("R")
-        self._watch.session_over()
+        self._tell(Restarted())
         self._drop(reason)
         self._look_at_room()
 
@@ -534,7 +508,3 @@ class Ticks:
     def stop(self) -> None:
         """Ends the ticks."""
         self._handle.cancel()
-
-
-Counts = Dict[str, "Counter[str]"]
-Say = Callable[[str], None]

@@ -5,7 +5,7 @@ from typing import Any, Iterator, Tuple
 from lislink.codes import Note
 from lislink.link import Step
 from .feeds import AsItComes
-from .line import Line
+from .line import Line, Parts
 
 _STX, _ETX, _EOT, _ENQ = 2, 3, 4, 5
 _ACK, _NAK = b"\x06", b"\x15"
@@ -71,8 +71,8 @@ class PlainLine(Line):
     """A line with such a link. A block that comes again within a message may be a repeat or not, and nothing says
     which: such a message is kept, and not delivered."""
 
-    def __init__(self, *given: Any) -> None:
-        super().__init__(*given)
+    def __init__(self, parts: Parts) -> None:
+        super().__init__(parts)
         self._last = b""
 
     def _begin(self, frame: int) -> None:

@@ -14,7 +14,9 @@ from concurrent.futures import ThreadPoolExecutor
 from typing import Any, Callable, Dict, Iterable, List, Mapping, NamedTuple, Optional, Sequence, Set, Tuple, Union
 
 from ..diagnosis.board import Board
+from ..diagnosis.events import Observers
 from ..diagnosis.notices import CONNECTION, MESSAGE, Notices
+from ..diagnosis.reports import Watch
 from ..diagnosis.tape import Tape
 from ..model.codes import Codes
 from ..model.files import write_whole
@@ -27,7 +29,7 @@ from .commits import Committer
 from .duplex import TwoWayLine
 from .intake import Held, Intake, Pool
 from .left import Left
-from .line import Line, Ticks, Wire
+from .line import Line, Parts, Ticks, Wire
 from .mend import Ended
 from .mender import InOrder, Mender, Workers, is_mended
 from .outbox import Outbox, Site
@@ -209,11 +211,12 @@ class Host:
         unknown = self.unknown.setdefault(place.name, Unknown(place.name))
         intake = Intake(place.name, peer, place.encoding, self.limits.message, time.time, self._held, unknown)
         notice = functools.partial(self._notice, place.name, peer)
-        probe = self.board.probe(place, self._tape(place.name), notice)
-        limits, careful = self.limits, place.careful != "no"
-        given = (wire, intake, self.committer, limits, counts, probe, place.frame, notice, self.turns, mender, careful)
-        line = self._line(place, peer, given)
-        line.asleep, line.room = self.asleep, self._texts
+        is_careful, tape = place.careful != "no", self._tape(place.name)
+        those = [*([tape.see] if tape else []), Watch(notice).see, *self.board.observers(place, is_careful)]
+        observers = Observers([*those, functools.partial(unknown.see, counts, notice)], notice)
+        given = wire, intake, observers, notice, counts, mender, self.committer, self.turns
+        more = self.limits, place.frame, is_careful, self.asleep, self._texts
+        line = self._line(place, peer, Parts(*given, *more))
         notice("connected" if wire.is_tcp else "open", CONNECTION)
         task = asyncio.ensure_future(line.run())
         self.lines[line], self._places[line] = task, place
@@ -222,16 +225,16 @@ class Host:
         task.add_done_callback(lambda done: self._over(line, done))
         return line
 
-    def _line(self, place: Place, peer: str, given: Any) -> Line:
+    def _line(self, place: Place, peer: str, parts: Parts) -> Line:
         if place.link:
-            return PlainLine(*given)
+            return PlainLine(parts)
         if self.outbox is None or not place.orders:
-            return Line(*given)
+            return Line(parts)
         self.seats += 1
         where = place.name, peer, place.encoding, place.orders == "send", place.none, str(self.seats)
         is_anew = bool(getattr(place, "waits", ""))
         site = Site(*where, place.asks, int(place.test.split("^")[0] or 4), is_anew)
-        return TwoWayLine(self.outbox, site, *given)
+        return TwoWayLine(self.outbox, site, parts)
 
     def _mender(self, place: Place) -> Mender:
         """What mends the messages of a line, by its settings as they are now."""

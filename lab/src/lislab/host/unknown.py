@@ -1,12 +1,15 @@
 """What a line's table of codes lacks: the results of its whole messages are looked up as a delivery looks them up."""
 import contextlib
 from collections import Counter
-from typing import Dict, Optional, Tuple
+from typing import Callable, Dict, Optional, Tuple
 
 from lislink.message import Entry
 from lislink.records import MessageError, Reader
 from lislink.rows import Row
+from ..diagnosis.events import Event, MessageEnded
+from ..diagnosis.notices import CODES
 from ..model.codes import Codes, field_and_unit
+from ..model.store import WHOLE
 
 #: So many codes are counted one by one, of a line and of a message; so many of a message are named; a code is shown up
 #: to so many characters.
@@ -69,6 +72,15 @@ class Unknown:
         names = [f"{name} {count}" for name, count in self._names(found).items()]
         more = f", and {len(names) - NAMED} others" if len(names) > NAMED else ""
         return sum(found.values()), ", ".join(names[:NAMED]) + more
+
+    def see(self, counts: "Counter[str]", say: Callable[[str, str], None], event: Event) -> None:
+        """Counts the codes of a message that ended which the table lacks, and says which they are."""
+        if not isinstance(event, MessageEnded):
+            return
+        count, names = self.ended(event.end.key, event.end.state == WHOLE)
+        if count:
+            counts["unknown_codes"] += count
+            say(f"message {event.end.key} has codes that the line's table lacks: {names}", CODES)
 
     def names(self) -> Dict[str, int]:
         """How many results there were of each code that the table lacks, the most first."""

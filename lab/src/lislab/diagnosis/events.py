@@ -1,0 +1,120 @@
+"""What happens on a line, for those who listen. A line waits for none of them, and none can break it."""
+from typing import Callable, NamedTuple, Sequence, Union
+
+from lislink.link import Step
+from ..model.store import End
+from .notices import OTHER
+
+
+class Came(NamedTuple):
+    """Bytes of the analyzer are heard from here on."""
+
+    data: bytes
+
+
+class Sent(NamedTuple):
+    """Bytes of the host go out."""
+
+    data: bytes
+
+
+class Meant(NamedTuple):
+    """What a byte meant, at this place of the bytes that are heard; whether it is ENQ."""
+
+    place: int
+    step: Step
+    is_enq: bool = False
+
+
+class TimerOver(NamedTuple):
+    """The timer's time is over."""
+
+
+class Noise(NamedTuple):
+    """So many ENQ and STX came inside a session or a frame, where no analyzer sends them."""
+
+    times: int
+
+
+class Kept(NamedTuple):
+    """A text is kept."""
+
+
+class NotKept(NamedTuple):
+    """A text could not be kept."""
+
+    error: Exception
+
+
+class MessageEnded(NamedTuple):
+    """A message ended, and that is kept."""
+
+    end: End
+
+
+class Answered(NamedTuple):
+    """A reply went out so many seconds after the bytes came that it answers."""
+
+    seconds: float
+
+
+class Late(NamedTuple):
+    """A reply was not sent, since it would have been late: the bytes came so many seconds ago."""
+
+    seconds: float
+
+
+class Restarted(NamedTuple):
+    """The receiver begins anew."""
+
+
+class OwnAnswered(NamedTuple):
+    """A session of the host's own was answered."""
+
+
+class OwnFailed(NamedTuple):
+    """A session of the host's own failed."""
+
+    why: str
+
+
+class ReplyAfterAll(NamedTuple):
+    """A reply came after the host had given its session up."""
+
+    byte: int
+
+
+class Looked(NamedTuple):
+    """Whether there was an order for a query."""
+
+    is_any: bool
+
+
+class Closed(NamedTuple):
+    """The line is closed, and why."""
+
+    why: str
+
+
+Event = Union[
+    Came, Sent, Meant, TimerOver, Noise, Kept, NotKept, MessageEnded, Answered, Late, Restarted, OwnAnswered, OwnFailed,
+    ReplyAfterAll, Looked, Closed,
+]
+#: Who listens.
+Observer = Callable[[Event], None]
+
+
+class Observers:
+    """Those who listen to a line. One that fails is no reason to stop the line, and it is said."""
+
+    def __init__(self, those: Sequence[Observer], say: Callable[[str, str], None]) -> None:
+        self._those, self._say = those, say
+
+    def tell(self, event: Event) -> None:
+        """Tells each of them what happened."""
+        for see in self._those:
+            try:
+                see(event)
+            except Exception as error:  # whatever it is, the line goes on
+                what = f"{type(error).__name__}: {error}"
+                self._say(f"who listens to the line failed at {type(event).__name__}: {what}", OTHER)

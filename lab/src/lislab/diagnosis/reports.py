@@ -1,0 +1,143 @@
+"""What a host says of a connection: frames that it rejects, sessions and bytes of which nothing is understood, noise."""
+from typing import Callable, Optional
+
+from lislink.codes import FrameFault, Note
+from lislink.link import Step
+from .events import Came, Closed, Event, Late, Meant, OwnAnswered, ReplyAfterAll, Restarted
+from .notices import CONNECTION, FRAME, NOISE, REJECTED, REPLY, SESSION
+
+#: After so many bytes without a session that is said of a line that stays open; and after so many empty sessions.
+BYTES, EMPTY = 1000, 5
+#: What helps an analyzer whose sessions begin without the end of the one before.
+ANEW = "careful=no of its line answers its first ENQ"
+
+
+class Watch:
+    """Watches a connection: the first rejection of each frame, bytes without a session, sessions without a frame that
+    is accepted."""
+
+    def __init__(self, say: Callable[[str, str], None]) -> None:
+        self._say = say
+        #: The place in the connection of the byte that was answered last, and how many sessions there were.
+        self.at = self.sessions = 0
+        #: How many bytes came before those that are heard now, and these; the first one of all.
+        self._before, self._data, self._first = 0, b"", b""
+        self._accepted = self._rejected = self._empty = 0
+        self._why, self._said = "", False
+        #: How many frames of the session were taken, and at how many one was rejected last; less than 0 for none.
+        self._taken, self._rejected_at = 0, -1
+        #: The place of the session's first byte after its ENQ, and that byte once it is there; None without a session.
+        self._start: Optional[int] = None
+        self._second = b""
+        #: Where in the connection the last ENQ was that was heard as noise; less than 0 for none.
+        self._noise_at = -1
+
+    def see(self, event: Event) -> None:
+        """What happens on the connection."""
+        if isinstance(event, Came):
+            self.hears(event.data)
+        elif isinstance(event, Meant):
+            self.step(event.place, event.step)
+            if event.is_enq:
+                self._note_enq(event.step)
+        elif isinstance(event, Restarted):
+            self.session_over()
+        elif isinstance(event, OwnAnswered):
+            self.sessions += 1
+        elif isinstance(event, Late):
+            byte = f"byte {self.at} of the connection"
+            self._say(f"a reply is late and isn't sent: {byte} came {event.seconds:.1f} s ago", REPLY)
+        elif isinstance(event, ReplyAfterAll):
+            byte = f"byte {self._before} of the connection is 0x{event.byte:02X}"
+            self._say(f"a reply came after the host had given its session up: {byte}", REPLY)
+        elif isinstance(event, Closed):
+            self.session_over()
+            self._no_session(self.heard)
+            self._say(f"closed {event.why}; bytes {self.heard}, sessions {self.sessions}", CONNECTION)
+
+    def _note_enq(self, step: Step) -> None:
+        """Says of an ENQ whether it is noise: it came in a session, and had no reply. An analyzer that begins anew without
+        EOT sends the next one at once; noise is followed by the rest of its frame, or by EOT."""
+        at, before = self.at, self._noise_at
+        self._noise_at = at if step.note is Note.ENDED else -1
+        if step.note is Note.ENDED:
+            self._say(f"noise on the line: byte {at} of the connection, in a session, is ENQ; it has no reply", NOISE)
+        elif 0 <= before == at - 1:
+            self._say(f"ENQ came again, with nothing between: if the analyzer begins anew without EOT, {ANEW}", NOISE)
+
+    def hears(self, data: bytes) -> None:
+        """Bytes that are heard from here on."""
+        self._before += len(self._data)
+        self._data, self._first = data, self._first or data[:1]
+        if self._start is not None:
+            self._second = self._second or data[:1]
+        if self._before >= BYTES:
+            self._no_session(self._before)
+
+    def step(self, place: int, step: Step) -> None:
+        """What a byte meant, at this place of the bytes that are heard."""
+        self.at = self._before + place
+        if step.note is Note.OPENED:
+            self.session_over(place)
+            self.sessions += 1
+            self._start, self._second = self._before + place + 1, self._data[place + 1 : place + 2]
+        elif step.note is Note.ENDED:
+            self.session_over(place)
+        elif step.note is Note.TIMED_OUT:
+            self.session_over()
+        elif step.note in (Note.ACCEPTED, Note.DUPLICATE):
+            self._accepted += 1
+            self._taken += step.note is Note.ACCEPTED
+        elif step.note in REJECTED:
+            self._reject(f"ends at byte {self.at} of the connection: {code_of(step)}")
+
+    def _reject(self, why: str) -> None:
+        """A frame was rejected. It comes again, and may be rejected again: that is said once."""
+        self._rejected += 1
+        self._why = self._why or why
+        if self._rejected_at != self._taken:
+            self._rejected_at = self._taken
+            self._say(f"frame {self._taken + 1} of a session is rejected; it {why}", FRAME)
+
+    def session_over(self, place: Optional[int] = None) -> None:
+        """A session is over, or given up: at this place of the bytes that are heard, or after them."""
+        start, self._start = self._start, None
+        if start is not None and not self._accepted:
+            self._without_a_frame(start, self._before + (len(self._data) if place is None else place) - start)
+        elif self._accepted:
+            self._empty = 0
+        self._accepted = self._rejected = self._taken = 0
+        self._why, self._rejected_at = "", -1
+
+    def _without_a_frame(self, start: int, size: int) -> None:
+        """No frame was accepted in a session of so many bytes between its ENQ and its end."""
+        if self._rejected:
+            why = f"{self._rejected} rejected; the first one {self._why}"
+            self._say(f"no frame was accepted in a session, {why}", SESSION)
+        elif size > 0:
+            what = f"no frame was accepted in a session, {size} bytes came"
+            self._say(f"{what}; byte {start} of the connection is 0x{self._second[0]:02X}", SESSION)
+        else:
+            self._empty += 1
+            if self._empty == EMPTY:
+                self._say(f"{EMPTY} sessions in a row had no byte after their ENQ: are the replies heard?", SESSION)
+
+    @property
+    def heard(self) -> int:
+        """How many bytes came."""
+        return self._before + len(self._data)
+
+    def _no_session(self, count: int) -> None:
+        """So many bytes came: if no session was among them, that is said once."""
+        if count and not self.sessions and not self._said:
+            self._said = True
+            what = f"{count} bytes came without an ENQ that begins a session"
+            self._say(f"{what}; byte 0 is 0x{self._first[0]:02X}", SESSION)
+
+
+def code_of(step: Step) -> str:
+    """Why a frame was rejected, as a code."""
+    if step.note is Note.REFUSED:
+        fault = FrameFault(step.detail)
+        return f"{fault.name}, byte {step.place} of its text" if fault is FrameFault.FORBIDDEN else fault.name
+    return f"{step.note.name}, number {step.detail}" if step.note is Note.OUT_OF_TURN else step.note.name
