@@ -221,7 +221,7 @@ class Plays(kit.Test):
         page, xml = os.path.join(folder, "page.html"), os.path.join(folder, "plays.xml")
         words = [sys.executable, "-m", "lislink", "play", scripts("results")[0], "--to", f"127.0.0.1:{host.port}",
                  "--scale", str(SCALE), "--report", page, "--junit", xml, "--kept", f"cat {host.kept}"]
-        env = {**os.environ, "PYTHONPATH": SOURCE, "LISLINK_LIBRARY": "/nonexistent", "PYTHONDONTWRITEBYTECODE": "1"}
+        env = {**os.environ, "PYTHONPATH": SOURCE, "LISLINK_LIBRARY": "/nonexistent"}
         self.runs(words, re.compile(r"steps \d+ differences 0\n"), env=env, cwd=folder)
         for path in (page, xml):
             self.same(f"the mode of {os.path.basename(path)}", stat.S_IMODE(os.stat(path).st_mode), 0o600)
@@ -274,7 +274,7 @@ def xml_of(path):
 class Lines(kit.Test):
     def listening(self, script, *words):
         """`lislab play` as a process that waits for a connection, and its port."""
-        env = {**os.environ, "PYTHONPATH": SOURCE, "LISLINK_LIBRARY": "/nonexistent", "PYTHONDONTWRITEBYTECODE": "1"}
+        env = {**os.environ, "PYTHONPATH": SOURCE, "LISLINK_LIBRARY": "/nonexistent"}
         how = ["--listen", "0", "--scale", str(SCALE), "--within", "5"]
         process = subprocess.Popen([sys.executable, "-m", "lislink", "play", script, *how, *words], env=env, text=True,
                                    stdout=subprocess.PIPE, stderr=subprocess.PIPE)
