@@ -36,8 +36,9 @@ class Part(NamedTuple):
     soak: int
 
 
-#: Kills of a host on each store, seconds of a store that fails, messages of each of 200 analyzers, messages, kills under orders,
-#: reloads of a file of lines, messages over MLLP, kills of a delivery, sessions over a noisy wire, random streams.
+#: Kills of a host on each store, seconds of a store that fails, messages of each of 200 analyzers, messages, kills
+#: under orders, reloads of a file of lines, messages over MLLP, kills of a delivery, sessions over a noisy wire, random
+#: streams.
 PARTS = {
     "kills": Part("test_kills.Kills.test_sqlite", 20, 1000),
     "spool": Part("test_kills.Kills.test_spool", 5, 250),

@@ -16,7 +16,8 @@ class Load(HostTest):
     """Load, and memory under it."""
 
     def test_200_analyzers(self):
-        """200 analyzers at once, with a message a second, if the machine can: each gets its replies; how soon is said."""
+        """200 analyzers at once, each with a message a second if the machine can: they get their replies; how soon is
+        said."""
         store, log, each = self.path("many.db"), self.path("many.log"), hosts.size("analyzers")
         host = Host(store, "--lines", "250", scale=NEVER)
         many = ["--analyzers", "200", "--made", str(each), "--rate", "1"]
