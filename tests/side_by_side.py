@@ -1,13 +1,14 @@
 """Files of tests side by side, each in a process of its own."""
 import os
 import re
+import shutil
 import subprocess
 import sys
 import tempfile
 import time
 from typing import NamedTuple
 
-from tests import ROOT, kit
+from tests import BYTECODE, ROOT, kit
 
 #: The last line but one of a file's run.
 TOLD = re.compile(r"^(\S+: (\d+) passed, (\d+) failed in \d+ s)\n\w+: .*\n\Z", re.M)
@@ -96,4 +97,5 @@ def run(files):
         times.put(one.name, time.monotonic() - one.begun, used.ru_utime + used.ru_stime)
         print(line + left(names, running.values(), times, jobs), flush=True)
     times.write()
+    shutil.rmtree(BYTECODE + tempfile.gettempdir(), ignore_errors=True)  # of programs that are gone
     return passed, failed

@@ -201,7 +201,7 @@ def run_page(test, page, text, program, build):
     port, groups = free_port(), []
     with tempfile.TemporaryDirectory() as folder:
         make_folder(folder, program, build)
-        environment = {**os.environ, "PATH": f"{folder}/bin:{os.environ['PATH']}", "PYTHONDONTWRITEBYTECODE": "1",
+        environment = {**os.environ, "PATH": f"{folder}/bin:{os.environ['PATH']}",
                        "LISLINK_LIBRARY": os.path.join(build, "liblislink.so")}
         for words, lines, line in blocks(text):
             if words and words not in SHELL or words == "sh norun":

@@ -274,8 +274,8 @@ class Targets(kit.Test):
                 self.same(said, (ran.stdout, ran.returncode), (f"{wanted}\n", int(" 0 failed" not in wanted)))
 
     def test_side_by_side(self):
-        """Files that run side by side: what each prints comes as a whole, and a file that ends without its last line is a
-        failure. The longest of the last run begins."""
+        """Files that run side by side: what each prints comes as a whole, and a file that ends without its last line is
+        a failure. The longest of the last run begins."""
         ends = "echo 'a/%s: %s in 1 s'; echo 'a: 2 passed'"
         scripts = {"good": ends % ("good", "2 passed, 0 failed"), "died": "echo one; kill -9 $$",
                    "bad": "echo FAILED: a/bad.T: x;" + ends % ("bad", "1 passed, 1 failed")}
@@ -298,7 +298,8 @@ class Targets(kit.Test):
         rows = said.getvalue().splitlines()
         self.same("what is printed", rows, [
             "a/good: 2 passed, 0 failed in 1 s; 2 left, about 7 s", "one",
-            "FAILED: a/died ended with -9 before it said how many passed", "a/died: 0 passed, 1 failed; 1 left, about 3 s",
+            "FAILED: a/died ended with -9 before it said how many passed",
+            "a/died: 0 passed, 1 failed; 1 left, about 3 s",
             "FAILED: a/bad.T: x", "a/bad: 1 passed, 1 failed in 1 s"])
         with open(f"{build}/times", encoding="ascii") as file:
             self.same("how long they took", sorted(row.split()[0] for row in file), ["a/bad", "a/died", "a/good"])

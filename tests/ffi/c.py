@@ -39,7 +39,7 @@ def compilers(test):
 
 def python_over(library):
     """How a program in Python runs over the package and this library."""
-    return {"env": {**os.environ, "LISLINK_LIBRARY": library, "PYTHONDONTWRITEBYTECODE": "1",
+    return {"env": {**os.environ, "LISLINK_LIBRARY": library,
                     "PYTHONPATH": os.path.join(ROOT, "python/src")}}
 
 

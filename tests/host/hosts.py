@@ -24,7 +24,7 @@ from tests.host import SOURCE
 SCALE = 0.02
 #: The scale of a test in which no timer may run out, however busy the machine is: 15 seconds are 5 minutes.
 NEVER = 20
-ENV = {**os.environ, "PYTHONPATH": SOURCE, "PYTHONDONTWRITEBYTECODE": "1"}
+ENV = {**os.environ, "PYTHONPATH": SOURCE}
 FAULTY = os.path.join(ROOT, "tests", "host", "faulty.py")
 
 
@@ -36,14 +36,15 @@ class Part(NamedTuple):
     soak: int
 
 
-#: Kills of a host on each store, seconds of a store that fails, seconds of 200 analyzers, messages, kills under orders,
-#: reloads of a file of lines, messages over MLLP, kills of a delivery, sessions over a noisy wire, random streams.
+#: Kills of a host on each store, seconds of a store that fails, messages of each of 200 analyzers, messages, kills
+#: under orders, reloads of a file of lines, messages over MLLP, kills of a delivery, sessions over a noisy wire, random
+#: streams.
 PARTS = {
     "kills": Part("test_kills.Kills.test_sqlite", 20, 1000),
     "spool": Part("test_kills.Kills.test_spool", 5, 250),
     "postgres": Part("test_postgres.Postgres.test_kills", 10, 200),
     "failing": Part("test_kills.Kills.test_failing_store", 6, 600),
-    "analyzers": Part("test_load.Load.test_200_analyzers", 12, 300),
+    "analyzers": Part("test_load.Load.test_200_analyzers", 8, 300),
     "messages": Part("test_load.Load.test_memory", 3000, 1000000),
     "orders": Part("test_orders.Fire.test_kills", 10, 1000),
     "orders_postgres": Part("test_orders_postgres.PostgresBooks.test_two_hosts_are_killed", 4, 1000),
@@ -207,7 +208,7 @@ def trouble(said):
 
 def lislab(*words, **how):
     """Runs a command of lislab to its end."""
-    how = {"timeout": 120, **how}
+    how = {"timeout": 600, **how}
     return subprocess.run(
         [sys.executable, "-m", "lislab", *words], capture_output=True, text=True, env=ENV, check=False, **how
     )

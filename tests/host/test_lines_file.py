@@ -182,7 +182,7 @@ class LinesFile(HostTest):
             (["--lines", self.path("none.lines")], 3, "No such file"),
             (["--lines", "5"], 2, "name a line by --listen, --connect or --serial, or a file of lines by --lines"),
         ):
-            done = lislab("serve", "--store", self.path("start.db"), *words, timeout=20)
+            done = lislab("serve", "--store", self.path("start.db"), *words)
             self.true(f"{words}", done.returncode == status and why in done.stderr, done.stderr)
 
     def test_allow(self):

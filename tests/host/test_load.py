@@ -7,7 +7,7 @@ import time
 
 from lislab.model.stores import open_store
 from tests.host import hosts
-from tests.host.hosts import Found, Host, HostTest, acknowledged, sending
+from tests.host.hosts import NEVER, Found, Host, HostTest, acknowledged, sending
 
 LOADER = os.path.join(os.path.dirname(os.path.abspath(__file__)), "loader.py")
 
@@ -16,20 +16,21 @@ class Load(HostTest):
     """Load, and memory under it."""
 
     def test_200_analyzers(self):
-        """200 analyzers at once: each gets its replies in time."""
-        store, log, seconds = self.path("many.db"), self.path("many.log"), hosts.size("analyzers")
-        host = Host(store, "--lines", "250", scale=1.0)
-        many = ["--analyzers", "200", "--made", "1000000", "--rate", "1", "--seconds", str(seconds)]
-        said = sending(host.port, *many, "--log", log, scale=1.0).communicate()[1]
+        """200 analyzers at once, each with a message a second if the machine can: they get their replies; how soon is
+        said."""
+        store, log, each = self.path("many.db"), self.path("many.log"), hosts.size("analyzers")
+        host = Host(store, "--lines", "250", scale=NEVER)
+        many = ["--analyzers", "200", "--made", str(each), "--rate", "1"]
+        said = sending(host.port, *many, "--log", log, scale=NEVER).communicate()[1]
         self.same("the host's status", host.stop(), 0)
         done, found = acknowledged(log), Found(store)
-        self.true("all are served", len({name for name, *_ in done}) == 200, str(len(done)))
+        self.same("all are served", (len({name for name, *_ in done}), len(done)), (200, 200 * each))
         self.same("acknowledged and lost", found.lost(log), [])
         self.same("repeats", (found.again(), found.unmarked()), (0, []))
         summary = re.search(r"done .*", said)
         good = summary is not None and "CLOSED" not in said and "TIMED" not in said
         self.true("no session fails", good, said)
-        hosts.say(f"200 analyzers, {seconds} s: {summary[0] if summary else said}")
+        hosts.say(f"200 analyzers, {each} messages of each: {summary[0] if summary else said}")
 
     def test_memory(self):
         """A host that has taken many messages has no more memory than one that has taken few."""

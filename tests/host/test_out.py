@@ -199,7 +199,7 @@ class OneHost:
     def test_one_host(self):
         """Another host is rejected as long as there is one."""
         host = Host(self.store)
-        second = lislab("serve", "--store", self.store, "--listen", "0", timeout=20)
+        second = lislab("serve", "--store", self.store, "--listen", "0")
         said = second.returncode == 3 and "another host has this" in second.stderr
         self.true("the second is refused", said, second.stderr)
         host.kill()
@@ -287,7 +287,6 @@ class Files(HostTest):
             env={**ENV, "LISLINK_LIBRARY": self.path("none.so")},
             capture_output=True,
             text=True,
-            timeout=20,
             check=False,
         )
         self.same("the status, and what is said", (done.returncode, done.stdout), (3, ""))

@@ -257,7 +257,7 @@ class Postgres(HostTest):
         """Two hosts of one name are rejected."""
         store = self.server.address("names")
         host = Host(store, "--host-name", "same", scale=1.0)
-        second = lislab("serve", "--store", store, "--listen", "0", "--host-name", "same", timeout=20)
+        second = lislab("serve", "--store", store, "--listen", "0", "--host-name", "same")
         said = second.returncode == 3 and "another host has the name same" in second.stderr
         self.true("two hosts of one name", said, second.stderr)
         sending(host.port, "--made", "3", scale=1.0).communicate()
@@ -317,7 +317,7 @@ class Postgres(HostTest):
         store = self.server.address("tables")
         Host(store).stop()
         self.server.asks("tables", "UPDATE about SET value = '99' WHERE name = 'schema'")
-        done = lislab("serve", "--store", store, "--listen", "0", timeout=20)
+        done = lislab("serve", "--store", store, "--listen", "0")
         self.true("later tables", done.returncode == 3 and "version 99" in done.stderr, done.stderr)
-        done = lislab("serve", "--store", "postgresql://lis@127.0.0.1:1/x", "--listen", "0", timeout=20)
+        done = lislab("serve", "--store", "postgresql://lis@127.0.0.1:1/x", "--listen", "0")
         self.true("no server", done.returncode == 3, done.stderr)

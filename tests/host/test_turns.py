@@ -25,7 +25,7 @@ HEAVY = {
 }
 #: The longest that a reply may take meanwhile, in seconds; on a machine that does other work too, a share of the time
 #: that the text takes, in one of a few tries. Without turns it takes about as long as the text, or as a part of it.
-LONGEST, TRIES = 0.6, 3
+LONGEST, TRIES = 0.6, 10
 
 
 def sent(port, text):
@@ -186,13 +186,13 @@ class Turns(HostTest):
             begun = time.monotonic()
 
             def hear():
-                client.heard(1, 8)
+                client.heard(1, 60)
                 took.append(time.monotonic() - begun)
                 over.set()
 
             thread = threading.Thread(target=hear, daemon=True)
             thread.start()
-            longest = longest_wait(host.port, 8, over)
+            longest = longest_wait(host.port, 60, over)
             thread.join()
         host.kill()
         return longest, took[0]

@@ -159,7 +159,7 @@ class Compared(kit.Test):
                 ("put away", again, "dist: 2 passed, 0 failed\n", 0),
                 ("a file less", lambda: os.remove(f"{folder}/two/SUMS"), "FAILED: dist/SUMS is not", 1),
                 ("of a kit", sums("kit 1", "a"), "dist: 2 passed, 0 failed\n", 0),
-                ("of another kit", sums("kit 2", "a"), "made by kit 2, this is kit 1: all is the same\ndist: 2 passed", 0),
+                ("of another kit", sums("kit 2", "a"), "this is kit 1: all is the same\ndist: 2 passed", 0),
                 ("and a sum", sums("kit 2", "b"), "kit 1: not all is the same\nFAILED: dist/SUMS is not", 1),
                 ("of a kit, and a sum", sums("kit 1", "b"), "FAILED: dist/SUMS is not", 1),
                 ("of no kit", sums("", "a"), "FAILED: dist/SUMS is not", 1)):

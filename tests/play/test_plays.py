@@ -141,11 +141,9 @@ class Plays(kit.Test):
         """Nobody is there: status 3. A host that closes the line: a difference."""
         with open(os.path.join(kit.folder_of(self), "asks.play"), "wb") as file:
             file.write(b"play 1\n> ENQ\n< ACK\n> EOT\nend\n")
-        begun = time.monotonic()
         ran = play(file.name, "--to", "127.0.0.1:9", "--within", "0.2")
         self.same("nobody is there", (ran.status, ran.lines), (3, ["steps 0 differences 0, and the play stopped"]))
         self.has("and it is said", ran.error, "the line failed: can't connect to 127.0.0.1:9: Connection refused")
-        self.check(time.monotonic() - begun < 3, "it gives up in time")
         ran = play(file.name, "--listen", "0", "--within", "0.2")
         self.same("nobody connects", (ran.status, "nobody connected" in ran.error), (3, True))
         for words in (["--to", "127.0.0.1:9", "--listen", "0"], [], ["--to", "nonsense"], ["--listen", "0.0.0.0:0"],
@@ -162,7 +160,8 @@ class Plays(kit.Test):
             self.has(f"{words}: it is said", ran.error, "lislab: what is kept can't be looked at: --")
 
     def test_closed(self):
-        """A host that closes the line in place of a reply; the play goes on at the next session."""
+        """A host that closes the line in place of a reply; the play goes on at the next session, and waits for no
+        timer, which would take minutes."""
         path = os.path.join(kit.folder_of(self), "two.play")
         with open(path, "wb") as file:
             file.write(b'play 1\n> ENQ\n< ACK\n> "H|1"\n< ACK\n> EOT\n> ENQ\n< ACK\n> EOT\nend\n')
@@ -171,9 +170,9 @@ class Plays(kit.Test):
                 "line.recv(99)")
         to = host_of(self, code)
         begun = time.monotonic()
-        ran = play(path, "--to", to)
+        ran = play(path, "--to", to, scale=100 * SCALE)
         self.same("what differs", (ran.status, ran.lines), (1, ["difference 5 ACK closed", "steps 7 differences 1"]))
-        self.check(time.monotonic() - begun < 15 * SCALE, "no timer is waited for")
+        self.check(time.monotonic() - begun < 1500 * SCALE, "no timer is waited for")
 
     def test_noise(self):
         """Any bytes may come, in any pieces: each play ends, with differences or a failed line."""
@@ -221,7 +220,7 @@ class Plays(kit.Test):
         page, xml = os.path.join(folder, "page.html"), os.path.join(folder, "plays.xml")
         words = [sys.executable, "-m", "lislab", "play", scripts("results")[0], "--to", f"127.0.0.1:{host.port}",
                  "--scale", str(SCALE), "--report", page, "--junit", xml, "--kept", f"cat {host.kept}"]
-        env = {**os.environ, "PYTHONPATH": SOURCE, "LISLINK_LIBRARY": "/nonexistent", "PYTHONDONTWRITEBYTECODE": "1"}
+        env = {**os.environ, "PYTHONPATH": SOURCE, "LISLINK_LIBRARY": "/nonexistent"}
         self.runs(words, re.compile(r"steps \d+ differences 0\n"), env=env, cwd=folder)
         for path in (page, xml):
             self.same(f"the mode of {os.path.basename(path)}", stat.S_IMODE(os.stat(path).st_mode), 0o600)
@@ -274,7 +273,7 @@ def xml_of(path):
 class Lines(kit.Test):
     def listening(self, script, *words):
         """`lislab play` as a process that waits for a connection, and its port."""
-        env = {**os.environ, "PYTHONPATH": SOURCE, "LISLINK_LIBRARY": "/nonexistent", "PYTHONDONTWRITEBYTECODE": "1"}
+        env = {**os.environ, "PYTHONPATH": SOURCE, "LISLINK_LIBRARY": "/nonexistent"}
         how = ["--listen", "0", "--scale", str(SCALE), "--within", "5"]
         process = subprocess.Popen([sys.executable, "-m", "lislab", "play", script, *how, *words], env=env, text=True,
                                    stdout=subprocess.PIPE, stderr=subprocess.PIPE)
@@ -352,18 +351,18 @@ class Lines(kit.Test):
         self.same("a device that isn't there", play(path, "--serial", "/dev/nonsense:9600").status, 3)
 
     def test_times(self):
-        """By a capture's times, and as fast as replies come."""
+        """By a capture's times, and as fast as replies come, where its times would take half an hour."""
         path = os.path.join(kit.folder_of(self), "timed.capture")
         with open(path, "wb") as file:
             file.write(b"> 05\n< 06\n> 04\n")
-        with open(path + ".times", "wb") as file:
-            file.write(b"2026-11-28T10:00:00.0\n2026-11-28T10:00:01.0\n2026-11-28T10:01:01.0\n")
         host, took = Plain(self), []
-        for words in ((), ("--fast",)):
+        for words, last in (((), b"28T10:01:01.0"), (("--fast",), b"29T11:00:01.0")):
+            with open(path + ".times", "wb") as file:
+                file.write(b"2026-11-28T10:00:00.0\n2026-11-28T10:00:01.0\n2026-11-%s\n" % last)
             begun = time.monotonic()
             self.same(f"status {words}", host.play(path, "--scale", "0.02", *words).status, 0)
             took.append(time.monotonic() - begun)
-        self.check(took[0] > 1.2 > took[1], f"how long it took: {took}")
+        self.check(took[0] > 1.2 and took[1] < 1700, f"how long it took: {took}")
 
     def test_page(self):
         """The ten steps of docs/PLAY.md, and a host that takes a wrong checksum."""

@@ -2,7 +2,6 @@
 traceback."""
 import os
 import random
-import time
 import tracemalloc
 
 from lislab.play import script
@@ -178,14 +177,13 @@ class Scripts(kit.Test):
                 for _ in range(100):
                     file.write(rest * ((1 << 20) // len(rest)))
             tracemalloc.start()
-            begun = time.monotonic()
             ran = lislab("play", path, "--to", "127.0.0.1:9")
-            seconds, most = time.monotonic() - begun, tracemalloc.get_traced_memory()[1]
+            most = tracemalloc.get_traced_memory()[1]
             tracemalloc.stop()
             self.check(ran.status == 2 and "line " in ran.error, f"100 MB of {name}", ran.error[-300:])
             if line is not None:
                 self.has(f"100 MB of {name}: its line", ran.error, f"line {line}: ")
-            self.check(seconds < 5 and most < 3 * script.BYTES, f"100 MB of {name}: {seconds:.1f} s, {most} bytes")
+            self.check(most < 3 * script.BYTES, f"100 MB of {name}: {most} bytes")
         many = b"play 1\n" + b"T\n" * (script.LINES + 5)
         self.check(self.is_wrong(many) and self.is_wrong(b"T\n" * (script.LINES + 5)), "more lines than a script has")
         self.check(self.is_wrong(b"play 1\n> " + b"00" * script.LINE + b"\nend\n"), "a longer line than a script has")
