@@ -40,7 +40,7 @@ def compilers(test):
 def python_over(library):
     """How a program in Python runs over the package and this library."""
     return {"env": {**os.environ, "LISLINK_LIBRARY": library,
-                    "PYTHONPATH": os.path.join(ROOT, "python/src")}}
+                    "PYTHONPATH": f"{ROOT}/python/src:{ROOT}/lab/src"}}
 
 
 def shared(test, archive, work):

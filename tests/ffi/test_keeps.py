@@ -181,7 +181,7 @@ class Played:
             if "silent" not in play:
                 os.symlink(play, f"{plays}/{os.path.basename(play)}")
         words = ["play", plays, "--to", f"127.0.0.1:{self.bridge.port}", "--kept", f"cat {path}"]
-        self.process = subprocess.Popen([sys.executable, "-m", "lislink", *words], stdout=subprocess.PIPE,
+        self.process = subprocess.Popen([sys.executable, "-m", "lislab", *words], stdout=subprocess.PIPE,
                                         stderr=subprocess.STDOUT, text=True, **python_over(kit.library()))
 
     def end(self):

@@ -98,17 +98,18 @@ class Released(Roots):
         made = self.bare("bare")
         made.put(released("lislink_*_amd64.deb"), "/tmp/lislink.deb")
         self.ran("apt-get installs it", made, "apt-get -q -y --no-install-recommends install /tmp/lislink.deb")
-        self.same("commands of the tour", self.tours_in(made), 7)
+        self.same("commands of the tour", self.tours_in(made), 6)
         self.ran("the library for C is there", made, "ldconfig -p | grep -q liblislink.so.1")
         self.ran("dpkg removes it", made, "dpkg --remove lislink && ! command -v lislab && ! command -v lislink")
 
     def test_wheel(self):
-        """The wheel, by pip in an environment of its own, without a network. It has no program `lislink`."""
-        made, wheel = self.bare("python"), released("lislink-*x86_64.whl")
-        made.put(wheel, f"/tmp/{os.path.basename(wheel)}")
+        """The wheels, by pip in an environment of its own, without a network. They have no program `lislink`."""
+        made = self.bare("python")
+        for wheel in (released("lislink-*x86_64.whl"), released("lislab-*.whl")):
+            made.put(wheel, f"/tmp/{os.path.basename(wheel)}")
         self.ran("pip installs it", made, "python3 -m venv /venv && /venv/bin/pip install -q --no-index /tmp/*.whl")
         path = f"/venv/bin:{root.PATH}"
-        self.same("commands of the tour", self.tours_in(made, path=path, leave="build/lislink"), 4)
+        self.same("commands of the tour", self.tours_in(made, path=path, leave="build/lislink"), 3)
         said = self.ran("a ladder", made, "lislab ladder session.capture", "/tour", path)
         self.has("its library", said, "differences 0")
 
@@ -119,12 +120,12 @@ class Released(Roots):
         name = os.path.basename(archive)[:-len(".tar.gz")]
         self.ran("unpacked", made, "tar -xzf /tmp/source.tar.gz")
         self.has("make says of what it is", self.ran("make", made, "make", f"/{name}"), HERE)
-        self.same("commands of the tour", self.tours_in(made, f"/{name}", others=()), 7)
+        self.same("commands of the tour", self.tours_in(made, f"/{name}", others=()), 6)
         self.ran("the references are there", made, f"ls /{name}/docs/reference/{{index,c/index,python/index}}.html "
                  f"/{name}/docs/reference/rust/lislink/index.html")
         self.ran("make install", made, "make install && ldconfig", f"/{name}")
         self.ran("without the archive", made, f"rm -r /{name}")
-        self.same("commands of the tour", self.tours_in(made), 7)
+        self.same("commands of the tour", self.tours_in(made), 6)
 
 
 class Arm64(Roots):
@@ -147,7 +148,7 @@ class Arm64(Roots):
     def tours_by_qemu(self, packages, leave=None):
         """The tour by the commands above and the package in a folder."""
         python = glob.glob(f"{self.path}/usr/bin/python3.*[0-9]")[0]
-        self.program("lislab", f"-E PYTHONPATH={packages} -E PYTHONDONTWRITEBYTECODE=1", python, "-m lislink")
+        self.program("lislab", f"-E PYTHONPATH={packages} -E PYTHONDONTWRITEBYTECODE=1", python, "-m lislab")
         for name in SAMPLES:
             os.makedirs(f"{self.folder}/samples", exist_ok=True)
             shutil.copyfile(os.path.join(ROOT, "samples", name), f"{self.folder}/samples/{name}")
@@ -158,12 +159,13 @@ class Arm64(Roots):
     def test_package(self):
         root.done("dpkg-deb", "--extract", released("lislink_*_arm64.deb"), self.path)
         self.program("lislink", f"{self.path}/usr/bin/lislink")
-        self.same("commands of the tour", self.tours_by_qemu(f"{self.path}/usr/lib/python3/dist-packages"), 7)
+        self.same("commands of the tour", self.tours_by_qemu(f"{self.path}/usr/lib/python3/dist-packages"), 6)
 
     def test_wheel(self):
         shutil.unpack_archive(released("lislink-*aarch64.whl"), f"{self.folder}/wheel", "zip")
-        packages = f"{self.folder}/wheel/lislink-{kit.read('VERSION').strip()}.data/purelib"
-        self.same("commands of the tour", self.tours_by_qemu(packages, "build/lislink"), 4)
+        shutil.unpack_archive(released("lislab-*.whl"), f"{self.folder}/lislab", "zip")
+        packages = f"{self.folder}/wheel/lislink-{kit.read('VERSION').strip()}.data/purelib:{self.folder}/lislab"
+        self.same("commands of the tour", self.tours_by_qemu(packages, "build/lislink"), 3)
 
 
 class Clone(Roots):
