@@ -157,7 +157,7 @@ FAULTS = {
                 "        if state == SENT:\n            state, reason = FAILED",
             ),
             "test_lots": ("model/book.py", "list(itertools.islice(left, LOT))", "list(left)"),
-            "test_an_earlier_store": ("model/book.py", "if name not in known:", "if name in ():"),
+            "test_an_earlier_store": ("model/sql.py", "if name not in known:", "if name in ():"),
         }.items()
     },
     "test_orders_postgres.PostgresBooks.test_states": (

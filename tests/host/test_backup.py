@@ -4,7 +4,7 @@ import os
 import sqlite3
 import subprocess
 
-from lislab.cli import backup
+from lislab.cli import store as copies
 from tests.host.hosts import Found, Host, HostTest, acknowledged, lislab, process, sending, wait_for
 
 
@@ -58,7 +58,7 @@ class Copies(HostTest):
         Host(store).stop()
         with open(cursor, "w", encoding="ascii") as file:
             file.write('{"number": 0}')
-        backup.backup(store, {"few.cursor": cursor}, copy)
+        copies.backup(store, {"few.cursor": cursor}, copy)
         new = self.path("new.db")
         for words, status, why in (
             (["backup", "--store", store, copy], 3, "is there already"),

@@ -118,6 +118,7 @@ class Books:
         with one._store.changing():
             for name in ("more", "came", "done", "sent_on"):
                 one._store.run(f"ALTER TABLE orders DROP COLUMN {name}")
+            one._store.set_version(1)
         one.close()
         one = open_book(where, reading=True)
         self.same("read", ([placed.state for placed in one.listed()], one.counts()), (["waiting"], {"waiting": 1}))

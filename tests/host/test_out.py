@@ -88,7 +88,7 @@ class OutOf:
         time.sleep(0.1)
         cls.shown = [lislab("status", "--store", cls.store, *cls.state, *words) for words in ([], ["--json"])]
         cls.status = host.stop()
-        cls.lost = lislab("send", SAMPLE, *to, "--tries", "2", timeout=60)
+        cls.lost = lislab("send", SAMPLE, *to, "--tries", "2")
 
     def test_sending(self):
         """`lislab send` to `lislab serve`, and what it says."""

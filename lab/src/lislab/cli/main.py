@@ -13,7 +13,7 @@ from ..model.options import OptionError
 from ..model.store import StoreError
 from ..model.unix import WatchError
 from ..out.deliver import WrongStore
-from . import backup, field, host, order, out, play, watch
+from . import field, host, order, out, play, store, watch
 from .common import STOPPED, USAGE, say
 
 
@@ -26,7 +26,7 @@ def parser() -> argparse.ArgumentParser:
     commands = top.add_subparsers(dest="command", required=True, metavar="COMMAND")
     field.add_commands(commands)
     host.add_commands(commands)
-    backup.add_command(commands)
+    store.add_command(commands)
     out.add_commands(commands)
     order.add_commands(commands)
     play.add_command(commands)

@@ -7,6 +7,7 @@ import time
 from typing import Any, Callable, Collection, Dict, Iterable, Iterator, List, NamedTuple, Optional, Sequence, Tuple
 
 from lislink.order import Order, OrderError, order_of
+from .schema import LATER
 from .sql import SqlStore
 from .store import StoreError
 from .stores import open_store
@@ -18,26 +19,6 @@ WAITING, SENT, DONE, FAILED, CANCELLED = STATES = ("waiting", "sent", "done", "f
 LEFT_AFTER, STILL = 30.0, 10.0
 #: The reason of an order that a host had in its hands when it died. It stays when the order is sent again.
 PERHAPS = "a host died while it was being sent: an analyzer may have got it before"
-_TABLES = (
-    f"""CREATE TABLE IF NOT EXISTS orders (
-        number BIGINT PRIMARY KEY, sample TEXT NOT NULL, tests TEXT NOT NULL, line TEXT NOT NULL DEFAULT '',
-        priority TEXT NOT NULL DEFAULT 'R', patient TEXT NOT NULL DEFAULT '', name TEXT NOT NULL DEFAULT '',
-        birth TEXT NOT NULL DEFAULT '', sex TEXT NOT NULL DEFAULT '', collected TEXT NOT NULL DEFAULT '',
-        state TEXT NOT NULL DEFAULT '{WAITING}' CHECK (state IN ('waiting', 'sent', 'failed', 'cancelled')),
-        reason TEXT NOT NULL DEFAULT '', tries INTEGER NOT NULL DEFAULT 0, asked TEXT NOT NULL DEFAULT '',
-        seat TEXT NOT NULL DEFAULT '', holder TEXT NOT NULL DEFAULT '', added DOUBLE PRECISION NOT NULL,
-        changed DOUBLE PRECISION NOT NULL, next_try DOUBLE PRECISION NOT NULL DEFAULT 0)""",
-    "CREATE INDEX IF NOT EXISTS orders_waiting ON orders (sample) WHERE state = 'waiting'",
-    "CREATE INDEX IF NOT EXISTS orders_failed ON orders (changed) WHERE state = 'failed'",
-)
-#: Columns that stores of earlier versions lack: what else an order says, the tests whose results came, when the last one
-#: did, and the line on which the order was sent last.
-_LATER = {
-    "more": "TEXT NOT NULL DEFAULT '{}'",
-    "came": "TEXT NOT NULL DEFAULT '[]'",
-    "done": "DOUBLE PRECISION NOT NULL DEFAULT 0",
-    "sent_on": "TEXT NOT NULL DEFAULT ''",
-}
 _ORDER = "sample, tests, line, priority, patient, name, birth, sex, collected"
 _SHOWN = f"CASE WHEN state = '{SENT}' AND done > 0 THEN '{DONE}' ELSE state END"
 #: Orders that are urgent come first.
@@ -134,18 +115,11 @@ class OrderBook:
         self.left: List[int] = []
 
     def start(self) -> None:
-        """Makes the table if it is missing, and gives back what this host held when it died; StoreError."""
+        """Makes the tables if they are missing, and gives back what this host held when it died; StoreError."""
         self._store.join()
-        with self._store.changing():
-            self._store.lock_numbers()
-            # To ask for an index that is there would lock the table, and hold up another host's marks.
-            for statement in () if self._store.has("orders_failed") else _TABLES:
-                self._store.run(statement)
-            known = self._known()
-            for name, kind in _LATER.items():
-                if name not in known:
-                    self._store.run(f"ALTER TABLE orders ADD COLUMN {name} {kind}")
-            if self._host:
+        if self._host:
+            with self._store.changing():
+                self._store.lock_numbers()
                 self._take_back_left()
 
     def _take_back_left(self) -> None:
@@ -171,7 +145,7 @@ class OrderBook:
     def _columns(self) -> str:
         """The columns of an order that is listed."""
         known = self._known()
-        later = (name if name in known else _LATER[name].rsplit(" ", 1)[1] for name in ("more", "came"))
+        later = (name if name in known else LATER[name].rsplit(" ", 1)[1] for name in ("more", "came"))
         return f"number, {self._shown()}, reason, tries, added, changed, {_ORDER}, asked, {', '.join(later)}"
 
     def add(self, orders: Iterable[Order]) -> List[Placed]:

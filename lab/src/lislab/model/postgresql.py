@@ -82,6 +82,7 @@ class PostgresStore(SqlStore):
             raise StoreError("the server keeps nothing: fsync is off")
         if self.run("SELECT current_setting('synchronous_commit')").fetchone()[0] == "off":
             self.run("SET synchronous_commit = on")
+        self.refuse_later()
         if self.host:
             self._take_name()
 
@@ -119,11 +120,6 @@ class PostgresStore(SqlStore):
         except (self._driver.Error, StoreError) as error:
             self._give_up()
             raise StoreError(f"PostgreSQL: {_first_line(error)}") from None
-
-    def has_tables(self) -> bool:
-        """Whether they are there: to ask for an index again would lock its table, and wait for a host that commits
-        while that host waits for the numbers, which this one has."""
-        return self.has("message_not_whole")
 
     def has(self, name: str) -> bool:
         return self.read("SELECT to_regclass(?)::text", (name,))[0][0] is not None

@@ -3,6 +3,7 @@ message's bytes are those of its texts in order. So nothing is copied when a mes
 import abc
 from typing import Any, ContextManager, Dict, Iterator, List, Optional, Sequence, Tuple, TypeVar
 
+from .schema import LATER, ORDERS, SCHEMA, TABLES
 from .store import (
     LEFT,
     MENDED,
@@ -20,23 +21,8 @@ from .store import (
     Unit,
 )
 
-#: The version of the tables; how many rows one statement puts.
-SCHEMA, ROWS = 1, 100
-TABLES = (
-    "CREATE TABLE IF NOT EXISTS about (name TEXT PRIMARY KEY, value TEXT NOT NULL)",
-    f"""CREATE TABLE IF NOT EXISTS message (
-        key TEXT PRIMARY KEY, host TEXT NOT NULL, line TEXT NOT NULL, peer TEXT NOT NULL, encoding TEXT NOT NULL,
-        began DOUBLE PRECISION NOT NULL, ended DOUBLE PRECISION,
-        state TEXT NOT NULL CHECK (state IN ('{OPEN}', '{WHOLE}', '{UNFINISHED}', '{UNREADABLE}')),
-        reason TEXT NOT NULL DEFAULT '', digest TEXT NOT NULL DEFAULT '', size BIGINT NOT NULL DEFAULT 0,
-        again_of TEXT REFERENCES message(key), number BIGINT UNIQUE,
-        CHECK ((number IS NOT NULL) = (state = '{WHOLE}')))""",
-    "CREATE INDEX IF NOT EXISTS message_by_digest ON message (line, digest) WHERE again_of IS NULL",
-    f"CREATE INDEX IF NOT EXISTS message_not_whole ON message (began) WHERE state <> '{WHOLE}'",
-    """CREATE TABLE IF NOT EXISTS text (
-        message TEXT NOT NULL REFERENCES message(key), place INTEGER NOT NULL, at DOUBLE PRECISION NOT NULL,
-        body {blob} NOT NULL, PRIMARY KEY (message, place))""",
-)
+#: How many rows one statement puts.
+ROWS = 100
 # In the words of the index of messages that aren't whole.
 _OPEN_HOSTS = f"SELECT DISTINCT host FROM message WHERE state <> '{WHOLE}' AND state = '{OPEN}'"
 T = TypeVar("T")
@@ -65,7 +51,7 @@ class SqlStore(Store):
     blob, tail, skip_locked = "BLOB", "", ""
 
     def __init__(self) -> None:
-        self.host = ""
+        self.host, self.label = "", "the store"
 
     @abc.abstractmethod
     def run(self, statement: str, values: Sequence[Any] = ()) -> Any:
@@ -91,20 +77,46 @@ class SqlStore(Store):
     def has(self, name: str) -> bool:
         """Whether there is a table or an index of this name."""
 
-    def has_tables(self) -> bool:
-        """Whether the tables are known to be there."""
-        return False
+    def version(self) -> int:
+        """The version of the tables; 0 if there are none."""
+        found = self.read("SELECT value FROM about WHERE name = 'schema'") if self.has("about") else []
+        return int(found[0][0]) if found else 0
+
+    def set_version(self, version: int) -> None:
+        """Notes the version of the tables, inside a transaction."""
+        words = "INSERT INTO about (name, value) VALUES ('schema', ?) ON CONFLICT (name) DO UPDATE SET value = excluded.value"
+        self.run(words, (str(version),))
+
+    def refuse_later(self) -> None:
+        """StoreError if the tables are of a later program: it knows what is in them, and this one doesn't."""
+        found = self.version()
+        if found > SCHEMA:
+            self.close()
+            later = f"version {found} of the tables, and this program knows version {SCHEMA}"
+            raise StoreError(f"{self.label} has {later}: a later lislab made it")
 
     def make_tables(self) -> None:
-        """Makes the tables that are missing; StoreError if they are a later program's."""
-        for statement in () if self.has_tables() else TABLES:
+        """Takes the tables from their version to this program's, step by step, inside a transaction."""
+        found = self.version()
+        for version in range(found, SCHEMA):
+            self._step(version)
+        if found < SCHEMA:
+            self.set_version(SCHEMA)
+
+    def _step(self, version: int) -> None:
+        """Takes the tables from a version to the next one."""
+        for statement in (TABLES, ORDERS)[version]:
             text = statement.replace("{blob}", self.blob)
             self.run(text + (self.tail if "TABLE IF NOT EXISTS text" in text else ""))
-        found = self.run("SELECT value FROM about WHERE name = 'schema'").fetchone()
-        if found is None:
-            self.run("INSERT INTO about (name, value) VALUES ('schema', ?)", (str(SCHEMA),))
-        elif found[0] != str(SCHEMA):
-            raise StoreError(f"the store has version {found[0]} of the tables, and this program version {SCHEMA}")
+        if version == 1:
+            known = [str(one[0]) for one in self.run("SELECT * FROM orders LIMIT 0").description]
+            for name, kind in LATER.items():
+                if name not in known:
+                    self.run(f"ALTER TABLE orders ADD COLUMN {name} {kind}")
+
+    def faults(self) -> List[str]:
+        """What is wrong with the database, as far as it can say so."""
+        return []
 
     @abc.abstractmethod
     def is_gone(self, host: str) -> bool:

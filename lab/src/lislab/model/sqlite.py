@@ -19,7 +19,7 @@ class SqliteStore(SqlStore):
 
     def __init__(self, path: str) -> None:
         super().__init__()
-        self.path = path
+        self.path = self.label = path
         self._lock: Optional[int] = None
         self._db: Optional[sqlite3.Connection] = None
 
@@ -40,6 +40,7 @@ class SqliteStore(SqlStore):
         try:
             private(self.path)
             self._db = self._connect()
+            self.refuse_later()
             if self._db.execute("PRAGMA journal_mode=WAL").fetchone()[0] != "wal":
                 raise StoreError(f"{self.path}: SQLite can't keep a write-ahead log here")
             self._prepare(self._db)
@@ -70,6 +71,7 @@ class SqliteStore(SqlStore):
                 raise StoreError(f"{self.path}: there is no such store")
             self._db = self._connect()
             self._db.execute("PRAGMA query_only=ON")
+            self.refuse_later()
         return self._db.execute(statement, values)
 
     def read(self, statement: str, values: Sequence[Any] = ()) -> List[Tuple[Any, ...]]:
@@ -80,6 +82,17 @@ class SqliteStore(SqlStore):
 
     def has(self, name: str) -> bool:
         return bool(self.read("SELECT count(*) FROM sqlite_master WHERE name = ?", (name,))[0][0])
+
+    def version(self) -> int:
+        """Programs before version 2 noted it in a table alone."""
+        return int(self.read("PRAGMA user_version")[0][0]) or super().version()
+
+    def set_version(self, version: int) -> None:
+        super().set_version(version)
+        self.run(f"PRAGMA user_version = {version}")
+
+    def faults(self) -> List[str]:
+        return [str(row[0]) for row in self.read("PRAGMA integrity_check") if row[0] != "ok"]
 
     def lock_numbers(self) -> None:
         """A transaction that writes is alone."""

@@ -1,5 +1,6 @@
 """`lislab store`: a copy of an SQLite store as one file, with the cursors of its deliveries and what they have set aside,
-made while a host runs; and a store made of such a copy."""
+made while a host runs; and a store made of such a copy. What version a store's tables have, and the steps to this
+program's."""
 import argparse
 import contextlib
 import os
@@ -9,7 +10,10 @@ from typing import Any, Dict, Iterator, List, Optional, Sequence
 from ..model.files import sync_folder, write_synced
 from ..model.options import OptionError
 from ..model.said import say
+from ..model.schema import SCHEMA
+from ..model.sql import SqlStore
 from ..model.store import StoreError
+from ..model.stores import open_store
 
 #: The table of a copy that has its cursors, and what a cursor's files end in.
 _FILES, _ENDS = "backup_file", ("", ".aside")
@@ -19,7 +23,7 @@ _BESIDE = ("", "-wal", "-shm")
 
 def add_command(commands: Any) -> None:
     """Adds the command to those of lislab."""
-    store = commands.add_parser("store", help="copies an SQLite store while a host runs, and makes one of a copy")
+    store = commands.add_parser("store", help="copies a store while a host runs, makes one of a copy, looks at its tables")
     deeds = store.add_subparsers(dest="deed", metavar="DEED", required=True)
     for name, run, what in (
         ("backup", run_backup, "a copy of the store, with the cursors of its deliveries and what they set aside"),
@@ -30,6 +34,53 @@ def add_command(commands: Any) -> None:
         one.add_argument("--cursor", action="append", default=[], metavar="FILE", help="of a delivery; once for each")
         one.add_argument("copy", metavar="COPY", help="the file of the copy")
         one.set_defaults(run=run)
+    for name, run, what in (
+        ("check", run_check, "print the version of the tables, and what is wrong with the database; status 1 if something is"),
+        ("upgrade", run_upgrade, "take the tables to this program's version; make a backup first, and stop the host"),
+    ):
+        one = deeds.add_parser(name, help=what)
+        one.add_argument("--store", required=True, metavar="STORE", help="an SQLite file or postgresql://..")
+        one.set_defaults(run=run)
+
+
+def run_check(ask: argparse.Namespace) -> int:
+    """Prints what there is to say of the tables."""
+    store = _tables_of(ask.store)
+    try:
+        version, faults = store.version(), store.faults()
+    finally:
+        store.close()
+    print(f"version {version} of {SCHEMA}")
+    for fault in faults:
+        print(fault)
+    if version < SCHEMA:
+        say(f"`lislab store upgrade --store {ask.store}` takes it to version {SCHEMA}, as the host does when it starts")
+    return int(version != SCHEMA or bool(faults))
+
+
+def run_upgrade(ask: argparse.Namespace) -> int:
+    """Takes the tables to this program's version."""
+    store = _tables_of(ask.store)
+    try:
+        before = store.version()
+        if not before:
+            raise StoreError(f"{ask.store}: there are no tables")
+        if store.is_held():
+            raise StoreError(f"{ask.store}: a host has it: stop it first")
+        store.close()
+        store.join()
+        say(f"{ask.store}: version {store.version()} of the tables; it was version {before}")
+    finally:
+        store.close()
+    return 0
+
+
+def _tables_of(name: str) -> SqlStore:
+    """A store in a database."""
+    store = open_store(name)
+    if not isinstance(store, SqlStore):
+        raise OptionError(f"{name} is a spool: it has no tables")
+    return store
 
 
 def run_backup(ask: argparse.Namespace) -> int:
