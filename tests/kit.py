@@ -112,7 +112,7 @@ class Test(unittest.TestCase):
         if not holds:
             self.fail(why())
 
-    def runs(self, words, said=None, seconds=300, **how):
+    def runs(self, words, said=None, seconds=1800, **how):
         """Runs a command, which is to end with 0 and to print what is said, a text or a pattern; None if it doesn't."""
         try:
             ran = subprocess.run(words, capture_output=True, text=True, timeout=seconds, **how)

@@ -13,6 +13,7 @@ with the page. A block of a shell that can't run here, since it takes minutes or
 import glob
 import os
 import re
+import shutil
 import signal
 import socket
 import subprocess
@@ -205,6 +206,9 @@ def run_page(test, page, text, program, build):
                        "LISLINK_LIBRARY": os.path.join(build, "liblislink.so")}
         for words, lines, line in blocks(text):
             if words and words not in SHELL or words == "sh norun":
+                continue
+            if any(it.startswith("$ socat ") for it in lines) and not shutil.which("socat"):
+                print(f"skipped: socat: {len(list(commands(lines)))} checks: a host of the pages")
                 continue
             for command, wanted in commands(lines):
                 got = output_of(PORT.sub(port, command), folder, environment, groups)

@@ -381,13 +381,13 @@ def states(store):
 class Answers(HostTest):
     """A host that answers queries, over a real line."""
 
-    def started(self, *words, orders=("S7", "S8"), line="orders=ask", **how):
+    def started(self, *words, orders=("S7", "S8"), line="orders=ask", scale=SLOW, **how):
         """A host with orders, and its port."""
         store = self.path(f"{time.monotonic_ns()}.db")
         book = open_book(store)
         book.add(Order(sample, ("GLU", "K")) for sample in orders)
         book.close()
-        host = Host(store, "--listen", f"127.0.0.1:0,name=asks,{line}", *words, listen=False, scale=SLOW, **how)
+        host = Host(store, "--listen", f"127.0.0.1:0,name=asks,{line}", *words, listen=False, scale=scale, **how)
         port = next(int(row.split()[1].rsplit(":", 1)[1]) for row in host.rows if row.endswith(" asks\n"))
         self.addCleanup(host.kill)
         return host, port
@@ -440,8 +440,8 @@ class Answers(HostTest):
 
     def test_worklists(self):
         """`orders=send` sends what waits for the line unasked, also what is added later."""
-        host, port = self.started(line="orders=send")
-        one = Plain(port, SLOW)
+        host, port = self.started(line="orders=send", scale=1.0)
+        one = Plain(port, 1.0)
         self.same("at once", sorted(samples_of(one.take())), ["S7", "S8"])
         done = lislab("order", "add", "--store", host.store, "--line", "asks", input="sample,tests\nS1,K\n")
         self.same("added", done.returncode, 0)

@@ -274,7 +274,7 @@ class Lines(kit.Test):
     def listening(self, script, *words):
         """`lislab play` as a process that waits for a connection, and its port."""
         env = {**os.environ, "PYTHONPATH": SOURCE, "LISLINK_LIBRARY": "/nonexistent"}
-        how = ["--listen", "0", "--scale", str(SCALE), "--within", "5"]
+        how = ["--listen", "0", "--scale", str(SCALE), "--within", "20"]
         process = subprocess.Popen([sys.executable, "-m", "lislab", "play", script, *how, *words], env=env, text=True,
                                    stdout=subprocess.PIPE, stderr=subprocess.PIPE)
         self.addCleanup(lambda: (process.kill(), process.communicate()))
@@ -287,14 +287,14 @@ class Lines(kit.Test):
             path = os.path.join(PLAYS, "results", f"{name}.play")
             process, port = self.listening(path, "--as", "computer")
             ran = play(path, "--to", f"127.0.0.1:{port}")
-            out, error = process.communicate(timeout=30)
+            out, error = process.communicate(timeout=300)
             self.check(ran.status == 0 and process.returncode == 0, name, ran.text + out + error)
         data = read(path).replace(b"> EOT\nend", b"> 05\nend")
         with open(os.path.join(folder, "other.play"), "wb") as file:
             file.write(data)
         process, port = self.listening(path, "--as", "computer")
         play(file.name, "--to", f"127.0.0.1:{port}")
-        out, _ = process.communicate(timeout=30)
+        out, _ = process.communicate(timeout=300)
         self.check(process.returncode == 1 and " EOT ENQ\n" in out, "another script", out)
 
     def test_allowed(self):
@@ -319,9 +319,9 @@ class Lines(kit.Test):
         for name, wanted in (("takes-results", 0), ("busy", 1), ("no-reply", 1), ("rejects-a-frame", 1)):
             script = os.path.join(PLAYS, "computer", f"{name}.play")
             scale = 0.02 if wanted else SCALE
-            process, port = self.listening(script, "--within", "0.3", "--scale", str(scale))
+            process, port = self.listening(script, "--within", "10", "--scale", str(scale))
             play(path, "--to", f"127.0.0.1:{port}", scale=scale)
-            out, _ = process.communicate(timeout=30)
+            out, _ = process.communicate(timeout=300)
             self.same(f"{name}: status", (process.returncode, "difference " in out), (wanted, bool(wanted)))
 
     def test_serial(self):
@@ -377,7 +377,7 @@ class Lines(kit.Test):
             file.write(b"play 1 as computer\n> ENQ\n" + b"< ACK\n> ..\n" * 4 + b"C\nend\n")
         process, port = self.listening(file.name)
         ran = play(path, "--to", f"127.0.0.1:{port}")
-        process.communicate(timeout=30)
+        process.communicate(timeout=300)
         wanted = ["difference 6 NAK ACK", "steps 10 differences 1"]
         self.same("the fault of the page", (ran.status, ran.lines), (1, wanted))
 

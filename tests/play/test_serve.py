@@ -96,6 +96,6 @@ def against_send(path):
     port = one.stdout.readline().strip().rpartition(":")[2]
     records = os.path.join(ROOT, "samples", "panel.records")
     sent = run_lislab("send", "--to", f"127.0.0.1:{port}", "--scale", str(3 * SHORT), records)
-    out, error = one.communicate(timeout=60)
+    out, error = one.communicate(timeout=300)
     good = one.returncode == 0 and sent.returncode == 0 and "message 1 done" in sent.stdout
     return good, os.path.basename(path), out + error + sent.stdout + sent.stderr
