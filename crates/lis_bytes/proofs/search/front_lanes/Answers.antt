@@ -2,4 +2,4 @@ use Rattle.lis_bytes.proofs.SumLemmas.{front-selected}
 use Rattle.lis_bytes.proofs.search.front_lanes.Goals as goal
 
 pub returns-clause-sum : goal.returns-clause-sum
-returns-clause-sum c = front-selected c.args.count c.args.sixteen c.fits-sixteen.0
+returns-clause-sum c = search (front-selected)
