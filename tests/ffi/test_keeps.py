@@ -1,6 +1,8 @@
 """What the samples that receive keep, in C, C++, Rust and Python: each is killed after each text; its disk gets full
 within a text and has room again; its file has half a text at its end when it starts, or is another program's; it is
-stopped for so long that its reply would be late; and it is the host in the plays of results."""
+stopped for so long that its reply would be late; it is the host in the plays of results, and of queries if it answers
+them; and an analyzer on a noisy wire sends it sessions."""
+import asyncio
 import functools
 import os
 import resource
@@ -8,17 +10,25 @@ import shutil
 import signal
 import subprocess
 import sys
+import threading
 import time
 from typing import Callable, NamedTuple
 
 from tests import ROOT, kit
 from tests.ffi.bridge import Bridge
 from tests.ffi.c import C11, IN_C, IN_PYTHON, SANITIZERS, python_over
+from tests.host.noisy import Analyzer, message
 from tests.play.hosts import scripts
 from tests.ffi.test_samples import ACK, CPP, ENQ, EOT, PATIENCE, TEXTS, InC, InPython, ask, frame, kept, told
 
 HALF = b"R|1|^^^GLU|1"
 PAGE = 4096
+#: The plays for a sample: those of results but the one that is silent for 30 seconds, and those of queries whose answer
+#: is an order for the sample that was asked for.
+RESULTS = [play for play in scripts("results") if "silent" not in play]
+QUERIES = [play for play in scripts("queries") if play.endswith(("query-answered.play", "query-any-form.play"))]
+#: How many sessions go over the noisy wire, and for how many seconds their analyzer waits for a reply.
+NOISY, NOISY_PATIENCE = 40, 1.5
 
 
 class Sample(NamedTuple):
@@ -169,18 +179,17 @@ def is_silent_late(sample, it, good, since):
 
 
 class Played:
-    """The plays of results against a sample, but the one that is silent for 30 seconds, as a process that goes on."""
+    """Plays against a sample, as a process that goes on."""
 
-    def __init__(self, sample, path):
+    def __init__(self, sample, path, plays):
         with open(path, "wb"):
             pass
         self.bridge = Bridge(lambda: sample.start(path))
-        plays = f"{path}-plays"
-        os.mkdir(plays)
-        for play in scripts("results"):
-            if "silent" not in play:
-                os.symlink(play, f"{plays}/{os.path.basename(play)}")
-        words = ["play", plays, "--to", f"127.0.0.1:{self.bridge.port}", "--kept", f"cat {path}"]
+        folder = f"{path}-plays"
+        os.mkdir(folder)
+        for play in plays:
+            os.symlink(play, f"{folder}/{os.path.basename(play)}")
+        words = ["play", folder, "--to", f"127.0.0.1:{self.bridge.port}", "--kept", f"cat {path}"]
         self.process = subprocess.Popen([sys.executable, "-m", "lislab", *words], stdout=subprocess.PIPE,
                                         stderr=subprocess.STDOUT, text=True, **python_over(kit.library()))
 
@@ -189,6 +198,33 @@ class Played:
         text = self.process.communicate()[0]
         self.bridge.close()
         return self.process.returncode, text.rpartition("\nplays ")[2].partition(" steps")[0], text
+
+
+class Noisy:
+    """Sessions over a noisy wire to a sample, in a thread that goes on."""
+
+    def __init__(self, sample, path):
+        self.path = path
+        with open(path, "wb"):
+            pass
+        self.bridge = Bridge(lambda: sample.start(path))
+        self.analyzer = Analyzer(self.bridge.port, sample.name, NOISY_PATIENCE)
+        self.thread = threading.Thread(target=lambda: asyncio.run(self.send()))
+        self.thread.start()
+
+    async def send(self):
+        """Sends the sessions."""
+        for number in range(NOISY):
+            await self.analyzer.send(message(self.analyzer.rng, str(number)))
+        if self.analyzer.line is not None:
+            self.analyzer.line[1].close()
+
+    def end(self):
+        """How the sessions ended, and the texts of those that were acknowledged and aren't in the file."""
+        self.thread.join()
+        self.bridge.close()
+        stored = kept(self.path)
+        return self.analyzer.ends, [text for text in self.analyzer.done if text not in stored]
 
 
 def can_mount():
@@ -204,7 +240,10 @@ class Keeps(kit.Test):
 
     def tried(self, samples):
         """All of it with each of these samples."""
-        plays = [(it, Played(it, f"{self.work}/{it.name}-played")) for it in samples]
+        plays = [(it, Played(it, f"{self.work}/{it.name}-played", RESULTS), "16 failed 0") for it in samples]
+        plays += [(it, Played(it, f"{self.work}/{it.name}-asked", QUERIES), "2 failed 0") for it in samples
+                  if "answer_query" in it.name]
+        noisy = [(it, Noisy(it, f"{self.work}/{it.name}-noisy")) for it in samples]
         late = [paused(it, f"{self.work}/{it.name}-late") for it in samples if it.is_timed]
         for sample in samples:
             path = f"{self.work}/{sample.name}-kept"
@@ -217,9 +256,14 @@ class Keeps(kit.Test):
             self.check(of_other_files(sample, f"{path}-other"), f"{sample.name}: a file that isn't its own")
         for sample, *others in late:
             self.check(is_silent_late(sample, *others), f"{sample.name}, stopped for 12 seconds, sends a late reply")
-        for sample, played in plays:
+        for sample, played, wanted in plays:
             status, last, text = played.end()
-            self.check((status, last) == (0, "16 failed 0"), f"{sample.name}: the plays of results", text)
+            self.check((status, last) == (0, wanted), f"{sample.name}: plays {wanted}", text)
+        for sample, wire in noisy:
+            ends, lost = wire.end()
+            self.check(not lost, f"{sample.name}: sessions over a noisy wire are done and not kept", repr(lost[:1]))
+            self.check(ends.total() == NOISY and ends["done"] and ends["broken off"],
+                       f"{sample.name}: sessions over a noisy wire: {dict(ends)}")
         self.needs("mount", can_mount(), len(samples), "samples whose disk gets full")
         os.mkdir(f"{self.work}/full")
         for sample in samples:

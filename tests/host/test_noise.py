@@ -2,96 +2,17 @@
 kept, byte for byte. The analyzers are written from the standard, over no code of this repository."""
 import asyncio
 import hashlib
-import random
 from collections import Counter
 
 from lislab.model.unix import ask
 from tests.host import hosts
 from tests.host.hosts import Found, Host, HostTest, wait_for
-from tests.host.plain import ACK, ENQ, EOT, ETB, ETX, NAK, frame
+from tests.host.noisy import Analyzer, message
+from tests.host.plain import ACK, ENQ, EOT, NAK, frame
 from tests.host.test_lines import LATE, TEXTS, Client
 
-#: What a byte becomes, besides any other byte: the bytes that have a meaning on the link.
-MEANT = b"\x02\x03\x04\x05\x06\x0a\x0d\x15\x17"
 #: How many analyzers send at once.
 MANY = 40
-
-
-def frames_of(texts):
-    """The frames of a session: texts of over 240 bytes in several."""
-    found = []
-    for text in texts:
-        parts = [text[at : at + 240] for at in range(0, len(text), 240)]
-        found += [(part, ETX if part is parts[-1] else ETB) for part in parts]
-    return [frame(number, part, end) for number, (part, end) in enumerate(found, 1)]
-
-
-class Silent(Exception):
-    """No reply came in time, or the line is closed."""
-
-
-class Analyzer:
-    """An analyzer on a wire that changes one byte of each frame the first time that it is sent. It connects anew after a
-    session that failed."""
-
-    def __init__(self, port, seed):
-        self.port, self.rng, self.done, self.ends = port, random.Random(seed), [], Counter()
-        self.line = None
-
-    def damaged(self, data):
-        """A frame with one other byte."""
-        at = self.rng.randrange(len(data))
-        byte = self.rng.choice((self.rng.choice(MEANT), data[at] ^ (1 << self.rng.randrange(8)), self.rng.randrange(256)))
-        return data[:at] + bytes([byte if byte != data[at] else byte ^ 1]) + data[at + 1 :]
-
-    async def reply(self, data):
-        """The reply to these bytes."""
-        reader, writer = self.line
-        writer.write(data)
-        try:
-            found = await asyncio.wait_for(reader.read(1), 15 * LATE)
-        except (asyncio.TimeoutError, OSError):
-            raise Silent from None
-        if not found:
-            raise Silent
-        return found
-
-    async def session(self, texts):
-        """Sends a session (6.2 to 6.4)."""
-        if self.line is None:
-            self.line = await asyncio.open_connection("127.0.0.1", self.port)
-        while await self.reply(ENQ) != ACK:
-            await asyncio.sleep(10 * LATE)
-        for data in frames_of(texts):
-            answer = await self.reply(self.damaged(data))
-            for _ in range(5):
-                if answer in (ACK, EOT):
-                    break
-                answer = await self.reply(data)
-            else:
-                self.ends["given up after six tries"] += 1
-                raise Silent
-        self.line[1].write(EOT)
-
-    async def send(self, texts):
-        """Sends a session; whether it was acknowledged is noted."""
-        try:
-            await self.session(texts)
-            self.done.append(hashlib.sha256(b"".join(texts)).hexdigest())
-            self.ends["done"] += 1
-        except (Silent, OSError):
-            self.ends["broken off"] += 1
-            if self.line is not None:
-                self.line[1].write(EOT)
-                self.line[1].close()
-            self.line = None
-
-
-def message(rng, name):
-    """A message that no other one is like."""
-    value = "%".join(str(rng.randrange(10**9)) for _ in range(rng.choice((1, 1, 40))))
-    rows = ["H|\\^&|||noisy", f"P|1|{name}", "O|1|S%E5M||^^^GLU", f"R|1|^^^GLU|{value}|mmol/L", "L|1|N"]
-    return [f"{row}\r".encode() for row in rows]
 
 
 class Noise(HostTest):
@@ -100,7 +21,7 @@ class Noise(HostTest):
     async def play(self, ports, count):
         """So many sessions of many analyzers."""
         async def sends(number):
-            one = Analyzer(ports[number % len(ports)], number)
+            one = Analyzer(ports[number % len(ports)], number, 15 * LATE)
             for at in range(number, count, MANY):
                 await one.send(message(one.rng, f"{number}-{at}"))
             if one.line is not None:
@@ -118,10 +39,10 @@ class Noise(HostTest):
         ports = [int(row.split()[1].rsplit(":", 1)[1]) for row in host.rows if row.startswith("listening")]
         ran = asyncio.run(self.play(ports, count))
         self.same("the host's status", host.stop(), 0)
-        found, done, ends = Found(store), [key for one in ran for key in one.done], Counter()
+        found, done, ends = Found(store), [text for one in ran for text in one.done], Counter()
         for one in ran:
             ends.update(one.ends)
-        lost = [key for key in done if key not in found.digests]
+        lost = [text for text in done if hashlib.sha256(text).hexdigest() not in found.digests]
         hosts.say(f"noise: {count} sessions, {dict(ends)}, {len(lost)} done and not kept")
         self.same("done and not kept", lost, [])
         self.true("some are done, some break off", ends["done"] > count / 9 and ends["broken off"] > count / 9, ends)
