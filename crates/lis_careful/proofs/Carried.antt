@@ -44,7 +44,8 @@ use Rattle.lis_world.proofs.Safety.{event_holds}
 use Rattle.lis_world.proofs.Carrying.{carried, runs-append}
 use Rattle.lis_world.proofs.Heard.{booked_after}
 use Rattle.lis_world.proofs.SessionLemmas.{length-changed, at-changed_same, at-more_last}
-use Rattle.lis_careful.specs.Careful.{heard_as, careful_by, AreUnspecial, is_special}
+use Rattle.lis_careful.specs.Careful.{heard_as, careful_by}
+use Rattle.lis_careful.specs.inside.Hearing.{AreUnspecial, is_special}
 use Rattle.lis_careful.specs.World.{gives as heard_signal, careful_signals, hears_carefully}
 use Rattle.lis_careful.specs.World.{is_noticed_carefully, delivered_carefully, damaged_carefully}
 use Rattle.lis_careful.specs.World.{after_event_carefully, careful_world}

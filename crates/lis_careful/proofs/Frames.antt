@@ -21,7 +21,7 @@ use Rattle.lis_link.specs.Receiver.{ReceiverState, on_byte, with_heard}
 use Rattle.lis_careful.specs.Careful.{DLE, ends_session, heard_as, careful_by, on_byte_carefully}
 use Rattle.lis_careful.proofs.Receiving.{unspecial_step, on_byte-past, itself, none_ends}
 use Rattle.lis_careful.proofs.Receiving.{first_false, second_false}
-use Rattle.lis_careful.specs.Careful.{AreUnspecial, is_special}
+use Rattle.lis_careful.specs.inside.Hearing.{AreUnspecial, is_special}
 use Rattle.lis_careful.specs.World.{gives, careful_signal_by, careful_signal, careful_signals}
 use Rattle.lis_careful.specs.World.{with_heard_first}
 

@@ -7,7 +7,7 @@ use Rattle.lis_frame.specs.Stream.{open_body, signal_after, signals_after, with_
 use Rattle.lis_link.specs.Receiver.{ReceiverState, ReceiverStep, heard, on_byte, with_heard}
 use Rattle.lis_careful.specs.Careful.{ends_session, heard_as, careful_by}
 use Rattle.lis_careful.proofs.Receiving.{on_byte-past, unspecial_step}
-use Rattle.lis_careful.specs.Careful.{AreUnspecial}
+use Rattle.lis_careful.specs.inside.Hearing.{AreUnspecial}
 use Rattle.lis_world.specs.World.{ComputerState, booked, hears}
 use Rattle.lis_world.proofs.Heard.{booked_after}
 use Rattle.lis_careful.specs.World.{CarefulSignal, ends, gives, careful_signal_by, with_heard_first}

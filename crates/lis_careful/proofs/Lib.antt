@@ -2,6 +2,7 @@
 pub mod Receiving
 pub mod Heard
 pub mod Frames
+pub mod Fronts
 pub mod Histories
 pub mod OneByte
 pub mod OneByteRows

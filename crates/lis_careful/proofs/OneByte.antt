@@ -23,7 +23,7 @@ use Rattle.lis_careful.specs.Careful.{DLE, ends_session, heard_as, careful_by}
 use Rattle.lis_careful.specs.World.{CarefulSignal, ends, gives, careful_signal_by, careful_signals}
 use Rattle.lis_careful.specs.World.{with_heard_first}
 use Rattle.lis_careful.specs.OneByte.{IsHeardAs, nothing, session_end, bad_frame, itself, OneByteIsNoticed}
-use Rattle.lis_careful.specs.Careful.{is_special}
+use Rattle.lis_careful.specs.inside.Hearing.{is_special}
 use Rattle.lis_careful.proofs.Receiving.{none_ends, first_false, second_false}
 use Rattle.lis_careful.proofs.Heard.{closed}
 use Rattle.lis_careful.proofs.Frames.{NonePass, none_pass-append, none_pass-frame, none_pass-text, inner_silent}

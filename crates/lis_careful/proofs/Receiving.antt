@@ -1,9 +1,8 @@
 -- Careful hearing is the receiver's own of what each byte is heard as.
-use Rattle.memchr.specs.Find.{Nowhere, Passes, is_byte3}
-use Rattle.std.proofs.Common.{◌≡◌, ◌≢◌, ℕ, zero, suc, ◌+◌, ◌-◌, ◌≤◌, ◌<◌, Bool, true, false, List, [], ◌∷◌, ◌++◌}
+use Rattle.std.proofs.Common.{◌≡◌, ◌≢◌, ℕ, suc, ◌+◌, ◌≤◌, ◌<◌, Bool, true, false, List, [], ◌∷◌, ◌++◌}
 use Rattle.std.proofs.Common.{Option}
 use Rattle.std.proofs.Common.{None, Some, length, take, drop, refl, ap, sym, ◌∙◌, subst, arith, drop-drop, get_or}
-use Rattle.std.proofs.Common.{length-drop, take-append-drop}
+use Rattle.std.proofs.Common.{length-drop}
 use Rattle.std.proofs.lemmas.List.{nil_from_length}
 use Rattle.std.specs.Option.{is_some}
 use Rattle.std.specs.Prelude.{◌==◌, ◌&&◌, ◌||◌}
@@ -26,7 +25,8 @@ use Rattle.lis_link.specs.Representation.{IsIn, IsStepMade, RefusesFrame, SpareA
 use Rattle.lis_link.specs.Receiver.{ReceiverState, ReceiverStep, ReceiverHearing, answers, answered_request, classified}
 use Rattle.lis_link.specs.Receiver.{on_classified, heard_by, heard, on_byte, on_bytes, heard_on, with_heard}
 use Rattle.lis_link.proofs.HearingLaws.{passed, on_byte-quiet}
-use Rattle.lis_careful.specs.Careful.{AreUnspecial, begins_within, is_altered, is_noise, is_special, heard_only}
+use Rattle.lis_careful.specs.Careful.{begins_within, is_altered, is_noise, heard_only}
+use Rattle.lis_careful.specs.inside.Hearing.{AreUnspecial, is_special}
 use Rattle.lis_careful.specs.Careful.{ends_session, session_ended, heard_as, careful_by, on_byte_carefully}
 use Rattle.lis_careful.specs.Careful.{on_bytes_by, on_bytes_carefully, noise_by, noise_in, noise_of, counted_on}
 use Rattle.lis_careful.specs.declared.receiver.CarefulHearing.{CarefulHearing}
@@ -638,47 +638,3 @@ hears_all limit hear bytes r spare count noise kept hearing long short =
       spare_after = subst (λ (h : ReceiverHearing). SpareAfter spare kept.spare h.step.taken) (sym all)
           hearing.spare_kept;
     }
-
--- the front that is taken
-pub front_taken :
-    (limit n : ℕ) (bytes front : List ℕ) (r : ReceiverState) (spare : ℕ) (result : Hearing) (new : Kept)
-    → 0 < n → n ≤ length bytes → front ≡ take n bytes → is_altered r (get_or bytes 0 0) ≡ false
-    → AreUnspecial (take (n - 1) (drop 1 bytes))
-    → result.count ≡ (on_bytes limit front r).count
-    → (result.step.note ≢ OutOfMemory → IsStepMade limit (on_bytes limit front r).step result.step new)
-    → (result.step.note ≡ OutOfMemory → RefusesFrame limit spare (on_bytes limit front r).step
-    (with_heard (take result.count front) r) result.step new)
-    → SpareAfter spare new.spare (on_bytes limit front r).step.taken
-    → HearsFront limit (on_byte_carefully limit) bytes r spare (quietly result) new
-front_taken limit zero bytes front r spare result new some bound is plain others count_is makes refused spare_after =
-    absurd (omega arith)
-front_taken limit (suc m) [] front r spare result new some bound is plain others count_is makes refused spare_after =
-    absurd (omega arith)
-front_taken limit (suc m) (b ∷ bytes) front r spare result new some bound is plain others count_is makes refused
-    spare_after =
-    let xs : List ℕ = take m bytes in
-    let less : suc m - 1 ≡ m = omega arith in
-    front_plain limit b (b ∷ bytes) xs (drop m bytes) r spare result new
-    (ap (λ (ys : List ℕ). b ∷ ys) (sym (take-append-drop m bytes))) plain
-    (subst (λ k. AreUnspecial (take k bytes)) less others)
-    (subst (λ (ys : List ℕ). result.count ≡ (on_bytes limit ys r).count) is count_is)
-    (subst (λ (ys : List ℕ). result.step.note ≢ OutOfMemory → IsStepMade limit (on_bytes limit ys r).step result.step
-    new) is makes)
-    (subst (λ (ys : List ℕ). result.step.note ≡ OutOfMemory → RefusesFrame limit spare (on_bytes limit ys r).step
-    (with_heard (take result.count ys) r) result.step new) is refused)
-    (subst (λ (ys : List ℕ). SpareAfter spare new.spare (on_bytes limit ys r).step.taken) is spare_after)
-
-grouped : (a b c : Bool) → ((a || b) || c) ≡ (a || (b || c))
-grouped true b c = refl
-grouped false b c = refl
-
--- bytes before the first that is special
-pub plain_before : (n : ℕ) (xs : List ℕ) → Nowhere (Passes (is_byte3 STX ENQ EOT) xs) 0 n → AreUnspecial (take n xs)
-plain_before zero xs none = tt
-plain_before (suc n) [] none = tt
-plain_before (suc n) (x ∷ xs) none =
-    (here (is_special x) refl, plain_before n xs (λ k low high. none (suc k) (omega arith) (omega arith)))
-  where
-    here : (test : Bool) → is_special x ≡ test → test ≡ false
-    here true e = absurd (none 0 (omega arith) (omega arith) (grouped (x == STX) (x == ENQ) (x == EOT) ∙ e))
-    here false e = refl

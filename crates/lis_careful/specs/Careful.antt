@@ -1,6 +1,6 @@
 -- A receiver that hears more carefully than the standard's profile asks: a damaged byte of a frame acknowledges
 -- nothing, also where it became ENQ or STX (LIS01-A2, 6.3 to 6.6).
-use Rattle.std.specs.Prelude.{◌≡◌, ℕ, ◌+◌, Bool, true, false, List, [], ◌∷◌, Option, None, Some, if◌then◌else◌}
+use Rattle.std.specs.Prelude.{ℕ, ◌+◌, Bool, true, false, List, [], ◌∷◌, Option, None, Some, if◌then◌else◌}
 use Rattle.std.specs.Prelude.{◌==◌, ◌&&◌, ◌||◌}
 use Rattle.lis_text.specs.Control.{STX, EOT, ENQ}
 use Rattle.lis_frame.specs.Stream.{open_body}
@@ -75,11 +75,3 @@ heard_only step r = record r { past = step.after.past }
 -- a byte is heard as another one, or leaves less of the stream
 abbrev pub is_altered : ReceiverState → ℕ → Bool
 is_altered r b = ends_session r b || begins_within (open_body r.past) b
-
--- bytes that are heard as themselves in whatever state are not special
-abbrev pub is_special : ℕ → Bool
-is_special b = b == STX || (b == ENQ || b == EOT)
-
-abbrev pub AreUnspecial : List ℕ → Type 0
-AreUnspecial [] = Unit {0}
-AreUnspecial (b ∷ bytes) = (is_special b ≡ false) × AreUnspecial bytes

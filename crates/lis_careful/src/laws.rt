@@ -48,8 +48,8 @@ pub fn costs_one_enquiry_of<const N: usize>()
 
 /// On a link whose receiver hears carefully, after whatever events, a session with enough undisturbed rounds is carried
 /// through, if the line isn't open (`at_once`). If it is, as after a session that was given up without EOT, that costs
-/// one more ENQ (`one_more`): the first gets no reply, so that the sender's timer ends its session as timed out, and the
-/// same session, started once more, is carried through. At every limit on a frame's text.
+/// one more ENQ (`one_more`): the first gets no reply, so that the sender's timer ends its session as timed out, and
+/// the same session, started once more, is carried through. At every limit on a frame's text.
 pub fn carries_through_carefully_of<const N: usize>()
     requires { IsLimit N }
     ensures at_once { CarriesThroughCarefully N }

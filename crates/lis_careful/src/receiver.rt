@@ -1,18 +1,17 @@
 //! A receiver that hears carefully: an ENQ that damage made of another byte acknowledges nothing.
 
-ghost use Rattle.std.specs.Prelude.{◌≡◌, ◌≢◌, ◌≤◌, ◌<◌, ◌-◌, length, take, drop};
+ghost use Rattle.std.specs.Prelude.{◌≡◌, ◌≢◌, ◌≤◌, ◌<◌, length};
 ghost use Rattle.lis_frame.specs.Stream.{open_body};
 ghost use Rattle.lis_link.specs.declared.receiver.Note.TheVariants as Notes;
 ghost use Rattle.lis_link.specs.Receiver.{ReceiverState};
 ghost use Rattle.lis_link.specs.Representation.{IsIn, IsStepMade, RefusesFrame, SpareAfter, KeepsRoom, room_of};
-ghost use Rattle.lis_careful.specs.Careful.{AreUnspecial, begins_within, ends_session, heard_as, heard_only};
+ghost use Rattle.lis_careful.specs.Careful.{begins_within, ends_session, heard_as, heard_only};
 ghost use Rattle.lis_careful.specs.Careful.{is_altered, is_noise, noise_in, noise_of, on_byte_carefully};
 ghost use Rattle.lis_careful.specs.Careful.{on_bytes_carefully};
 ghost use Rattle.lis_careful.specs.inside.Hearing.{HearsFront};
 
 use lis_link::{Hearing, Note, ReceiverOf, Step};
 use lis_text::{ENQ, EOT, LF, STX};
-use memchr::memchr3;
 
 /// Data link escape, which no frame may hold.
 pub(crate) const DLE: u8 = 0x10;
@@ -96,8 +95,9 @@ pub fn hear_bytes<const N: usize>(receiver: &mut ReceiverOf<N>, bytes: &[u8]) ->
     }
 }
 
-/// Hears the front of bytes: the first byte, or all that the receiver hears at once of those up to the next one that
-/// may be heard as another.
+/// Hears the front of bytes, in which none but the first byte may be heard as another: that byte alone if it is, or all
+/// that the receiver hears at once.
+#[inline(always)]
 fn hear_front<const N: usize>(receiver: &mut ReceiverOf<N>, bytes: &[u8]) -> CarefulHearing
     requires { 0 < length bytes.now }
     ensures some { 0 < result.count }
@@ -116,27 +116,11 @@ fn hear_front<const N: usize>(receiver: &mut ReceiverOf<N>, bytes: &[u8]) -> Car
             step: hear_byte(receiver, byte),
         };
     }
-    let (front, _) = bytes.split_at(plain_length(bytes));
-    let Hearing { count, step } = receiver.bytes(front);
+    let Hearing { count, step } = receiver.front(bytes);
     CarefulHearing {
         count,
         noise: 0,
         step,
-    }
-}
-
-/// How many bytes are before the next STX, ENQ or EOT after the first byte: if that one isn't altered, so many are
-/// heard as they are.
-pub fn plain_length(bytes: &[u8]) -> usize
-    requires { 0 < length bytes.now }
-    ensures some { 0 < result }
-    ensures bound { result ≤ length bytes.now }
-    ensures plain { AreUnspecial (take (result - 1) (drop 1 bytes.now)) }
-{
-    let (_, rest) = bytes.split_at(1);
-    match memchr3(STX, ENQ, EOT, rest) {
-        Some(place) => place + 1,
-        None => bytes.len(),
     }
 }
 

@@ -14,7 +14,8 @@ use Rattle.lis_link.specs.declared.sender.EmitOf.{EmitOf}
 use Rattle.lis_link.specs.declared.sender.EmitOf.TheVariants as Emits
 use Rattle.lis_link.specs.Receiver.{ReceiverState, ReceiverStep, answers, on_byte, heard as receiver_heard, heard_by}
 use Rattle.lis_link.specs.Receiver.{with_heard}
-use Rattle.lis_careful.specs.Careful.{DLE, AreUnspecial, ends_session, heard_as, careful_by, is_special, session_ended}
+use Rattle.lis_careful.specs.Careful.{DLE, ends_session, heard_as, careful_by, session_ended}
+use Rattle.lis_careful.specs.inside.Hearing.{AreUnspecial, is_special}
 use Rattle.lis_careful.specs.World.{CarefulSignal, ends, gives, careful_signal_by, careful_signals, with_heard_first}
 use Rattle.lis_careful.proofs.Receiving.{on_byte-past, open_then, unspecial_step}
 use Rattle.lis_careful.proofs.Heard.{no_end, given_of, later_no_end, given_first, closed, rest_is}

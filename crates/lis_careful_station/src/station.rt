@@ -9,7 +9,7 @@ ghost use Rattle.lis_station.specs.Representation.{station_at, IsAnswer, IsOutOf
 ghost use Rattle.lis_careful_station.specs.Station.{noise_at, on_station_byte_carefully, on_station_bytes_carefully};
 ghost use Rattle.lis_careful_station.specs.inside.Front.{HearsFrontOf, IsHeardOf, heard_step};
 
-use lis_careful::{CarefulHearing, closes, heard_as, is_altered, noise_of, plain_length};
+use lis_careful::{CarefulHearing, closes, heard_as, is_altered, noise_of};
 use lis_link::{Note, SessionTexts, Step};
 use lis_station::{AnswerOf, HearingOf, StationOver};
 use lis_text::EOT;
@@ -138,8 +138,9 @@ fn hear_receiving<const N: usize, T: SessionTexts>(
     }
 }
 
-/// The receiver hears the front of bytes: the first byte, or all that it hears at once of those up to the next one that
-/// may be heard as another.
+/// The receiver hears the front of bytes, in which none but the first byte may be heard as another: that byte alone if
+/// it is, or all that it hears at once.
+#[inline(always)]
 fn hear_front<const N: usize, T: SessionTexts>(
     station: &mut StationOver<N, T>,
     bytes: &[u8],
@@ -163,8 +164,7 @@ fn hear_front<const N: usize, T: SessionTexts>(
             step: step_of(hear_byte(station, byte)),
         };
     }
-    let (front, _) = bytes.split_at(plain_length(bytes));
-    let HearingOf { count, answer } = station.bytes(front);
+    let HearingOf { count, answer } = station.front(bytes);
     CarefulHearing {
         count,
         noise: 0,

@@ -1,8 +1,8 @@
 -- Hearing bytes up to the first that is not quiet.
-use Rattle.std.proofs.Common.{◌≡◌, ◌≢◌, ℕ, suc, ◌+◌, ◌%◌, ◌≤◌, ◌<◌, Bool, true, false, List, [], ◌∷◌, ◌++◌, Option}
-use Rattle.std.proofs.Common.{None, Some, length, take, drop, refl, ap, sym, ◌∙◌, subst, arith, append_assoc}
-use Rattle.std.proofs.Common.{length-append, take-append-drop, take-add, drop-drop, get_or}
-use Rattle.std.proofs.lemmas.List.{length-take-le}
+use Rattle.std.proofs.Common.{◌≡◌, ◌≢◌, ℕ, zero, suc, ◌+◌, ◌%◌, ◌≤◌, ◌<◌, Bool, true, false, List, [], ◌∷◌, ◌++◌}
+use Rattle.std.proofs.Common.{Option, None, Some, length, take, drop, refl, ap, sym, ◌∙◌, subst, arith, append_assoc}
+use Rattle.std.proofs.Common.{length-append, length-drop, take-append-drop, take-add, drop-drop, get_or}
+use Rattle.std.proofs.lemmas.List.{length-take-le, nil_from_length}
 use Rattle.std.specs.Prelude.{nat_lt, nat_le, ◌==◌, ◌&&◌, not, if◌then◌else◌}
 use Rattle.std.proofs.lemmas.Bool.Decides.{nat_tests}
 use Rattle.lis_text.specs.Control.{STX, CR, LF, ENQ, EOT}
@@ -282,6 +282,13 @@ front_byte limit (b ∷ following) r spare result new some makes refused spare_a
   spare_after = spare_after;
 }
 
+-- it is the first of any bytes that begin with it
+pub same_first :
+    (xs ys : List ℕ) → 0 < length xs → 0 < length ys → take 1 xs ≡ take 1 ys → get_or xs 0 0 ≡ get_or ys 0 0
+same_first [] ys some others same = absurd (omega (some, arith))
+same_first (x ∷ xs) [] some others same = absurd (omega (others, arith))
+same_first (x ∷ xs) (y ∷ ys) some others same = cc
+
 -- it is a run of bytes that give no signal
 pub front_run :
     (limit count : ℕ) (bytes : List ℕ) (r : ReceiverState) (spare : ℕ) (result : Step) (new : Kept)
@@ -485,3 +492,47 @@ hears_last limit bytes r spare count kept more new hearing front loud =
           subst (λ (h : ReceiverHearing). SpareAfter spare new.spare h.step.taken) (sym all)
           (more_spare spare kept.spare new.spare front.meant.taken hearing.spare_kept front.spare_after);
     }
+
+-- bytes that are a front, and nothing comes after them
+heard_alone : (count : ℕ) (step : ReceiverStep) (next : ReceiverState)
+    → (step.note ≡ Quiet → step ≡ answers None Quiet next)
+    → heard_on count step.note step (record { count = 0; step = answers None Quiet next })
+    ≡ record { count = count; step = step }
+heard_alone count step next quiet = by step.note refl
+  where
+    by : (note : Note) → step.note ≡ note
+        → heard_on count note step (record { count = 0; step = answers None Quiet next })
+        ≡ record { count = count; step = step }
+    by Quiet e =
+        let all : count + 0 ≡ count = omega arith in
+        ap (λ (n : ℕ). record { count = n; step = answers None Quiet next }) all
+        ∙ ap (λ (s : ReceiverStep). record { count = count; step = s }) (sym (quiet e))
+    by note e = refl
+
+pub front_alone :
+    (limit : ℕ) (bytes : List ℕ) (r : ReceiverState) (spare : ℕ) (result : Hearing) (new : Kept)
+    → length bytes ≡ result.count → HearsFront limit bytes r spare result new → IsHeard limit bytes r spare result new
+front_alone limit bytes r spare result new all front =
+    let none : drop result.count bytes ≡ [] =
+    nil_from_length (drop result.count bytes) (omega (arith, length-drop result.count bytes, all)) in
+    let heard_is : on_bytes limit bytes r ≡ record { count = result.count; step = front.meant } =
+    front.goes_on
+    ∙ ap (λ xs. heard_on result.count front.meant.note front.meant
+    (on_bytes limit xs (with_heard (take result.count bytes) r))) none
+    ∙ heard_alone result.count front.meant (with_heard (take result.count bytes) r) front.quiet in
+    record {
+      count_is = sym (ap (λ (h : ReceiverHearing). h.count) heard_is);
+      makes = λ fine. subst (λ (h : ReceiverHearing). IsStepMade limit h.step result.step new) (sym heard_is)
+          (front.makes fine);
+      refused = λ oom.
+          subst (λ (h : ReceiverHearing). RefusesFrame limit spare h.step
+          (with_heard (take result.count bytes) r) result.step new) (sym heard_is) (front.refused oom);
+      spare_after = subst (λ (h : ReceiverHearing). SpareAfter spare new.spare h.step.taken) (sym heard_is)
+          front.spare_after;
+    }
+
+-- the first of the first bytes
+pub taken_twice : (n : ℕ) (xs : List ℕ) → take n (take n xs) ≡ take n xs
+taken_twice zero xs = refl
+taken_twice (suc n) [] = refl
+taken_twice (suc n) (x ∷ xs) = ap (λ (ys : List ℕ). x ∷ ys) (taken_twice n xs)

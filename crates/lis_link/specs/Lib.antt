@@ -5,6 +5,7 @@ pub mod Duties
 pub mod Receiver
 pub mod Laws
 pub mod Kept
+pub mod Front
 pub mod Queue
 pub mod Representation
 pub mod inside

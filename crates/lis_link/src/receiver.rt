@@ -1,12 +1,13 @@
 //! The receiving end (LIS01-A2, 6.3 to 6.6).
 
-ghost use Rattle.std.specs.Prelude.{◌≡◌, ◌≢◌, ◌≤◌, ◌<◌, ◌∷◌, length, max, take, OnOk, OnErr, None};
+ghost use Rattle.std.specs.Prelude.{◌≡◌, ◌≢◌, ◌≤◌, ◌<◌, ◌∷◌, ℕ, List, length, max, take, OnOk, OnErr, None};
 ghost use Rattle.lis_frame.specs.Limit.{IsLimit};
 ghost use Rattle.lis_text.specs.LinkText.{longest_text};
 ghost use Rattle.lis_frame.specs.Scanner.{StandsFor};
 ghost use Rattle.lis_link.specs.Receiver.{ReceiverState, new_receiver, on_byte, on_bytes, on_receiver_timer};
 ghost use Rattle.lis_link.specs.Receiver.{receiver_restarted, with_heard, with_readiness, with_room};
 ghost use Rattle.lis_link.specs.declared.receiver.Note.TheVariants as Notes;
+ghost use Rattle.lis_link.specs.Front.{IsFront};
 ghost use Rattle.lis_link.specs.Representation.{IsIn, IsStepMade, RefusesFrame, SpareAfter, KeepsRoom, room_of};
 ghost use Rattle.lis_link.specs.inside.Representation.{HearsFront};
 
@@ -241,7 +242,7 @@ impl<const N: usize> ReceiverOf<N> {
     {
         let mut count = 0;
         while count < bytes.len() {
-            let Hearing { count: more, step } = self.front(&bytes[count..]);
+            let Hearing { count: more, step } = self.hear_front(&bytes[count..]);
             count += more;
             match step.note {
                 Note::Quiet => {}
@@ -254,14 +255,42 @@ impl<const N: usize> ReceiverOf<N> {
         }
     }
 
+    /// Hears the front of bytes, of which there is one at least, and answers how many it has and the step of the last
+    /// one. The front is a whole frame; or else all bytes up to the next STX, EOT, ENQ or LF, with an STX that is
+    /// first; or the first byte, if that is EOT, ENQ or LF. So none but its first byte is STX, EOT or ENQ.
+    ///
+    /// It is heard as `bytes` hears these bytes alone. Memory may run out as for `byte`; but for the bytes heard the state
+    /// is then as before.
+    #[inline(always)]
+    pub fn front(&mut self, bytes: &[u8]) -> Hearing
+        requires { 0 < length bytes.now }
+        ensures front { IsFront N bytes.now result.count }
+        ensures count { (r : ReceiverState) → IsIn N self.old r →
+            result.count ≡ (on_bytes N (take result.count bytes.now) r).count }
+        ensures step { (r : ReceiverState) → IsIn N self.old r → result.step.note ≢ Notes.OutOfMemory →
+            IsStepMade N (on_bytes N (take result.count bytes.now) r).step result.step self.new }
+        ensures refused { (r : ReceiverState) → IsIn N self.old r → result.step.note ≡ Notes.OutOfMemory →
+            RefusesFrame N self.old.spare (on_bytes N (take result.count bytes.now) r).step
+            (with_heard (take result.count bytes.now) r) result.step self.new }
+        ensures spare { (r : ReceiverState) → IsIn N self.old r → SpareAfter self.old.spare self.new.spare
+            (on_bytes N (take result.count bytes.now) r).step.taken }
+        ensures room { KeepsRoom result.step.note result.step.message (room_of self.old) (room_of self.new) }
+        ensures bound { result.count ≤ length bytes.now }
+        ensures some { 0 < result.count }
+    {
+        self.hear_front(bytes)
+    }
+
     /// Hears the front of bytes: a whole frame, a run of bytes that a text may hold, or the first byte.
     #[inline(always)]
-    fn front(&mut self, bytes: &[u8]) -> Hearing
+    fn hear_front(&mut self, bytes: &[u8]) -> Hearing
         requires { 0 < length bytes.now }
         ensures some { 0 < result.count }
         ensures bound { result.count ≤ length bytes.now }
-        ensures front { (r : ReceiverState) → IsIn N self.old r →
-            HearsFront N bytes.now r self.old.spare result self.new }
+        ensures is { IsFront N bytes.now result.count }
+        ensures front { (whole : List ℕ) → take result.count whole ≡ take result.count bytes.now →
+            result.count ≤ length whole → (r : ReceiverState) → IsIn N self.old r →
+            HearsFront N whole r self.old.spare result self.new }
         ensures room { KeepsRoom result.step.note result.step.message (room_of self.old) (room_of self.new) }
     {
         let (count, frame) = self.scanner.scan(bytes);

@@ -1,5 +1,5 @@
 -- What a station answers after a step of its receiver.
-use Rattle.std.proofs.Common.{◌≡◌, ℕ, true, List, [], ◌∷◌, length, None, refl, ap, sym, ◌∙◌, subst}
+use Rattle.std.proofs.Common.{◌≡◌, ◌<◌, ℕ, true, List, [], ◌∷◌, length, take, None, refl, ap, arith, sym, ◌∙◌, subst}
 use Rattle.std.specs.Prelude.{slice_index_or}
 use Rattle.lis_link.specs.Kept.{Kept}
 use Rattle.lis_link.specs.Receiver.{ReceiverState, ReceiverStep}
@@ -25,6 +25,12 @@ pub front_replies :
     → routed_bytes limit true bytes s ≡ record { count = 1; step = replied (slice_index_or bytes 0 0) s }
 front_replies limit [] s some = absurd (some refl)
 front_replies limit (b ∷ bytes) s some = refl
+
+pub front_first :
+    (limit : ℕ) (bytes : List ℕ) (s : StationState) → 0 < length bytes
+    → routed_bytes limit true (take 1 bytes) s ≡ record { count = 1; step = replied (slice_index_or bytes 0 0) s }
+front_first limit [] s some = absurd (omega (some, arith))
+front_first limit (b ∷ bytes) s some = refl
 
 -- the program's step with regard to the turn, and what the station keeps after it
 abbrev pub turned_step : KeptStation → Step → Step

@@ -56,7 +56,8 @@ answers_after : (front : Item) (items : List Item) → AllAnswers (front ∷ ite
 answers_after (sent u) items h = h
 answers_after (answered b) items h = h.1
 
-pub shut_if_awaits : (s : StationState) → IsExclusive s → awaits_reply s.sender.phase ≡ true → s.receiver.is_open ≡ false
+pub shut_if_awaits :
+    (s : StationState) → IsExclusive s → awaits_reply s.sender.phase ≡ true → s.receiver.is_open ≡ false
 shut_if_awaits s exclusive awaits = go s.receiver.is_open refl
   where
     go : (is_open : Bool) → s.receiver.is_open ≡ is_open → is_open ≡ false

@@ -7,6 +7,7 @@ ghost use Rattle.lis_text.specs.LinkText.{longest_text};
 ghost use Rattle.lis_link.specs.declared.sender.EmitOf.TheVariants as Emits;
 ghost use Rattle.lis_link.specs.Receiver.{ReceiverState, on_byte, on_bytes, with_heard};
 ghost use Rattle.lis_link.specs.Sender.{started, sender_restarted};
+ghost use Rattle.lis_link.specs.Front.{IsFront};
 ghost use Rattle.lis_link.specs.Representation.{IsIn, SpareAfter, room_of};
 ghost use Rattle.lis_station.specs.declared.station.Turn.TheVariants.{Free};
 ghost use Rattle.lis_station.specs.Station.{awaits_reply, given_reply, turn_after_reply, reply_step, turn_reply};
@@ -236,7 +237,7 @@ impl<const N: usize, T: SessionTexts> StationOver<N, T> {
         ensures memory { IsOutOfMemory result.answer → awaits_reply self.old.sender.phase ≡ false }
     {
         if self.awaits_reply() {
-            return self.front(bytes);
+            return self.first_reply(bytes);
         }
         let Hearing { count, step } = self.receiver.bytes(bytes);
         HearingOf {
@@ -245,8 +246,43 @@ impl<const N: usize, T: SessionTexts> StationOver<N, T> {
         }
     }
 
+    /// The front of bytes comes, of which there is one at least: one byte while a reply is awaited, else what the
+    /// receiver hears at once, as `ReceiverOf::front` has it. Answers how many bytes they are and what the last one
+    /// meant.
+    ///
+    /// It is heard as `bytes` hears these bytes alone.
+    pub fn front(&mut self, bytes: &[u8]) -> HearingOf<N>
+        requires { 0 < length bytes.now }
+        ensures front { awaits_reply self.old.sender.phase ≡ false → IsFront N bytes.now result.count }
+        ensures count { (r : ReceiverState) → IsIn N self.old.receiver r → result.count
+            ≡ (on_station_bytes N (take result.count bytes.now) (station_at self.old r)).count }
+        ensures step { (r : ReceiverState) → IsIn N self.old.receiver r → (IsOutOfMemory result.answer → ⊥) →
+            IsAnswer N self.old (on_station_bytes N (take result.count bytes.now) (station_at self.old r)).step
+            result.answer self.new }
+        ensures refused { (r : ReceiverState) → IsIn N self.old.receiver r → IsOutOfMemory result.answer →
+            IsRefused N self.old (on_bytes N (take result.count bytes.now) r).step
+            (with_heard (take result.count bytes.now) r) result.answer self.new }
+        ensures spare { (r : ReceiverState) → IsIn N self.old.receiver r →
+            SpareAfter self.old.receiver.spare self.new.receiver.spare
+            (taken_by (on_station_bytes N (take result.count bytes.now) (station_at self.old r)).step.answer) }
+        ensures room { KeepsStationRoom result.answer self.old.receiver self.new.receiver }
+        ensures bound { result.count ≤ length bytes.now }
+        ensures some { 0 < result.count }
+        ensures memory { IsOutOfMemory result.answer → awaits_reply self.old.sender.phase ≡ false }
+    {
+        if self.awaits_reply() {
+            let answer = AnswerOf::Emits(self.reply(bytes[0]));
+            return HearingOf { count: 1, answer };
+        }
+        let Hearing { count, step } = self.receiver.front(bytes);
+        HearingOf {
+            count,
+            answer: AnswerOf::Hears(self.heard(step)),
+        }
+    }
+
     /// The sender hears the first of these bytes, if there is one.
-    fn front(&mut self, bytes: &[u8]) -> HearingOf<N>
+    fn first_reply(&mut self, bytes: &[u8]) -> HearingOf<N>
         requires { awaits_reply self.old.sender.phase ≡ true }
         ensures count { (r : ReceiverState) → IsIn N self.old.receiver r →
             result.count ≡ (on_station_bytes N bytes.now (station_at self.old r)).count }

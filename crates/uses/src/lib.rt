@@ -1,4 +1,4 @@
-//! Small callers of the crates, which `docs/RATTLE.md` names: the loops of both ends of a line, reading results,
+//! Small callers of the crates, which `docs/rattle.md` names: the loops of both ends of a line, reading results,
 //! building and sending a message, writing it on after a sink that failed, and checking a capture.
 #![tactic(auto)]
 

@@ -1,5 +1,6 @@
 -- What the private calls of careful hearing answer.
-use Rattle.std.specs.Prelude.{◌≡◌, ◌≢◌, ℕ, List, drop, None}
+use Rattle.std.specs.Prelude.{◌≡◌, ◌≢◌, ◌==◌, ◌||◌, ◌∷◌, ℕ, Bool, false, List, [], drop, None}
+use Rattle.lis_text.specs.Control.{STX, EOT, ENQ}
 use Rattle.lis_link.specs.declared.receiver.Note.TheVariants.{OutOfMemory, Quiet}
 use Rattle.lis_link.specs.Kept.{Kept}
 use Rattle.lis_link.specs.Receiver.{ReceiverState, ReceiverStep, answers, heard_on}
@@ -20,3 +21,11 @@ pub record HearsFront (limit : ℕ) (hear : ℕ → ReceiverState → ReceiverSt
   pub makes : result.step.note ≢ OutOfMemory → IsStepMade limit meant result.step new
   pub refused : result.step.note ≡ OutOfMemory → RefusesFrame limit spare meant (heard_only meant r) result.step new
   pub spare_after : SpareAfter spare new.spare meant.taken
+
+-- bytes that are heard as themselves in whatever state are not special
+abbrev pub is_special : ℕ → Bool
+is_special b = b == STX || (b == ENQ || b == EOT)
+
+abbrev pub AreUnspecial : List ℕ → Type 0
+AreUnspecial [] = Unit {0}
+AreUnspecial (b ∷ bytes) = (is_special b ≡ false) × AreUnspecial bytes

@@ -1,6 +1,7 @@
 use Rattle.std.proofs.Common.{refl, sym, get_or, ◌∙◌}
 use Rattle.lis_careful.specs.Careful.{on_byte_carefully}
-use Rattle.lis_careful.proofs.Receiving.{careful-quiet, front_byte, front_taken}
+use Rattle.lis_careful.proofs.Fronts.{front_taken}
+use Rattle.lis_careful.proofs.Receiving.{careful-quiet, front_byte}
 use Rattle.lis_careful.proofs.receiver.hear_front.Goals as goal
 
 pub returns-then-is_altered-clause-front : goal.returns-then-is_altered-clause-front
@@ -13,8 +14,8 @@ returns-then-is_altered-clause-front g c r is_in =
 
 pub returns-clause-front : goal.returns-clause-front
 returns-clause-front g c r is_in =
-    front_taken g.row.N c.plain_length.result c.args.bytes.now c.split_at.result.0.now r c.args.receiver.now.spare
-    c.bytes-count.result c.bytes-count.new.self c.plain_length.ensures.some c.plain_length.ensures.bound
-    c.split_at.ensures.front (sym (c.is_altered.ensures r is_in) ∙ c.if-is_altered.false)
-    c.plain_length.ensures.plain (c.bytes-count.ensures.count r is_in) (c.bytes-count.ensures.step r is_in)
-    (c.bytes-count.ensures.refused r is_in) (c.bytes-count.ensures.spare r is_in)
+    let front = c.front-count in
+    front_taken g.row.N c.args.bytes.now r c.args.receiver.now.spare front.result front.new.self front.ensures.some
+    front.ensures.bound (sym (c.is_altered.ensures r is_in) ∙ c.if-is_altered.false) front.ensures.front
+    (front.ensures.count r is_in) (front.ensures.step r is_in) (front.ensures.refused r is_in)
+    (front.ensures.spare r is_in)

@@ -1,10 +1,11 @@
 -- One byte, or those that the receiver hears at once.
-use Rattle.std.proofs.Common.{◌≡◌, ◌≢◌, false, refl, ap, sym, get_or, ◌∙◌, subst}
+use Rattle.std.proofs.Common.{◌≡◌, ◌≢◌, false, refl, ap, sym, get_or, take, ◌∙◌, subst}
 use Rattle.lis_link.specs.declared.receiver.Hearing.{Hearing}
 use Rattle.lis_link.specs.Receiver.{on_bytes}
 use Rattle.lis_link.specs.Representation.{IsIn, SpareAfter}
 use Rattle.lis_careful.specs.Careful.{on_byte_carefully}
-use Rattle.lis_careful.proofs.Receiving.{careful-quiet, front_byte, front_taken}
+use Rattle.lis_careful.proofs.Fronts.{front_taken}
+use Rattle.lis_careful.proofs.Receiving.{careful-quiet, front_byte}
 use Rattle.lis_station.specs.Representation.{IsAnswer, station_at}
 use Rattle.lis_station.specs.Station.{awaits_reply, routed_bytes, taken_by}
 use Rattle.lis_careful_station.specs.Station.{routed_carefully}
@@ -41,9 +42,9 @@ returns-then-is_altered-clause-room g c =
 pub returns-clause-front : goal.returns-clause-front
 returns-clause-front g c r is_in rests =
     let old = c.args.station.now in
-    let new = c.bytes-count.new.self in
-    let front = c.split_at.result.0.now in
-    let heard = c.bytes-count in
+    let heard = c.front-count in
+    let new = heard.new.self in
+    let front = take heard.result.count c.args.bytes.now in
     let own = raw_of g.row.N (on_bytes g.row.N front r).step r _ old heard.result.answer new
     (λ fine. subst (λ a. IsAnswer g.row.N old (routed_bytes g.row.N a front (station_at old r)).step
     heard.result.answer new) rests (heard.ensures.step r is_in fine))
@@ -52,10 +53,10 @@ returns-clause-front g c r is_in rests =
     record {
       raw = own.raw;
       turned = rw (sym c.step_of-2.ensures) at own.turned;
-      front = front_taken g.row.N c.plain_length.result c.args.bytes.now front r old.receiver.spare raw new.receiver
-          c.plain_length.ensures.some c.plain_length.ensures.bound c.split_at.ensures.front
+      front = front_taken g.row.N c.args.bytes.now r old.receiver.spare raw new.receiver heard.ensures.some
+          heard.ensures.bound
           (sym (c.is_altered.ensures r (subst (λ k. IsIn g.row.N k r) (sym c.receiver.ensures) is_in))
-          ∙ c.if-is_altered.false) c.plain_length.ensures.plain
+          ∙ c.if-is_altered.false) (heard.ensures.front rests)
           (subst (λ a. heard.result.count ≡ (routed_bytes g.row.N a front (station_at old r)).count) rests
           (heard.ensures.count r is_in)) own.makes own.refused
           (subst (λ a. SpareAfter old.receiver.spare new.receiver.spare
@@ -66,5 +67,5 @@ returns-clause-front g c r is_in rests =
 pub returns-clause-room : goal.returns-clause-room
 returns-clause-room g c =
     rw (sym c.step_of-2.ensures) at
-    (step_room g.row.N c.bytes-count.result.answer c.args.station.now.receiver c.bytes-count.new.self.receiver
-    c.bytes-count.ensures.room)
+    (step_room g.row.N c.front-count.result.answer c.args.station.now.receiver c.front-count.new.self.receiver
+    c.front-count.ensures.room)

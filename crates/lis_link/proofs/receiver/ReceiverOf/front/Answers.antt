@@ -1,41 +1,30 @@
-use Rattle.std.proofs.Common.{take, [], arith}
-use Rattle.lis_link.specs.Receiver.{with_heard}
-use Rattle.lis_link.proofs.HearingLaws.{beside, front_byte, front_run, front_frame}
+-- The front is heard as it is by itself.
+use Rattle.std.proofs.Common.{◌≡◌, ◌≤◌, length, take, arith, subst}
+use Rattle.std.proofs.lemmas.List.{length-take-le}
+use Rattle.lis_link.specs.Receiver.{ReceiverState, on_bytes, with_heard}
+use Rattle.lis_link.specs.Representation.{IsIn, RefusesFrame}
+use Rattle.lis_link.proofs.HearingLaws.{front_alone, taken_twice}
 use Rattle.lis_link.proofs.receiver.ReceiverOf.front.Goals as goal
 
-pub returns-then-count-eq0-clause-front : goal.returns-then-count-eq0-clause-front
-returns-then-count-eq0-clause-front g c r is_in =
-    let was = rw (← c.self.view_is) at is_in in
-    let represents = rw c.if-count-eq0.true at (c.scan-count.ensures.after r.past was.stream_is) in
-    let here = beside g.row.N c.self.inside.line c.self.inside.scanner c.scan-count.new.self c.args.self.now r []
-    c.self.view_is is_in represents in
-    front_byte g.row.N c.args.bytes.now r c.args.self.now.spare c.byte.result c.byte.new.self c.requires
-    (c.byte.ensures.step r here)
-    (rw (← c.self.view_is) (c.byte.ensures.refused r here))
-    (rw (← c.self.view_is) (c.byte.ensures.spare r here))
-
-pub returns-in-None-clause-front : goal.returns-in-None-clause-front
-returns-in-None-clause-front g c r is_in =
-    let was = rw (← c.self.view_is) at is_in in
-    let here = beside g.row.N c.self.inside.line c.self.inside.scanner c.scan-count.new.self c.args.self.now r
-    (take c.scan-count.result.0 c.args.bytes.now)
-    c.self.view_is is_in (c.scan-count.ensures.after r.past was.stream_is) in
-    front_run g.row.N c.scan-count.result.0 c.args.bytes.now r c.args.self.now.spare c.of.result _
-    c.scan-count.ensures.bound
-    (rw c.in-None.is at (c.scan-count.ensures.signal r.past was.stream_is)) here c.of.ensures
-    (rw (← c.self.view_is) (omega arith))
-
-pub returns-in-Some-clause-front : goal.returns-in-Some-clause-front
-returns-in-Some-clause-front g c r is_in =
-    let was = rw (← c.self.view_is) at is_in in
-    let next = with_heard (take c.scan-count.result.0 c.args.bytes.now) r in
-    let here = beside g.row.N c.self.inside.line c.self.inside.scanner c.scan-count.new.self c.args.self.now r
-    (take c.scan-count.result.0 c.args.bytes.now)
-    c.self.view_is is_in (c.scan-count.ensures.after r.past was.stream_is) in
-    front_frame g.row.N c.scan-count.result.0 c.args.bytes.now c.in-Some.frame r c.args.self.now.spare c.good.result
-    _ c.scan-count.ensures.bound
-    (rw c.in-Some.is at c.scan-count.ensures.frame)
-    (rw c.in-Some.is at (c.scan-count.ensures.signal r.past was.stream_is))
-    (c.good.ensures.step g.row.N c.scan-count.new.self next here)
-    (rw (← c.self.view_is) (c.good.ensures.refused g.row.N c.scan-count.new.self next here))
-    (rw (← c.self.view_is) (c.good.ensures.spare g.row.N c.scan-count.new.self next here))
+pub returns : goal.returns
+returns g c =
+    let heard = c.hear_front in
+    let n = heard.result.count in
+    let front = take n c.args.bytes.now in
+    let all : length front ≡ n = length-take-le n c.args.bytes.now heard.ensures.bound in
+    let short : n ≤ length front = omega (arith, all) in
+    let alone = λ (r : ReceiverState) (is_in : IsIn g.row.N c.args.self.now r).
+    front_alone g.row.N front r c.args.self.now.spare heard.result heard.new.self all
+    (heard.ensures.front front (taken_twice n c.args.bytes.now) short r is_in) in
+    record {
+      front = heard.ensures.is;
+      count = λ r is_in. (alone r is_in).count_is;
+      step = λ r is_in. (alone r is_in).makes;
+      refused = λ r is_in oom.
+          subst (λ xs. RefusesFrame g.row.N c.args.self.now.spare (on_bytes g.row.N front r).step (with_heard xs r)
+          heard.result.step heard.new.self) (taken_twice n c.args.bytes.now) ((alone r is_in).refused oom);
+      spare = λ r is_in. (alone r is_in).spare_after;
+      room = heard.ensures.room;
+      bound = heard.ensures.bound;
+      some = heard.ensures.some;
+    }

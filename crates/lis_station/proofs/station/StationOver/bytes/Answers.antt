@@ -12,20 +12,20 @@ use Rattle.lis_station.proofs.Answering.{heard_made, heard_refused, front_takes_
 use Rattle.lis_station.proofs.station.StationOver.bytes.Goals as goal
 
 pub returns-then-awaits_reply-clause-step : goal.returns-then-awaits_reply-clause-step
-returns-then-awaits_reply-clause-step g c r is_in fine = c.front.ensures.step r is_in
+returns-then-awaits_reply-clause-step g c r is_in fine = c.first_reply.ensures.step r is_in
 
 pub returns-then-awaits_reply-clause-refused : goal.returns-then-awaits_reply-clause-refused
-returns-then-awaits_reply-clause-refused g c r is_in out = absurd (c.front.ensures.memory out)
+returns-then-awaits_reply-clause-refused g c r is_in out = absurd (c.first_reply.ensures.memory out)
 
 pub returns-then-awaits_reply-clause-spare : goal.returns-then-awaits_reply-clause-spare
 returns-then-awaits_reply-clause-spare g c r is_in =
     let awaits : awaits_reply c.args.self.now.sender.phase ≡ true =
     sym c.awaits_reply.ensures ∙ c.if-awaits_reply.true in
-    let kept : c.args.self.now.receiver.spare ≤ c.front.new.self.receiver.spare =
-    subst (λ (k : Kept). c.args.self.now.receiver.spare ≤ k.spare) (sym c.front.ensures.receiver) (omega arith) in
-    subst (λ a. SpareAfter c.args.self.now.receiver.spare c.front.new.self.receiver.spare
+    let kept : c.args.self.now.receiver.spare ≤ c.first_reply.new.self.receiver.spare =
+    subst (λ (k : Kept). c.args.self.now.receiver.spare ≤ k.spare) (sym c.first_reply.ensures.receiver) (omega arith) in
+    subst (λ a. SpareAfter c.args.self.now.receiver.spare c.first_reply.new.self.receiver.spare
     (taken_by (routed_bytes g.row.N a c.args.bytes.now (station_at c.args.self.now r)).step.answer)) (sym awaits)
-    (subst (λ t. SpareAfter c.args.self.now.receiver.spare c.front.new.self.receiver.spare t)
+    (subst (λ t. SpareAfter c.args.self.now.receiver.spare c.first_reply.new.self.receiver.spare t)
     (sym (front_takes_none g.row.N c.args.bytes.now (station_at c.args.self.now r))) kept)
 
 pub returns-clause-count : goal.returns-clause-count
