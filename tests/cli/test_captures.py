@@ -31,7 +31,7 @@ MADE = (
 def convert(log, *words):
     """The capture of a log, or else what lislab says of it."""
     environment = {**os.environ, "PYTHONPATH": f"{ROOT}/python/src:{ROOT}/lab/src"}
-    ran = subprocess.run([sys.executable, "-m", "lislab", "capture", *words], input=log, env=environment, timeout=60,
+    ran = subprocess.run([sys.executable, "-m", "lislab", "capture", *words], input=log, env=environment, timeout=300,
                          capture_output=True, text=True)
     return ran.stdout if ran.returncode == 0 else ran.stderr
 

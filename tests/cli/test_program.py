@@ -75,7 +75,7 @@ class Program(kit.Test):
 
     def ran(self, words, data):
         """What a run over these bytes gave: status, output, line on standard error."""
-        ran = subprocess.run([self.program, *words], input=data, capture_output=True, timeout=60)
+        ran = subprocess.run([self.program, *words], input=data, capture_output=True, timeout=300)
         return ran.returncode, ran.stdout.decode("latin-1"), ran.stderr.decode("latin-1")
 
     def test_runs(self):
@@ -103,13 +103,13 @@ class Program(kit.Test):
             process.stdin.write(sample(name)[:length])
             process.stdin.flush()
             time.sleep(0.2)
-            printed, said = process.communicate(sample(name)[length:], timeout=60)
+            printed, said = process.communicate(sample(name)[length:], timeout=300)
             self.same(f"{command} in pieces", (process.returncode, printed.decode(), said), (0, wanted, b""))
 
     def test_a_source_that_fails(self):
         for command in FAILING_SOURCES:
             source = os.open("/", os.O_RDONLY)
-            ran = subprocess.run([self.program, command], stdin=source, capture_output=True, timeout=60)
+            ran = subprocess.run([self.program, command], stdin=source, capture_output=True, timeout=300)
             os.close(source)
             self.same(command, (ran.returncode, ran.stdout, ran.stderr), (3, b"", b"lislink: K2\n"))
 
@@ -117,7 +117,7 @@ class Program(kit.Test):
         for command, name in FAILING_SINKS:
             with open("/dev/full", "wb") as full:
                 ran = subprocess.run([self.program, command], input=sample(name), stdout=full, stderr=subprocess.PIPE,
-                                     timeout=60)
+                                     timeout=300)
             self.same(command, (ran.returncode, ran.stderr), (3, b"lislink: K3\n"))
 
     def test_a_line_is_seen_while_the_input_is_open(self):
@@ -132,5 +132,5 @@ class Program(kit.Test):
             seen = process.stdout.read() or b""
         self.same("a line of a live stream", (seen, process.poll()), (b"ENQ\n", None))
         os.set_blocking(process.stdout.fileno(), True)
-        printed, said = process.communicate(timeout=60)
+        printed, said = process.communicate(timeout=300)
         self.same("the end of a live stream", (process.returncode, printed, said), (0, b"", b""))

@@ -92,14 +92,14 @@ class Programs(kit.Test):
         with open(f"{work}/link", "wb") as file:
             file.write(session(texts[:5]) + session(texts) + session(texts[:5]))
         with open(f"{work}/link") as given:
-            ran = subprocess.run([f"{work}/results"], stdin=given, capture_output=True, text=True, timeout=60)
+            ran = subprocess.run([f"{work}/results"], stdin=given, capture_output=True, text=True, timeout=300)
         self.same("results", (ran.stdout, ran.stderr, ran.returncode),
                   (RESULTS, 2 * "a message without its end is dropped\n", 0))
 
     def names_one(self, words, path, wanted, status, **how):
         """Whether a sample prints this, and one line on standard error of a record that can't be read."""
         with open(path) as given:
-            ran = subprocess.run(words, stdin=given, capture_output=True, text=True, timeout=60, **how)
+            ran = subprocess.run(words, stdin=given, capture_output=True, text=True, timeout=300, **how)
         self.same(f"{words[-1]}: its status", ran.returncode, status)
         if wanted is not None:
             self.same(f"{words[-1]}: what it prints", ran.stdout, wanted)

@@ -1,4 +1,5 @@
 """Deliveries: what is quarantined, what is left out, tries that end the process, and commands that outlive it."""
+import contextlib
 import csv
 import datetime
 import email.utils
@@ -248,7 +249,7 @@ class Deliver(HostTest):
         words = ["--store", store, "--cursor", cursor, "--once", "--seconds", "1", "--", "sh", "-c", shell]
         self.same("it fails", lislab("deliver", *words).returncode, 1)
         pid = int(rows_of(log + ".pid")[0])
-        self.addCleanup(subprocess.run, ["kill", str(pid)], check=False, capture_output=True)
+        self.addCleanup(end, pid)
         self.true("nothing goes on", wait_for(lambda: not os.path.exists(f"/proc/{pid}") or state_of(pid) == "Z", 30))
 
     def test_memory(self):
@@ -264,6 +265,12 @@ class Deliver(HostTest):
         (name,) = os.listdir(self.path("memory.d"))
         with open(os.path.join(self.path("memory.d"), name), "rb") as file:
             self.same("all of it", file.read().count(b"\rOBX|"), 100000)
+
+
+def end(pid):
+    """Ends a process, if it is there."""
+    with contextlib.suppress(ProcessLookupError):
+        os.kill(pid, signal.SIGTERM)
 
 
 def state_of(pid):

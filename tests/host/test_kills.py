@@ -77,7 +77,7 @@ class Kills(HostTest):
         self.true("full: not all was taken", len(before) < 200, str(len(before)))
         resource.prlimit(host.process.pid, resource.RLIMIT_FSIZE, unlimited)
         try:
-            one.communicate(timeout=60)
+            one.communicate(timeout=300)
         except subprocess.TimeoutExpired:
             one.kill()
             one.communicate()

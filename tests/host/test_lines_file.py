@@ -240,7 +240,7 @@ class LinesFile(HostTest):
         names = [f"line{number}" for number in range(200)]
         places = dict.fromkeys(names, "listen = 127.0.0.1:0")
         host, file = self.begun("many", sections(**places))
-        told = lislab("lines", file, timeout=60).stdout.splitlines()[-1]
+        told = lislab("lines", file, timeout=300).stdout.splitlines()[-1]
         self.same("lislab lines", told, "lines 200 faults 0")
         self.same("ports", len({self.port(host, name) for name in names}), 200)
         open_ones = [Client(self.port(host, name)) for name in names[::20]]

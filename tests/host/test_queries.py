@@ -214,7 +214,7 @@ class Queries(HostTest):
         """A query that can't be looked up isn't answered that there is no order; asked again, it is."""
         host, port = self.started()
         one = Plain(port, SLOW)
-        db = sqlite3.connect(host.store, timeout=60)
+        db = sqlite3.connect(host.store, timeout=300)
         db.execute("ALTER TABLE orders RENAME TO away")
         one.send(asked(b"^S123"))
         self.same("an error", [row[:5] for row in one.take(600)], [b"H|\\^&", b"L|1|Q"])

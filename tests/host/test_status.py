@@ -27,7 +27,7 @@ class Status(HostTest):
                 (None, True, (1, True, None), "the host is running; there is no state that it wrote"),
                 (0, True, (0, True, 0), "the host is running since"),
                 (60, True, (1, True, 60), "the host is running; its state is 60 seconds old"),
-                (-3600, True, (1, True, -3600), r"its state is (3600|35\d\d) seconds ahead of the clock"),
+                (-3600, True, (1, True, -3600), "its state is 3600 seconds ahead of the clock"),
                 (0, False, (1, False, 0), "the host is not running"),
                 (-3600, False, (1, False, -3600), "the host is not running"),
             ):
@@ -39,12 +39,12 @@ class Status(HostTest):
                     self.true("for a reader", re.search(words, shown), shown)
 
     def shown(self, store, age, *words):
-        """What `lislab status` shows when the state has this age."""
-        path = self.path("the state")
-        data = {} if age is None else {"at": time.time() - age, "begun": 1.0, "process": 1}
+        """What `lislab status` shows when the state has this age; its clock stands still meanwhile."""
+        path, now = self.path("the state"), time.time()
+        data = {} if age is None else {"at": now - age, "begun": 1.0, "process": 1}
         with open(path, "w", encoding="ascii") as file:
             json.dump(data, file)
-        with contextlib.redirect_stdout(io.StringIO()) as out:
+        with contextlib.redirect_stdout(io.StringIO()) as out, unittest.mock.patch("time.time", lambda: now):
             status = cli.main(["status", "--store", store, "--status", path, *words])
         if not words:
             return out.getvalue()

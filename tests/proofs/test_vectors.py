@@ -87,8 +87,7 @@ class Vectors(kit.Test):
     def test_calls(self):
         for answering in self.BUILDS:
             program = shlex.quote(kit.built(answering))
-            # `vectors` doesn't hear carefully: tests/ffi asks the library those rows.
-            for kind in (kind for kind in suite.kinds() if kind != "careful"):
+            for kind in suite.kinds():
                 for path in suite.files(kind):
                     compare(self, path, suite.asked(program, path))
 

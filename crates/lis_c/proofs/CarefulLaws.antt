@@ -9,7 +9,8 @@ use Rattle.lis_link.specs.declared.receiver.Hearing.{Hearing}
 use Rattle.lis_link.specs.declared.receiver.Note.{Note}
 use Rattle.lis_link.specs.declared.receiver.Note.TheVariants.{OutOfMemory, Quiet, TooLong}
 use Rattle.lis_link.specs.declared.receiver.Step.{Step}
-use Rattle.lis_link.specs.Receiver.{ReceiverHearing, ReceiverState, ReceiverStep, answers, heard_on, on_byte, with_heard}
+use Rattle.lis_link.specs.Receiver.{ReceiverHearing, ReceiverState, ReceiverStep, answers, heard_on, on_byte}
+use Rattle.lis_link.specs.Receiver.{with_heard}
 use Rattle.lis_link.specs.Representation.{IsIn, IsStepMade, RefusesFrame, SpareAfter}
 use Rattle.lis_link.proofs.HearingLaws.{on_byte-quiet}
 use Rattle.lis_careful.specs.Careful.{ends_session, heard_as, heard_only, careful_by, is_noise, noise_of, counted_on}
@@ -25,7 +26,8 @@ use Rattle.lis_c.proofs.WithinHearing.{at_place}
 -- ---- one byte
 
 -- without a limit on a text
-unlimited : (ends : Bool) (limit b : ℕ) (r : ReceiverState) → careful_by ends limit b r ≡ careful_within ends limit None b r
+unlimited :
+    (ends : Bool) (limit b : ℕ) (r : ReceiverState) → careful_by ends limit b r ≡ careful_within ends limit None b r
 unlimited true limit b r = refl
 unlimited false limit b r = refl
 
@@ -64,7 +66,8 @@ refused_as limit most b c spare r result new goes is refused =
     refused)
 
 -- a quiet byte changes the stream alone
-pub set-quiet : (limit : ℕ) (most : Option ℕ) (b : ℕ) (r : ReceiverState) → (on_byte_set true limit most b r).note ≡ Quiet
+pub set-quiet :
+    (limit : ℕ) (most : Option ℕ) (b : ℕ) (r : ReceiverState) → (on_byte_set true limit most b r).note ≡ Quiet
     → on_byte_set true limit most b r ≡ answers None Quiet (heard_only (on_byte_set true limit most b r) r)
 set-quiet limit most b r = ended (ends_session r b)
   where
@@ -165,7 +168,8 @@ module _ (limit most : ℕ) (bytes : List ℕ) (r : ReceiverState) (spare count 
   front =
       front_byte limit (on_byte_set true limit (Some most)) (get_or bytes count 0) louder (drop count bytes) heard.at
       kept.spare step new (some_left bytes count within)
-      (set-quiet limit (Some most) (get_or bytes count 0) heard.at) (front_is bytes count within) loud makes refuses after
+      (set-quiet limit (Some most) (get_or bytes count 0) heard.at) (front_is bytes count within) loud makes refuses
+      after
 
   pub one_more : step.note ≡ Quiet
       → IsHearing limit (on_byte_set true limit (Some most)) bytes r spare (count + 1) (noise + louder) new

@@ -121,7 +121,8 @@ module _ (old new : StationHandleState) (after : AnyStation) (sent : LisBytes) (
       → AnswerReported (station_limit old.station) answer old out new
   reported_of (sends step) None (puts, same) it stays limit = (
     it.reports.0,
-    subst (λ (b : LisBytes). HoldsEmitted (station_limit old.station) b (emitted_bytes step.emit)) (sym it.sends_is) puts,
+    subst (λ (b : LisBytes). HoldsEmitted (station_limit old.station) b (emitted_bytes step.emit)) (sym it.sends_is)
+        puts,
     it.reports.1,
     it.reports.2,
     ap (λ (s : AnyStation). (station_kept s).receiver) (stays refl) ∙ same,

@@ -1,5 +1,6 @@
 -- Hearing bytes with a limit on a text, up to the first that is not quiet.
-use Rattle.std.proofs.Common.{◌≡◌, ◌≢◌, ◌≤◌, ◌<◌, ℕ, zero, suc, ◌+◌, List, [], ◌∷◌, ◌++◌, Bool, true, false, Option, None, Some}
+use Rattle.std.proofs.Common.{◌≡◌, ◌≢◌, ◌≤◌, ◌<◌, ℕ, zero, suc, ◌+◌, List, [], ◌∷◌, ◌++◌, Bool, true, false}
+use Rattle.std.proofs.Common.{Option, None, Some}
 use Rattle.std.proofs.Common.{length, take, drop, refl, ap, sym, ◌∙◌, subst, arith, take-add}
 use Rattle.std.specs.Prelude.{get_or, if◌then◌else◌}
 use Rattle.lis_text.specs.Control.{NAK}
@@ -10,7 +11,8 @@ use Rattle.lis_link.specs.declared.receiver.Note.{Note}
 use Rattle.lis_link.specs.declared.receiver.Note.TheVariants.{OutOfMemory, Quiet, TooLong}
 use Rattle.lis_link.specs.declared.receiver.Step.{Step}
 use Rattle.lis_link.specs.Kept.{Kept}
-use Rattle.lis_link.specs.Receiver.{ReceiverHearing, ReceiverState, ReceiverStep, answers, heard_on, on_byte, with_heard}
+use Rattle.lis_link.specs.Receiver.{ReceiverHearing, ReceiverState, ReceiverStep, answers, heard_on, on_byte}
+use Rattle.lis_link.specs.Receiver.{with_heard}
 use Rattle.lis_link.specs.Representation.{IsIn, IsStepMade, RefusesFrame, SpareAfter}
 use Rattle.lis_link.proofs.HearingLaws.{on_byte-quiet}
 use Rattle.lis_c.specs.Within.{is_over, on_byte_within, on_bytes_within}

@@ -492,8 +492,8 @@ fn reject_frame<const N: usize>(receiver: &mut ReceiverOf<N>) -> Step
     ensures note { result.note ≡ Notes.TooLong }
     ensures spare { (r : ReceiverState) → IsIn N receiver.old r → receiver.old.spare ≤ receiver.new.spare }
 {
-    let _begun = receiver.byte(STX);
-    let _ended = receiver.byte(LF);
+    let _begun = receiver.byte(STX); // it answers nothing
+    let _ended = receiver.byte(LF); // it answers NAK, with the note of a bad frame
     Step {
         reply: Some(NAK),
         message: None,
