@@ -8,7 +8,7 @@ HERE = os.path.dirname(os.path.abspath(__file__))
 FOLDERS = ("worked", "rows")
 WIDTH = 160  # characters of a line that is shown
 # What the gate of this repository runs crates/vectors on: so many of the first cases of each file of these kinds.
-FIRST = (15, "both building frames headers late link messages receiver records scanner sender texts writing".split())
+FIRST = (15, "both building careful frames headers late link messages receiver records scanner sender texts writing".split())
 
 
 def files(kind):

@@ -1,13 +1,16 @@
 //! Calls on a receiver.
 
+ghost use Rattle.std.specs.Prelude.{◌≤◌, length};
 ghost use Rattle.lis_frame.specs.Limit.{IsLimit};
 
 use crate::answer::Answer;
 use crate::frame_rows::put_frame_fault;
 use crate::state::Ends;
 use crate::words::Call;
+use lis_careful::{CarefulHearing, hear_byte, hear_bytes, noise_of};
 use lis_link::{Hearing, Note, Readiness, ReceiverOf, Step};
 use lis_text::LONGEST_TEXT;
+use std::alloc::Global;
 use std::mem::{drop, replace};
 
 impl<const N: usize> Ends<N> {
@@ -17,19 +20,45 @@ impl<const N: usize> Ends<N> {
         requires { IsLimit N }
     {
         let mut again = Answer::new(answer.alloc);
-        if call.name == "bytes" {
-            self.hear(call.bytes(0, answer), answer, &mut again);
+        if call.name == "noise" {
+            answer.number("noise=", self.noise);
+            again.number("noise=", self.other_noise);
         } else {
-            event(&mut self.receiver, call, answer);
-            event(&mut self.other_receiver, call, &mut again);
+            self.receiver_event(call, answer, &mut again);
+            put_state(&self.receiver, answer);
+            put_state(&self.other_receiver, &mut again);
         }
-        put_state(&self.receiver, answer);
-        put_state(&self.other_receiver, &mut again);
         if answer.line() != again.line() {
             answer.word("at once: ");
             answer.answer(&again);
         }
         drop(again);
+    }
+
+    /// What happens to both receivers.
+    fn receiver_event(&mut self, call: Call<'_>, answer: &mut Answer, again: &mut Answer)
+        requires { IsLimit N }
+    {
+        match call.name {
+            "new" => self.renew(false, answer.alloc),
+            "careful" => self.renew(true, answer.alloc),
+            "bytes" => self.hear(call.bytes(0, answer), answer, again),
+            _ => {
+                event(&mut self.receiver, call, answer);
+                event(&mut self.other_receiver, call, again);
+            }
+        }
+    }
+
+    /// New receivers, which hear carefully or as the profile has it.
+    fn renew(&mut self, is_careful: bool, alloc: Global)
+        requires { IsLimit N }
+    {
+        drop(replace(&mut self.receiver, ReceiverOf::new(alloc)));
+        drop(replace(&mut self.other_receiver, ReceiverOf::new(alloc)));
+        self.is_careful = is_careful;
+        self.noise = 0;
+        self.other_noise = 0;
     }
 
     /// Both receivers hear bytes.
@@ -46,8 +75,21 @@ impl<const N: usize> Ends<N> {
         requires { IsLimit N }
     {
         for (place, byte) in bytes.iter().enumerate() {
-            put_step(place, self.receiver.byte(*byte), answer);
+            let step = self.hear_one(*byte);
+            put_step(place, step, answer);
         }
+    }
+
+    /// The receiver hears a byte.
+    fn hear_one(&mut self, byte: u8) -> Step
+        requires { IsLimit N }
+    {
+        if !self.is_careful {
+            return self.receiver.byte(byte);
+        }
+        let noise = noise_of(&self.receiver, byte) as u64;
+        self.noise = self.noise.saturating_add(noise);
+        hear_byte(&mut self.receiver, byte)
     }
 
     /// The other receiver hears them at once.
@@ -60,12 +102,25 @@ impl<const N: usize> Ends<N> {
             if rest.is_empty() {
                 return;
             }
-            let Hearing { count, step } = self.other_receiver.bytes(rest);
+            let Hearing { count, step } = self.hear_some(rest);
             let (_, following) = rest.split_at(count);
             heard = heard.saturating_add(count);
             put_step(heard.saturating_sub(1), step, answer);
             rest = following;
         }
+    }
+
+    /// The other receiver hears those bytes up to the first that is not quiet.
+    fn hear_some(&mut self, bytes: &[u8]) -> Hearing
+        requires { IsLimit N }
+        ensures bound { result.count ≤ length bytes.now }
+    {
+        if !self.is_careful {
+            return self.other_receiver.bytes(bytes);
+        }
+        let CarefulHearing { count, noise, step } = hear_bytes(&mut self.other_receiver, bytes);
+        self.other_noise = self.other_noise.saturating_add(noise as u64);
+        Hearing { count, step }
     }
 }
 
@@ -74,7 +129,6 @@ fn event<const N: usize>(receiver: &mut ReceiverOf<N>, call: Call<'_>, answer: &
     requires { IsLimit N }
 {
     match call.name {
-        "new" => drop(replace(receiver, ReceiverOf::new(answer.alloc))),
         "timer" => put_step(0, receiver.timer(), answer),
         "restart" => receiver.restart(),
         "ready" => set_ready(receiver, call.word(0, answer), answer),

@@ -18,12 +18,15 @@ const USUAL: usize = 240;
 
 const LONGEST: usize = 63_993;
 
-/// The two ends of a link of one limit. Two receivers hear the same.
+/// The two ends of a link of one limit. Two receivers hear the same, and each counts the noise that it hears carefully.
 #[derive(Drop)]
 pub(crate) struct Ends<const N: usize> {
     pub(crate) sender: SenderOf<N>,
     pub(crate) receiver: ReceiverOf<N>,
     pub(crate) other_receiver: ReceiverOf<N>,
+    pub(crate) is_careful: bool,
+    pub(crate) noise: u64,
+    pub(crate) other_noise: u64,
 }
 
 impl<const N: usize> Ends<N> {
@@ -35,6 +38,9 @@ impl<const N: usize> Ends<N> {
             sender: SenderOf::new(),
             receiver: ReceiverOf::new(alloc),
             other_receiver: ReceiverOf::new(alloc),
+            is_careful: false,
+            noise: 0,
+            other_noise: 0,
         }
     }
 
