@@ -25,7 +25,7 @@
 # make roots                             what `make release` makes, and a clone, in bare roots (root, debootstrap)
 # make soak     [PARTS="kills=1000 .."]  the host by fire, for hours (tests/host/more soak)
 # make plant CRATE=lis_link              wrong bodies that the kit makes up: what a crate's contracts let through
-# make bench                             speed, memory and instructions; writes docs/PERFORMANCE.md (ten minutes at most)
+# make bench                             speed, memory and instructions; writes build/docs/speed.md (ten minutes at most)
 #
 # make bench-check                       fails if a command makes over 3 % more instructions a byte; in make prove
 
@@ -87,7 +87,7 @@ demo: build
 	@echo '  tools/lislab capture samples/tour.socat -o session.capture'
 	@echo '  build/lislink replay < session.capture'
 	@echo '  build/lislink texts < session.capture | build/lislink results'
-	@echo 'README.md explains them, docs/C.md, CPP.md, RUST.md and PYTHON.md the library.'
+	@echo 'README.md explains them, docs/first-program.md and docs/library.md the library.'
 
 test: build
 	@tools/needed python

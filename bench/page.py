@@ -1,4 +1,4 @@
-"""The part of docs/PERFORMANCE.md that bench/run writes: what was measured in one run, and when, of what, on what."""
+"""The part of docs/design.md that bench/run writes: what was measured in one run, and when, of what, on what."""
 import os
 import statistics
 import time
@@ -7,8 +7,8 @@ from dataclasses import dataclass, field
 import measured
 import programs
 
-DOCUMENT = os.path.join(programs.ROOT, "docs/PERFORMANCE.md")
-PLOT = os.path.join(programs.ROOT, "docs/performance.svg")
+DOCUMENT = os.path.join(programs.ROOT, "docs/design.md")
+PLOT = os.path.join(programs.ROOT, "docs/pictures/speed.svg")
 BEGIN, END = "<!-- bench/run writes what follows -->", "<!-- bench/run wrote what is above -->"
 # How many times the speed of the independent program a row is to make.
 WANTED = 1.5
@@ -103,7 +103,7 @@ def of_sizes(found):
            "start and end of the process included.")
     largest = max(size for points in found.curves.values() for size, _ in points)
     yield f"MB/s by the size of the input, 1 KB to {largest / 1e6:,.0f} MB, start and end of the process included:"
-    yield from ["", "![MB/s by the size of the input](performance.svg)", ""]
+    yield from ["", "![MB/s by the size of the input](pictures/speed.svg)", ""]
 
 
 def of_trees(found):

@@ -1,5 +1,5 @@
 /* Both ends, analyzer and computer, of the laboratory link of CLSI LIS01-A2 (ASTM E1381), and the records of CLSI
- * LIS02-A2 (ASTM E1394), for C99 and C++11. This is version 1 of the interface; docs/EMBEDDING.md says what is stable.
+ * LIS02-A2 (ASTM E1394), for C99 and C++11. This is version 1 of the interface; docs/library.md says what is stable.
  *
  * Link with liblislink, which has its heap in it. A program without malloc links with the archive of the proved crate
  * and brings a heap (the end of this file). Each call is proved to be safe, to end, and to do what the contract above
@@ -24,7 +24,7 @@
  * handle keeps that to its block, and a sender or a station those to the texts that stay with the caller; no call keeps
  * another.
  * No call blocks, prints or aborts, and one that takes its handle as const changes nothing. The library has no variable
- * of its own. Nothing checks a caller in C: docs/EMBEDDING.md lists what he can do wrong, and what happens then.
+ * of its own. Nothing checks a caller in C: docs/library.md lists what he can do wrong, and what happens then.
  *
  * The line. What is acknowledged has arrived, on two conditions that only the caller can keep:
  *
@@ -470,7 +470,7 @@ lis_status lis_receiver_text(const lis_receiver *s, uint8_t *out, size_t out_len
 /* ---- Station: a side of a line on which both sides send (LIS01-A2, 6.2.7 and 6.5). ----
  *
  * A station is a sender and a receiver, and knows which of the two a byte is for. Where both sides send, use it in
- * place of the two: one sender and one receiver on such a line can lose a text (docs/LINK.md, 'Both ways of one line').
+ * place of the two: one sender and one receiver on such a line can lose a text (docs/protocol.md, 'Both ways of one line').
  * Hear all that came before you let the timer run out. The sender's duty is a station's too: no late reply may come
  * once a session starts after one that timed out or was restarted, nor once ENQ goes out again after a wait. */
 
@@ -598,7 +598,7 @@ lis_status lis_station_line_start(lis_station_line *line, lis_bytes *out, lis_pl
 lis_status lis_station_line_start_lent(lis_station_line *line, const lis_text *texts, size_t texts_len, lis_bytes *out,
                                        lis_place *fault);
 /* Whether a late reply could meet the station's next ENQ, that of a start or the one after a wait: over a line that
- * answers late, connect it anew first (docs/LINK.md, 'Both ways of a line that answers late'). */
+ * answers late, connect it anew first (docs/protocol.md, 'Both ways of a line that answers late'). */
 bool lis_station_line_needs_new(const lis_station_line *line);
 
 /* ---- Records, each a text without its CR. These calls take no memory and keep nothing. ---- */

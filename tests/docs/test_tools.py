@@ -15,12 +15,12 @@ from tests import kit, side_by_side
 
 # What tools/trust must say of a wrong change: the file, its text, the wrong one, and a part of what is said.
 WRONG = [
-    ("docs/TRUST.md", "`laws::safe_of` of `lis_world` (over", "`laws::safe_of` of `lis_link` (over",
+    ("docs/proof.md", "`laws::safe_of` of `lis_world` (over", "`laws::safe_of` of `lis_link` (over",
      "laws::safe_of, which lis_link has not"),
-    ("docs/TRUST.md", "`failed`; `split`, `next_place`", "`failed`; `cut`, `next_place`",
+    ("docs/proof.md", "`failed`; `split`, `next_place`", "`failed`; `cut`, `next_place`",
      "cut, which is no public function"),
-    ("docs/TRUST.md", "`read_sent`: `sent`", "`read_sent`: `empty`", "empty, which is no clause"),
-    ("docs/DEFINITIONS.md", "## `Steps`:", "## `LeadsTo`:", "LeadsTo, which no public contract cites"),
+    ("docs/proof.md", "`read_sent`: `sent`", "`read_sent`: `empty`", "empty, which is no clause"),
+    ("docs/proof.md", "## `Steps`:", "## `LeadsTo`:", "LeadsTo, which no public contract cites"),
     ("crates/lis_engine/src/print.rt", "use Rattle.lis_engine.specs.Output.{IsPut, IsWorking};",
      "use Rattle.lis_engine.specs.Output.{IsPut, IsWorking};\nghost use Rattle.lis_run.specs.inside.Show.{heard_line};",
      "heard_line is cited by a public contract"),
@@ -57,7 +57,7 @@ WAYS = [
 ]
 # What changes nothing that is promised.
 HARMLESS = [
-    ("docs/TRUST.md", "`lis_port`: `ok`, `err`", "`lis_port`: `err`, `ok`"),
+    ("docs/proof.md", "`lis_port`: `ok`, `err`", "`lis_port`: `err`, `ok`"),
     ("crates/lis_report/src/refused.rt", "    ghost text = { λ it. refused_line it.message it.fault };",
      "    ghost text = { λ one. refused_line one.message one.fault };"),
     ("docs/pinned.table", "| Sink for Discard | taken, sent, failed |", "| Sink for Discard | failed, sent, taken |"),

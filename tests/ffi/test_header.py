@@ -12,7 +12,7 @@ from tests.ffi.c import HEADER, IN_C, IN_PYTHON, OURS, WARNINGS, compilers, fami
 SOURCES = os.path.join(ROOT, "crates/lis_c/src")
 # They have the structs of a part and of a record's place.
 TABLES = [os.path.join(ROOT, "crates", name) for name in ("lis_table/src/table.rt", "lis_message_table/src/places.rt")]
-PAGES = ["docs/C.md", "docs/PYTHON.md", "docs/EMBEDDING.md"]
+PAGES = ["docs/first-program.md", "docs/library.md"]
 NUMBERS = {"u8": "uint8_t", "u32": "uint32_t", "u64": "uint64_t", "usize": "size_t", "bool": "bool"}
 
 

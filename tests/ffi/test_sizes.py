@@ -42,18 +42,18 @@ def code_of(path):
 
 class Sizes(kit.Test):
     def setUp(self):
-        self.work, self.page = kit.folder_of(self), kit.read("docs/EMBEDDING.md")
+        self.work, self.page = kit.folder_of(self), kit.read("docs/library.md")
         self.archive, self.build = kit.built("archive"), kit.built("build")
 
     def figures(self, row):
         """The numbers of a row of the page's table."""
         found = re.search(rf"^\| {re.escape(row)}[^|]*\| ([^|]*) \|$", self.page, re.M)
-        self.assertTrue(found, f"docs/EMBEDDING.md has no row '{row}'")
+        self.assertTrue(found, f"docs/library.md has no row '{row}'")
         return [int(it.replace(",", "")) for it in re.findall(r"[\d,]*\d", found[1])]
 
     def near(self, name, said, found):
         """Within a twentieth: compilers differ a little."""
-        self.check(abs(said - found) <= found / 20, f"docs/EMBEDDING.md: {name}", f"{said} on the page, {found} built")
+        self.check(abs(said - found) <= found / 20, f"docs/library.md: {name}", f"{said} on the page, {found} built")
 
     def test_blocks(self):
         with open(f"{self.work}/sizes.c", "w") as file:
@@ -66,7 +66,7 @@ class Sizes(kit.Test):
             self.check(int(size) <= int(constant) and align % int(multiple) == 0, f"LIS_{kind.upper()}_BLOCK",
                        f"{constant} at a multiple of {align}, for {size} at a multiple of {multiple}")
         said = self.figures("block of a scanner, a sender, a receiver, a station, a reader, a writer")
-        self.same("docs/EMBEDDING.md: blocks", said, [*(int(size) for _, size, _, _ in rows), int(rows[0][2])])
+        self.same("docs/library.md: blocks", said, [*(int(size) for _, size, _, _ in rows), int(rows[0][2])])
 
     def test_code(self):
         self.near("code", self.figures("code of the whole library")[0], code_of(self.archive))
@@ -80,7 +80,7 @@ class Sizes(kit.Test):
     def test_symbols(self):
         calls = symbols("-u", f"{self.build}/liblislink.a") - symbols("--defined-only", f"{self.build}/liblislink.a")
         said = re.search(r"It calls ((?:`\w+`(?:, | and )?)+)", self.page)
-        self.same("docs/EMBEDDING.md: what the library calls", set(re.findall(r"\w+", said[1])) - {"and"},
+        self.same("docs/library.md: what the library calls", set(re.findall(r"\w+", said[1])) - {"and"},
                   calls - {"malloc", "realloc", "free"})
         declared = set(re.findall(r"^(?:const char \*|\w+ )(lis_\w+)\(", kit.read(HEADER), re.M))
         shared = f"{self.build}/liblislink.so.1"
