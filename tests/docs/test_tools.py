@@ -20,7 +20,7 @@ WRONG = [
     ("docs/proof.md", "`failed`; `split`, `next_place`", "`failed`; `cut`, `next_place`",
      "cut, which is no public function"),
     ("docs/proof.md", "`read_sent`: `sent`", "`read_sent`: `empty`", "empty, which is no clause"),
-    ("docs/proof.md", "## `Steps`:", "## `LeadsTo`:", "LeadsTo, which no public contract cites"),
+    ("docs/proof.md", "### `Steps`:", "### `LeadsTo`:", "LeadsTo, which no public contract cites"),
     ("crates/lis_engine/src/print.rt", "use Rattle.lis_engine.specs.Output.{IsPut, IsWorking};",
      "use Rattle.lis_engine.specs.Output.{IsPut, IsWorking};\nghost use Rattle.lis_run.specs.inside.Show.{heard_line};",
      "heard_line is cited by a public contract"),
