@@ -470,7 +470,7 @@ lis_status lis_receiver_text(const lis_receiver *s, uint8_t *out, size_t out_len
 /* ---- Station: a side of a line on which both sides send (LIS01-A2, 6.2.7 and 6.5). ----
  *
  * A station is a sender and a receiver, and knows which of the two a byte is for. Where both sides send, use it in
- * place of the two: one sender and one receiver on such a line can lose a text (docs/protocol.md, 'Both ways of one line').
+ * place of the two: one sender and one receiver on such a line can lose a text (docs/protocol.md, 'A bidirectional line').
  * Hear all that came before you let the timer run out. The sender's duty is a station's too: no late reply may come
  * once a session starts after one that timed out or was restarted, nor once ENQ goes out again after a wait. */
 
@@ -598,7 +598,7 @@ lis_status lis_station_line_start(lis_station_line *line, lis_bytes *out, lis_pl
 lis_status lis_station_line_start_lent(lis_station_line *line, const lis_text *texts, size_t texts_len, lis_bytes *out,
                                        lis_place *fault);
 /* Whether a late reply could meet the station's next ENQ, that of a start or the one after a wait: over a line that
- * answers late, connect it anew first (docs/protocol.md, 'Both ways of a line that answers late'). */
+ * answers late, connect it anew first (docs/protocol.md, 'A bidirectional line that answers late'). */
 bool lis_station_line_needs_new(const lis_station_line *line);
 
 /* ---- Records, each a text without its CR. These calls take no memory and keep nothing. ---- */
