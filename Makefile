@@ -166,8 +166,8 @@ deb: build
 release:
 	@tools/release $(BUILD)/release
 
-docs:
-	@tools/docs $(BUILD)/docs
+docs: build
+	@BUILD=$(BUILD) tools/docs $(BUILD)/docs
 	@echo 'The references are in $(BUILD)/docs/index.html'
 
 # Harnesses of libFuzzer over the library, so many seconds each.
