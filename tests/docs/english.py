@@ -78,7 +78,7 @@ def terms(table):
     """The rows of the table of terms: what is not written, as a pattern, and what is written in its place."""
     for line in table.split("\n"):
         if line.strip() and not line.startswith("#"):
-            form, plain = (it.strip() for it in line.split(" | "))
+            plain, _, _, form = (it.strip() for it in re.split(r" \|(?= )", line, maxsplit=3))
             yield re.compile(rf"\b(?:{form})\b", re.I), plain
 
 
