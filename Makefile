@@ -6,7 +6,7 @@
 # make deb      makes packages of Debian of them, for amd64 and arm64 if both compilers are there
 # make release  makes what is released in build/release: archive, packages, wheels, sums, parts, notes
 # make debug    builds the library once more with a mark in front of each block, which names one that is used wrongly
-# make docs     makes the references for C, C++, Rust and Python, in build/docs (doxygen, cargo, python3-sphinx)
+# make docs     makes the references of all languages and the crates, and sizes, in build/docs (doxygen, cargo, sphinx)
 #
 # CC, CFLAGS and LDFLAGS as ever: make CC=aarch64-linux-gnu-gcc BUILD=build/arm64. OLD=1 builds also if dist/ is older
 # than crates/.
