@@ -6,7 +6,7 @@
 # make deb      makes packages of Debian of them, for amd64 and arm64 if both compilers are there
 # make release  makes what is released in build/release: archive, packages, wheels, sums, parts, notes
 # make debug    builds the library once more with a mark in front of each block, which names one that is used wrongly
-# make docs     makes the references for C, C++, Rust and Python, in build/docs (doxygen, cargo, python3-sphinx)
+# make docs     makes the references of all languages and the crates, and sizes, in build/docs (doxygen, cargo, sphinx)
 #
 # CC, CFLAGS and LDFLAGS as ever: make CC=aarch64-linux-gnu-gcc BUILD=build/arm64. OLD=1 builds also if dist/ is older
 # than crates/.
@@ -25,7 +25,7 @@
 # make roots                             what `make release` makes, and a clone, in bare roots (root, debootstrap)
 # make soak     [PARTS="kills=1000 .."]  the host by fire, for hours (tests/host/more soak)
 # make plant CRATE=lis_link              wrong bodies that the kit makes up: what a crate's contracts let through
-# make bench                             speed, memory and instructions; writes docs/PERFORMANCE.md (ten minutes at most)
+# make bench                             speed, memory and instructions; writes build/docs/speed.md (ten minutes at most)
 #
 # make bench-check                       fails if a command makes over 3 % more instructions a byte; in make prove
 
@@ -87,7 +87,7 @@ demo: build
 	@echo '  tools/lislab capture samples/tour.socat -o session.capture'
 	@echo '  build/lislink replay < session.capture'
 	@echo '  build/lislink texts < session.capture | build/lislink results'
-	@echo 'README.md explains them, docs/C.md, CPP.md, RUST.md and PYTHON.md the library.'
+	@echo 'README.md explains them, docs/first-program.md and docs/library.md the library.'
 
 test: build
 	@tools/needed python
@@ -166,8 +166,8 @@ deb: build
 release:
 	@tools/release $(BUILD)/release
 
-docs:
-	@tools/docs $(BUILD)/docs
+docs: build
+	@BUILD=$(BUILD) tools/docs $(BUILD)/docs
 	@echo 'The references are in $(BUILD)/docs/index.html'
 
 # Harnesses of libFuzzer over the library, so many seconds each.

@@ -1,4 +1,4 @@
-"""The part of docs/PERFORMANCE.md that bench/run writes: what was measured in one run, and when, of what, on what."""
+"""The page build/docs/speed.md that bench/run writes: what was measured in one run, and when, of what, on what."""
 import os
 import statistics
 import time
@@ -7,9 +7,20 @@ from dataclasses import dataclass, field
 import measured
 import programs
 
-DOCUMENT = os.path.join(programs.ROOT, "docs/PERFORMANCE.md")
-PLOT = os.path.join(programs.ROOT, "docs/performance.svg")
-BEGIN, END = "<!-- bench/run writes what follows -->", "<!-- bench/run wrote what is above -->"
+DOCUMENT = os.path.join(programs.ROOT, "build/docs/speed.md")
+PLOT = os.path.join(programs.ROOT, "docs/pictures/speed.svg")
+HEAD = """# Speed and memory
+
+`bench/run` measures `lislink` and the peer, a second program in safe Rust over the standard library (`bench/peer`),
+without proofs and without the crates of this repository. Both are compiled for the same processor. Their output is
+compared first, byte for byte; then they run one after the other on the same file. Times are the processor's, those of
+start-up and of the plot from start to end. "Times the peer" is the peer's time divided by that of `lislink`, the median
+of the rounds; the middle half of the rounds follows it. Instructions per byte are counted by callgrind, as the difference
+of two runs, and don't vary with load. Memory is that of a stream of 256 MB: the most that was resident, about 1,000 KiB
+of which are pages of the C library that all programs share, and the program's own. The inputs are generated
+(`bench/inputs.py`), the same in every run.
+
+"""
 # How many times the speed of the independent program a row is to make.
 WANTED = 1.5
 NONE = "–"
@@ -103,7 +114,7 @@ def of_sizes(found):
            "start and end of the process included.")
     largest = max(size for points in found.curves.values() for size, _ in points)
     yield f"MB/s by the size of the input, 1 KB to {largest / 1e6:,.0f} MB, start and end of the process included:"
-    yield from ["", "![MB/s by the size of the input](performance.svg)", ""]
+    yield from ["", "![MB/s by the size of the input](../../docs/pictures/speed.svg)", ""]
 
 
 def of_trees(found):
@@ -172,14 +183,10 @@ def written(found):
 
 
 def write(lines, drawing):
-    """Writes the lines into the document, and the plot next to it."""
-    with open(DOCUMENT, encoding="utf-8") as file:
-        front, begin, rest = file.read().partition(BEGIN)
-    _, end, back = rest.partition(END)
-    if not (begin and end):
-        raise SystemExit(f"{DOCUMENT} has no part to write")
+    """Writes the page, and the plot of docs/design.md."""
+    os.makedirs(os.path.dirname(DOCUMENT), exist_ok=True)
     with open(DOCUMENT, "w", encoding="utf-8") as file:
-        file.write(f"{front}{BEGIN}\n\n" + "\n".join(lines) + f"\n{END}{back}")
+        file.write(HEAD + "\n".join(lines).rstrip("\n") + "\n")
     if drawing:
         with open(PLOT, "w", encoding="ascii") as file:
             file.write(drawing)

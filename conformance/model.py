@@ -1,7 +1,7 @@
 """A plain model of the link, of captures and of the commands, for tests to compare programs with; that of records is in
 record_model.py, that of two stations in station_model.py.
 
-They are written from docs/COMMANDS.md, CAPTURES.md, LINK.md and RECORDS.md, by the definitions and not by any program:
+They are written from docs/lislink.md and docs/protocol.md, by the definitions and not by any program:
 a stream's signals are looked for by places, a message is read whole. Speed is no aim, but each function is linear in
 its input.
 
@@ -92,7 +92,7 @@ MOST_TRIES = 6
 
 
 class Sender:
-    """The analyzer's sender, by the table of docs/LINK.md. Each event answers what is emitted."""
+    """The analyzer's sender, by the table of docs/protocol.md. Each event answers what is emitted."""
 
     def __init__(self, limit):
         self.limit, self.phase, self.acknowledged, self.outcome = limit, "Neutral", 0, "none"
@@ -155,7 +155,7 @@ Step = namedtuple("Step", "place note reply text")
 
 
 class Receiver:
-    """The computer's receiver, by the table of docs/LINK.md. `refusals` has the places of growths that fail, counted
+    """The computer's receiver, by the table of docs/protocol.md. `refusals` has the places of growths that fail, counted
     over accepted frames whose text isn't empty."""
 
     def __init__(self, limit, refusals=()):
@@ -237,7 +237,7 @@ MARK = re.compile(rb"[\x02\x04\x05\x0a]")
 
 
 class CarefulReceiver(Receiver):
-    """A receiver that hears carefully, by docs/LINK.md. While the line is open ENQ ends the session as EOT does, with
+    """A receiver that hears carefully, by docs/protocol.md. While the line is open ENQ ends the session as EOT does, with
     no reply, and what came before it is forgotten. A frame goes from its STX to the next LF, so an STX within it is one of
     its bytes, which no frame may hold. `noise` counts each such ENQ and STX on an open line."""
 
@@ -291,7 +291,7 @@ class Session:
 
 
 class Link:
-    """A link between a new sender and a new receiver, by docs/LINK.md. Each event is a method. On a line that answers
+    """A link between a new sender and a new receiver, by docs/protocol.md. Each event is a method. On a line that answers
     late a reply that comes after the sender's timer or restart is delivered like any other, a session starts only on an
     empty link, and the line can be connected anew."""
 

@@ -1,4 +1,4 @@
-"""A plain model of two stations on one line, by the section of docs/LINK.md on both ways; the two ends of a station are
+"""A plain model of two stations on one line, by the section of docs/protocol.md on both ways; the two ends of a station are
 those of model.py, which answers the rows of the kind 'both' by it.
 
 Seen from a station, 'out' is what it has sent and the other one has not heard.

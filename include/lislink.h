@@ -1,5 +1,23 @@
-/* Both ends, analyzer and computer, of the laboratory link of CLSI LIS01-A2 (ASTM E1381), and the records of CLSI
- * LIS02-A2 (ASTM E1394), for C99 and C++11. This is version 1 of the interface; docs/EMBEDDING.md says what is stable.
+/* Both ends, analyzer and host, of the laboratory link of CLSI LIS01-A2 (ASTM E1381), and the records of CLSI LIS02-A2
+ * (ASTM E1394), for C99 and C++11. This is version 1 of the interface; docs/library.md says what is stable.
+ *
+ * A loop that receives. `store` is yours: it gets the text by lis_receiver_text and returns whether it is on the disk.
+ *
+ *     lis_receiver receiver = {malloc(lis_receiver_size())};
+ *     lis_receiver_init(receiver.at);
+ *     while ((got = read(line, bytes, sizeof bytes)) > 0)
+ *         for (size_t heard = 0; heard < (size_t)got;) {
+ *             heard += lis_receiver_hear(&receiver, bytes + heard, (size_t)got - heard, &step);
+ *             if (step.has_text && !store(&receiver)) {
+ *                 lis_receiver_restart(&receiver);
+ *                 break;
+ *             }
+ *             if (step.reply != 0 && write(line, &step.reply, 1) != 1)
+ *                 break;
+ *         }
+ *     lis_receiver_end(receiver);
+ *
+ * docs/first-program.md has the same with a clock, so that no reply is late, and in C++, Rust and Python.
  *
  * Link with liblislink, which has its heap in it. A program without malloc links with the archive of the proved crate
  * and brings a heap (the end of this file). Each call is proved to be safe, to end, and to do what the contract above
@@ -20,19 +38,18 @@
  *   - One thread at a time uses a handle and its block. Two handles have nothing in common.
  *   - No call is made from a signal handler, or in a forked child of a process with threads.
  *
- * Nothing else is asked: every length, every number and every order of calls is allowed. Of the caller's pointers a
- * handle keeps that to its block, and a sender or a station those to the texts that stay with the caller; no call keeps
- * another.
- * No call blocks, prints or aborts, and one that takes its handle as const changes nothing. The library has no variable
- * of its own. Nothing checks a caller in C: docs/EMBEDDING.md lists what he can do wrong, and what happens then.
+ * Nothing else is asked: every length, every number and every order of calls is allowed. A handle keeps the pointer to
+ * its block, and a sender or a station the pointers to borrowed texts; no call keeps another pointer. No call blocks,
+ * prints or aborts, and one that takes its handle as const changes nothing. The library has no variable of its own.
+ * Nothing checks a caller in C: docs/library.md lists the mistakes that a caller can make, and their consequences.
  *
  * The line. What is acknowledged has arrived, on two conditions that only the caller can keep:
  *
- *   - Keep, then reply: the computer keeps a text where it lasts before it sends the reply (lis_step, below).
+ *   - Store, then reply: the host stores a text where it lasts before it sends the reply (lis_step, below).
  *   - No reply after its timer: a late ACK would acknowledge a frame of the next session that nobody took. So the
  *     analyzer takes a new connection at the start of its process, and after a session that timed out or was
  *     restarted. On a serial line it waits longer than the computer takes to answer, drops all that came, and starts
- *     then. The computer sends no reply if it last saw the line empty more than 10 seconds ago, which is two thirds of
+ *     then. The host sends no reply if it last saw the line empty more than 10 seconds ago, which is two thirds of
  *     LIS_SECONDS_REPLY: it calls lis_receiver_restart instead.
  *
  * Memory. These take some: a sender in lis_sender_add_text, a receiver for the text that it holds, a station as these
@@ -50,11 +67,11 @@
 #define LIS_INTERFACE 1
 /* The release that this header is of, as the file VERSION has it; lis_version() has that of the library. */
 #define LIS_VERSION "0.2.0"
-/* Its first number. */
+/* The major version of that release. */
 #define LIS_VERSION_MAJOR 0
-/* Its second number. */
+/* Its minor version. */
 #define LIS_VERSION_MINOR 2
-/* Its third number. */
+/* Its patch number. */
 #define LIS_VERSION_PATCH 0
 
 /* A family of constants is a type of one byte: by the language in C++ and C23, by an attribute in gcc and clang, whose
@@ -181,11 +198,11 @@ LIS_ENUM(lis_fault) {
     LIS_FAULT_SUM = 5           /* its checksum is another */
 } LIS_ENUM_END(lis_fault);
 
-/* A signal. What its kind doesn't have is 0. */
+/* A signal. Fields that do not apply to its kind are 0. */
 typedef struct lis_signal {
     lis_signal_kind kind;   /* what it is */
     uint8_t number;         /* of a good frame: its number */
-    bool last;              /* of a good frame: whether it is the last of its message */
+    bool last;              /* of a good frame: whether it is an end frame, the last of its text */
     lis_fault fault;        /* of a bad frame: what is wrong with it */
     size_t place;           /* with LIS_FAULT_FORBIDDEN: the byte's place in the text */
     size_t len;             /* of LIS_SIGNAL_FRAME: how many bytes its text has; lis_scanner_text has a long one's */
@@ -470,7 +487,8 @@ lis_status lis_receiver_text(const lis_receiver *s, uint8_t *out, size_t out_len
 /* ---- Station: a side of a line on which both sides send (LIS01-A2, 6.2.7 and 6.5). ----
  *
  * A station is a sender and a receiver, and knows which of the two a byte is for. Where both sides send, use it in
- * place of the two: one sender and one receiver on such a line can lose a text (docs/LINK.md, 'Both ways of one line').
+ * place of the two: one sender and one receiver on such a line can lose a text (docs/protocol.md, 'A bidirectional
+ * line').
  * Hear all that came before you let the timer run out. The sender's duty is a station's too: no late reply may come
  * once a session starts after one that timed out or was restarted, nor once ENQ goes out again after a wait. */
 
@@ -598,7 +616,7 @@ lis_status lis_station_line_start(lis_station_line *line, lis_bytes *out, lis_pl
 lis_status lis_station_line_start_lent(lis_station_line *line, const lis_text *texts, size_t texts_len, lis_bytes *out,
                                        lis_place *fault);
 /* Whether a late reply could meet the station's next ENQ, that of a start or the one after a wait: over a line that
- * answers late, connect it anew first (docs/LINK.md, 'Both ways of a line that answers late'). */
+ * answers late, connect it anew first (docs/protocol.md, 'A bidirectional line that answers late'). */
 bool lis_station_line_needs_new(const lis_station_line *line);
 
 /* ---- Records, each a text without its CR. These calls take no memory and keep nothing. ---- */

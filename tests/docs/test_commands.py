@@ -1,4 +1,4 @@
-"""The list of commands at the head of docs/COMMANDS.md is the one that drives the others: each of its commands is in
+"""The list of commands at the head of docs/lislink.md is the one that drives the others: each of its commands is in
 the program's words and their definition, in the model, in rows, in the tests and in the benchmark, and none is there
 that it lacks. `tools/man` makes the synopsis of it."""
 import glob
@@ -16,7 +16,7 @@ WORDS = (("crates/*/specs/Words.antt", r'codes "(\w+)"'), ("crates/*/src/words.r
 
 def listed():
     """The commands of the list, each with the flags that it takes."""
-    return dict(re.findall(r"^    lislink (\w+)((?: \[--\w+\])*)  ", kit.read("docs/COMMANDS.md"), re.M))
+    return dict(re.findall(r"^    lislink (\w+)((?: \[--\w+\])*)  ", kit.read("docs/lislink.md"), re.M))
 
 
 class Commands(kit.Test):
@@ -27,11 +27,11 @@ class Commands(kit.Test):
 
     def setUp(self):
         self.commands = listed()
-        self.assertTrue(self.commands, "docs/COMMANDS.md has no list of commands")
+        self.assertTrue(self.commands, "docs/lislink.md has no list of commands")
 
     def test_headings(self):
-        heads = set(re.findall(r"^## (\w+)$", kit.read("docs/COMMANDS.md"), re.M)) - {"Examples"}
-        self.is_listed("headings of docs/COMMANDS.md", heads)
+        heads = set(re.findall(r"^## (\w+)$", kit.read("docs/lislink.md"), re.M)) - {"Examples"}
+        self.is_listed("headings of docs/lislink.md", heads)
 
     def test_words(self):
         for form, word in WORDS:

@@ -1,4 +1,4 @@
-"""docs/RATTLE.md, from nothing to a message received: its steps are run by the kit, but for the proof, and its program is
+"""docs/rattle.md, from nothing to a message received: its steps are run by the kit, but for the proof, and its program is
 tried with a frame that is damaged and a text that can't be kept."""
 import os
 import re
@@ -34,13 +34,13 @@ def run(folder, words, **how):
 
 class Rattle(kit.Test):
     def test_page(self):
-        self.needs("rt", shutil.which("rt"), 4, "the steps of docs/RATTLE.md")
+        self.needs("rt", shutil.which("rt"), 4, "the steps of docs/rattle.md")
         folder = kit.folder_of(self)
         copy(folder)
-        steps = re.search(r"```sh\n(.*?)```", kit.read("docs/RATTLE.md"), re.S)[1]
+        steps = re.search(r"```sh\n(.*?)```", kit.read("docs/rattle.md"), re.S)[1]
         self.check(steps.count("\nrt check ") == 1, "the steps end with a proof")
         printed, status = run(folder, ["bash", "-e", "-c", steps[:steps.index("\nrt check ")]])
-        self.check(status == 0 and PRINTED.search(printed), "the steps of docs/RATTLE.md", repr(printed[-1000:]))
+        self.check(status == 0 and PRINTED.search(printed), "the steps of docs/rattle.md", repr(printed[-1000:]))
         good = frame(1, b"H|\\^&\r")
         with open(os.path.join(folder, "session"), "wb") as file:
             file.write(ENQ + good.replace(b"H", b"h") + good + ENQ)

@@ -15,12 +15,12 @@ from tests import kit, side_by_side
 
 # What tools/trust must say of a wrong change: the file, its text, the wrong one, and a part of what is said.
 WRONG = [
-    ("docs/TRUST.md", "`laws::safe_of` of `lis_world` (over", "`laws::safe_of` of `lis_link` (over",
+    ("docs/proof.md", "`laws::safe_of` of `lis_world` (over", "`laws::safe_of` of `lis_link` (over",
      "laws::safe_of, which lis_link has not"),
-    ("docs/TRUST.md", "`failed`; `split`, `next_place`", "`failed`; `cut`, `next_place`",
+    ("docs/proof.md", "`failed`; `split`, `next_place`", "`failed`; `cut`, `next_place`",
      "cut, which is no public function"),
-    ("docs/TRUST.md", "`read_sent`: `sent`", "`read_sent`: `empty`", "empty, which is no clause"),
-    ("docs/DEFINITIONS.md", "## `Steps`:", "## `LeadsTo`:", "LeadsTo, which no public contract cites"),
+    ("docs/proof.md", "`read_sent`: `sent`", "`read_sent`: `empty`", "empty, which is no clause"),
+    ("docs/proof.md", "### `Steps`:", "### `LeadsTo`:", "LeadsTo, which no public contract cites"),
     ("crates/lis_engine/src/print.rt", "use Rattle.lis_engine.specs.Output.{IsPut, IsWorking};",
      "use Rattle.lis_engine.specs.Output.{IsPut, IsWorking};\nghost use Rattle.lis_run.specs.inside.Show.{heard_line};",
      "heard_line is cited by a public contract"),
@@ -47,17 +47,17 @@ CODES = [
     ("bindings/rust/lislink/src/codes.rs", "//! The families of", "//! All families of", ""),
     ("bindings/codes.table", "# The families of", "# All families of", ""),
 ]
-# A call in show.rt, and others in its place: whether each is a function more on the way.
+# A call in show.rt, and others in its place: how many functions more each is on the way.
 WAY_CALL = "    scanner.take(byte);\n"
 WAYS = [
     (WAY_CALL + "    crate::playing::count_of(&None);\n", 1),
-    ("", 1),
+    ("", -1),
     (WAY_CALL + "    scanner.take(byte);\n", 0),
     (WAY_CALL + "    // count_of(&None);\n", 0),
 ]
 # What changes nothing that is promised.
 HARMLESS = [
-    ("docs/TRUST.md", "`lis_port`: `ok`, `err`", "`lis_port`: `err`, `ok`"),
+    ("docs/proof.md", "`lis_port`: `ok`, `err`", "`lis_port`: `err`, `ok`"),
     ("crates/lis_report/src/refused.rt", "    ghost text = { λ it. refused_line it.message it.fault };",
      "    ghost text = { λ one. refused_line one.message one.fault };"),
     ("docs/pinned.table", "| Sink for Discard | taken, sent, failed |", "| Sink for Discard | failed, sent, taken |"),
@@ -171,9 +171,6 @@ class Tools(kit.Test):
                 good = any(said in line for line in told[:-1]) if said else told[-1].endswith(" 0 failed")
                 self.check(good, f"{change[0]}: {change[2]}", "\n".join(told))
 
-    def test_way(self):
-        self.counts("tools/way")
-
     def test_way_sees_what_is_wrong(self):
         """A new call on the way of a byte is a function more, and one that is gone is a function less; the same call
         twice changes nothing, nor does one in a comment."""
@@ -182,9 +179,12 @@ class Tools(kit.Test):
                 shutil.copytree(os.path.join(kit.ROOT, it), os.path.join(folder, it),
                                 ignore=shutil.ignore_patterns("out", "must-fail", "mutants", "harmless", "proofs"))
             shutil.copy(os.path.join(kit.ROOT, "crates.txt"), folder)
+            first, *others = self.said_of(folder, [], "tools/way")
+            self.check(len(others) == 2, "a line for each command", [first, *others])
+            count = int(first.split()[1])
             for new, more in WAYS:
                 told = self.said_of(folder, [("crates/lis_run/src/show.rt", WAY_CALL, new)], "tools/way")
-                self.check(told[-1] == f"way: {1 - more} passed, {more} failed", new, "\n".join(told))
+                self.same(new, told, [f"show    {count + more} functions", *others])
 
     def test_man(self):
         self.counts("tools/man")

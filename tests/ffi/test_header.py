@@ -4,7 +4,9 @@ import glob
 import os
 import re
 import subprocess
+import sys
 import textwrap
+from types import SimpleNamespace
 
 from tests import ROOT, kit
 from tests.ffi.c import HEADER, IN_C, IN_PYTHON, OURS, WARNINGS, compilers, families
@@ -12,8 +14,39 @@ from tests.ffi.c import HEADER, IN_C, IN_PYTHON, OURS, WARNINGS, compilers, fami
 SOURCES = os.path.join(ROOT, "crates/lis_c/src")
 # They have the structs of a part and of a record's place.
 TABLES = [os.path.join(ROOT, "crates", name) for name in ("lis_table/src/table.rt", "lis_message_table/src/places.rt")]
-PAGES = ["docs/C.md", "docs/PYTHON.md", "docs/EMBEDDING.md"]
+PAGES = ["docs/first-program.md", "docs/library.md"]
 NUMBERS = {"u8": "uint8_t", "u32": "uint32_t", "u64": "uint64_t", "usize": "size_t", "bool": "bool"}
+
+
+#: What a loop at the head of a header needs around it.
+LOOPS = {"lislink.h": """#include "lislink.h"
+#include <stdlib.h>
+#include <unistd.h>
+bool store(lis_receiver *receiver);
+void receive(int line);
+void receive(int line) { unsigned char bytes[512]; ssize_t got; lis_step step;
+LOOP}
+""", "lislink.hpp": """#include <lislink.hpp>
+#include <cstdio>
+#include <unistd.h>
+bool store(std::string_view text);
+void receive(int line);
+void receive(int line) { char bytes[512]; ssize_t got;
+LOOP}
+"""}
+
+
+def loop_of(path):
+    """The loop that receives in the first comment of a file."""
+    lines = re.sub(r"(?m)^(?: \*|//)(?: |$)", "", kit.read(path)).split("\n")
+    begun = next(number for number, line in enumerate(lines) if line.startswith("A loop that receives")) + 1
+    block = []
+    for line in lines[begun:]:
+        if block and line.strip() and not line.startswith("    "):
+            break
+        if line.startswith("    ") or (block and line.strip()):
+            block.append(line)
+    return textwrap.dedent("\n".join(block)) + "\n"
 
 
 def c_name(name):
@@ -128,6 +161,22 @@ class Header(kit.Test):
             ran = subprocess.run([*compiler.split(), *words], capture_output=True, text=True)
             self.has(f"{compiler}: a status that isn't looked at", ran.stderr, said)
             self.check("a macro stays" not in ran.stderr, compiler, "a macro of lislink.h stays")
+
+    def test_loops(self):
+        """The loops at the heads of lislink.h and lislink.hpp compile, and the one of the package receives."""
+        work = kit.folder_of(self)
+        for name, words in (("lislink.h", ["gcc", "-std=c99", "-xc"]), ("lislink.hpp", ["g++", "-std=c++17", "-xc++"])):
+            with open(f"{work}/loop", "w") as file:
+                file.write(LOOPS[name].replace("LOOP", loop_of(f"include/{name}")))
+            self.runs([*words, *WARNINGS, "-c", f"{work}/loop", "-o", f"{work}/loop.o"])
+        kit.library()
+        sys.path.insert(0, os.path.join(ROOT, "python/src"))
+        import lislink
+        texts, sent = [], []
+        pieces = [b"\x05", lislink.frame_bytes(1, True, b"L|1\r"), b""]
+        line = SimpleNamespace(recv=lambda _: pieces.pop(0), sendall=sent.append)
+        exec(loop_of("python/src/lislink/__init__.py"), {"lislink": lislink, "line": line, "store": texts.append})
+        self.same("what the loop of the package stores and sends", (texts, sent), ([b"L|1\r"], [b"\x06", b"\x06"]))
 
     def test_quotations(self):
         """Each block of C or Python on a page is in a sample, whole and in its order, at one depth."""

@@ -3,7 +3,7 @@ sent again. Each change of short frames, at both limits on a text, and by the mo
 with texts of up to 240 bytes, at each place, to a byte that the link reads and to another one. Nothing is acknowledged
 that wasn't taken.
 
-And two changed bytes: how many pairs of changes of a frame of the samples are read as another frame, as docs/LINK.md
+And two changed bytes: how many pairs of changes of a frame of the samples are read as another frame, as docs/protocol.md
 says."""
 import glob
 import random
@@ -128,5 +128,5 @@ class TwoBytes(kit.Test):
         total, unnoticed = sum(map(pairs.all_of, frames)), sum(map(pairs.unnoticed, frames))
         said = f"{len(frames)} frames of the samples {unnoticed:,} of {total:,} pairs"
         print(f"two bytes: {said}, one in {total / unnoticed:.0f}")
-        page = " ".join(kit.read("docs/LINK.md").split())
-        self.check(said in page, f"docs/LINK.md doesn't say: {said}")
+        page = " ".join(kit.read("docs/protocol.md").split())
+        self.check(said in page, f"docs/protocol.md doesn't say: {said}")

@@ -1,10 +1,10 @@
-"""What the pages say of sizes and symbols, compared with what is built: blocks and their constants, code, what the
-library calls, and what the shared one exports."""
+"""Sizes and symbols: what tools/sizes measures, the constants of blocks, what the library calls, and what the shared one
+exports."""
 import os
 import re
 import subprocess
 
-from tests import kit
+from tests import ROOT, kit
 from tests.ffi.c import BARE, HEADER, WARNINGS, source
 
 KINDS = ["scanner", "sender", "receiver", "station", "reader", "writer"]
@@ -42,18 +42,19 @@ def code_of(path):
 
 class Sizes(kit.Test):
     def setUp(self):
-        self.work, self.page = kit.folder_of(self), kit.read("docs/EMBEDDING.md")
+        self.work, self.page = kit.folder_of(self), " ".join(kit.read("docs/library.md").split())
         self.archive, self.build = kit.built("archive"), kit.built("build")
+        self.sizes = subprocess.run([f"{ROOT}/tools/sizes", self.build], capture_output=True, text=True).stdout
 
     def figures(self, row):
-        """The numbers of a row of the page's table."""
-        found = re.search(rf"^\| {re.escape(row)}[^|]*\| ([^|]*) \|$", self.page, re.M)
-        self.assertTrue(found, f"docs/EMBEDDING.md has no row '{row}'")
+        """The numbers of a row that tools/sizes prints."""
+        found = re.search(rf"^\| {re.escape(row)}[^|]*((?:\| [^|]* )+)\|$", self.sizes, re.M)
+        self.assertTrue(found, f"tools/sizes prints no row '{row}'")
         return [int(it.replace(",", "")) for it in re.findall(r"[\d,]*\d", found[1])]
 
     def near(self, name, said, found):
         """Within a twentieth: compilers differ a little."""
-        self.check(abs(said - found) <= found / 20, f"docs/EMBEDDING.md: {name}", f"{said} on the page, {found} built")
+        self.check(abs(said - found) <= found / 20, f"tools/sizes: {name}", f"{said} printed, {found} built")
 
     def test_blocks(self):
         with open(f"{self.work}/sizes.c", "w") as file:
@@ -65,22 +66,21 @@ class Sizes(kit.Test):
         for kind, size, multiple, constant in rows:
             self.check(int(size) <= int(constant) and align % int(multiple) == 0, f"LIS_{kind.upper()}_BLOCK",
                        f"{constant} at a multiple of {align}, for {size} at a multiple of {multiple}")
-        said = self.figures("block of a scanner, a sender, a receiver, a station, a reader, a writer")
-        self.same("docs/EMBEDDING.md: blocks", said, [*(int(size) for _, size, _, _ in rows), int(rows[0][2])])
+            self.same(f"tools/sizes: a {kind}", self.figures(f"a {kind}"), [int(size), int(multiple)])
 
     def test_code(self):
-        self.near("code", self.figures("code of the whole library")[0], code_of(self.archive))
+        self.near("code", self.figures("the whole library")[0], code_of(self.archive))
         if self.runs([*BARE, source("bare.c"), self.archive, "-o", f"{self.work}/bare"]):
             words = ["size", "-A", f"{self.work}/bare"]
             lines = subprocess.run(words, capture_output=True, text=True, check=True).stdout
-            code, room = self.figures("`examples/c/bare.c`, linked")
+            (code,), (room,) = self.figures("`examples/c/bare.c`, linked"), self.figures("its blocks, buffers and pool")
             self.near("code of bare.c", code, code_of(f"{self.work}/bare"))
             self.near("blocks of bare.c", room, int(re.search(r"^\.bss\s+(\d+)", lines, re.M)[1]))
 
     def test_symbols(self):
         calls = symbols("-u", f"{self.build}/liblislink.a") - symbols("--defined-only", f"{self.build}/liblislink.a")
         said = re.search(r"It calls ((?:`\w+`(?:, | and )?)+)", self.page)
-        self.same("docs/EMBEDDING.md: what the library calls", set(re.findall(r"\w+", said[1])) - {"and"},
+        self.same("docs/library.md: what the library calls", set(re.findall(r"\w+", said[1])) - {"and"},
                   calls - {"malloc", "realloc", "free"})
         declared = set(re.findall(r"^(?:const char \*|\w+ )(lis_\w+)\(", kit.read(HEADER), re.M))
         shared = f"{self.build}/liblislink.so.1"

@@ -4,6 +4,15 @@
 `Message` makes data of the records that a reader read, and `order_texts` the records of orders. The command is
 `lislab`. The package itself is tested and not proved. The standard's timers are `REPLY`, `BUSY`, `CONTENTION` and
 `RECEIVER`, in seconds; a frame's text has at most `FRAME_TEXT` bytes, or `LONG_FRAME_TEXT` with the long limit.
+
+A loop that receives stores each text before the reply goes out. If `store` raises an exception, no reply is sent::
+
+    with lislink.Receiver(careful=True) as receiver:
+        while data := line.recv(4096):
+            for step in receiver.hear(data):
+                if step.text is not None:
+                    store(step.text)
+                line.sendall(step.reply)
 """
 from ._library import LibraryMissing
 from .capture import Capture, CaptureError, Line, read_capture, write_lines

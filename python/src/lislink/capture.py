@@ -1,4 +1,4 @@
-"""Captures: what went over a link in both directions, as docs/CAPTURES.md has them. Read and written in Python."""
+"""Captures: what went over a link in both directions, as docs/lislink.md has them. Read and written in Python."""
 import re
 from typing import Iterable, List, NamedTuple, Optional, Tuple
 

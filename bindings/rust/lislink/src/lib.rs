@@ -1,15 +1,39 @@
-//! Both ends, analyzer and computer, of the laboratory link of CLSI LIS01-A2 (ASTM E1381), and the records of CLSI
+//! Both ends, analyzer and host, of the laboratory link of CLSI LIS01-A2 (ASTM E1381), and the records of CLSI
 //! LIS02-A2 (ASTM E1394), over the C calls of liblislink. The C calls are proved; this crate is tested and not proved.
 //!
-//! - A [`Receiver`] hears bytes. [`Receiver::hear`] keeps each text before it gives the reply that acknowledges it.
+//! - A [`Receiver`] hears bytes. [`Receiver::hear`] has each text stored before it gives the reply that acknowledges it.
 //! - A [`Sender`] sends texts. A session starts only on a [`Connection`] on which no late reply can come.
 //! - A [`Station`] does both, on a line on which both sides send.
-//! - A [`Reader`] reads the records of a stream, a [`Writer`] writes them, a [`Scanner`] reads frames alone.
+//! - A [`Reader`] reads the records of a stream, a [`Writer`] writes them, a [`Scanner`] reads only frames.
 //! - A [`Message`] has the records of a message where they are in its text, each with the one that it is under.
 //!
-//! Nothing here does input or output or has a clock: the caller moves the bytes and runs the timers.
+//! Nothing here does input or output or has a clock: the caller moves the bytes and runs the timers. Each of these is
+//! `Send` and not `Sync`: one thread at a time uses it.
 //!
-//! Each of these is `Send` and not `Sync`: one thread at a time uses it.
+//! A loop that receives stores each text before the reply goes out:
+//!
+//! ```
+//! use lislink::{Heard, Receiver};
+//! use std::io::{Read, Write};
+//!
+//! fn receive(mut line: impl Read + Write, mut store: impl Write) -> std::io::Result<()> {
+//!     let mut receiver = Receiver::new();
+//!     let mut bytes = [0; 512];
+//!     loop {
+//!         let got = line.read(&mut bytes)?;
+//!         if got == 0 {
+//!             return Ok(());
+//!         }
+//!         let keep = |text: &[u8]| store.write_all(text).and_then(|()| store.flush()).is_ok();
+//!         let send = |reply| line.write_all(&[reply]).is_ok();
+//!         if receiver.hear(&bytes[..got], keep, send) == Heard::GaveUp {
+//!             eprintln!("no reply was sent: the analyzer sends this session again");
+//!         }
+//!     }
+//! }
+//! ```
+//!
+//! [`Receiver::hear_since`] does the same and sends no reply that could be late.
 #![deny(missing_docs)]
 #![warn(missing_debug_implementations)]
 #![warn(clippy::missing_errors_doc, clippy::must_use_candidate)]
