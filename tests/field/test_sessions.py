@@ -1,4 +1,4 @@
-"""Ladders: they agree with the proved program on every capture, and docs/DIALECTS.md says what is so."""
+"""Ladders: they agree with the proved program on every capture, and docs/troubleshoot.md says what is so."""
 import glob
 import os
 import random
@@ -340,8 +340,8 @@ class Sessions(FieldTest):
             self.same(f"a malformed line in {data[:20]!r}", found[1] if found else None, wanted[1] if wanted else None)
 
     def test_dialects(self):
-        """Each row of docs/DIALECTS.md."""
-        with open(os.path.join(ROOT, "docs", "DIALECTS.md"), encoding="utf-8") as file:
+        """Each row of docs/troubleshoot.md."""
+        with open(os.path.join(ROOT, "docs", "troubleshoot.md"), encoding="utf-8") as file:
             rows = [
                 [cell.strip() for cell in line.strip().strip("|").split("|")]
                 for line in file

@@ -245,8 +245,8 @@ class Oru(WithLibrary):
                   [("2345-7", "LN", "10*9/L^10\\S\\9/L^UCUM"), ("POT", "L", ""), ("NA", "L", "mmol/L")])
 
     def test_page(self):
-        """The sample of DELIVER.md is what is written of the sample that it names."""
-        page = kit.read("docs/DELIVER.md")
+        """The sample of deliver.md is what is written of the sample that it names."""
+        page = kit.read("docs/deliver.md")
         block = re.search(r"(?ms)^```\n(MSH.*?)^```$", page)[1]
         with open("samples/panel.records", "rb") as file:
             out = oru_of(stored(file.read(), "KEY")).decode().replace("\r", "\n")

@@ -370,7 +370,7 @@ def add_forms(one: argparse.ArgumentParser) -> None:
     one.add_argument("--controls", choices=("with", "without", "only"), default="with", help="(%(default)s)")
     one.add_argument("--fields", metavar="NAMES", help="the columns of csv and tsv, as lislab table has them")
     one.add_argument("--safe-cells", action="store_true", help="an apostrophe before cells of csv that are formulas")
-    names = "what the receiver wants: MSH-5=LIS, practice=HOSP PI, obr=test; more in DELIVER.md"
+    names = "what the receiver wants: MSH-5=LIS, practice=HOSP PI, obr=test; more in deliver.md"
     one.add_argument("--set", action="append", default=[], metavar="NAME=VALUE", help=names)
 
 

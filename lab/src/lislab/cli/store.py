@@ -101,7 +101,7 @@ def run_restore(ask: argparse.Namespace) -> int:
 
 def _sqlite(store: str) -> str:
     if store.startswith("spool:") or "://" in store:
-        raise OptionError(f"{store} is no SQLite file: docs/SERVICE.md says how a spool and PostgreSQL are copied")
+        raise OptionError(f"{store} is no SQLite file: docs/operate.md says how a spool and PostgreSQL are copied")
     return store
 
 
