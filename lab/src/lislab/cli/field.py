@@ -31,8 +31,9 @@ def add_commands(commands: Any) -> None:
 
 
 def _import_options(parser: argparse.ArgumentParser) -> None:
+    forms = sorted([*sniffers.FORMS, "pcap", "raw"])
     parser.add_argument(
-        "--form", choices=sorted([*sniffers.FORMS, "pcap", "raw"]), help="format of the log, if it is not recognized"
+        "--form", choices=forms, metavar="FORMAT", help="format of the log, if it is not recognized"
     )
     parser.add_argument("--analyzer-side", metavar="NAME", help="name of the analyzer's side in the log")
     parser.add_argument("--swap", action="store_true", help="take the other side for the analyzer")
