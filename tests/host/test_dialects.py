@@ -21,7 +21,7 @@ AFTER = ("ctrl-z", "behind-l")
 def rows(end):
     """The rows of samples that end so: the name, what lislab says, and what helps. `As above` has the row above it."""
     with open(os.path.join(ROOT, "docs", "troubleshoot.md"), encoding="utf-8") as file:
-        found = re.findall(rf"^\| `([\w-]+)\.{end}` \| .* \| (.*) \| (.*) \|$", file.read(), re.M)
+        found = re.findall(rf"^\| `([\w-]+)\.{end}` \| (.*) \| (.*) \|$", file.read(), re.M)
     above = ""
     for name, says, helps in found:
         above = f"{above} {helps}" if helps.startswith("As above") else helps
