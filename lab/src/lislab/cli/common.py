@@ -20,7 +20,8 @@ class Renamed(argparse.Action):
 
     def __call__(self, parser: Any, namespace: argparse.Namespace, values: Any, option_string: Optional[str] = None) -> None:
         say(f"{option_string} is now {self.const}; the next version accepts only {self.const}")
-        setattr(namespace, self.dest, [*getattr(namespace, self.dest), values])
+        before = getattr(namespace, self.dest)
+        setattr(namespace, self.dest, [*before, values] if isinstance(before, list) else values)
 
 
 def read_input(path: str) -> bytes:

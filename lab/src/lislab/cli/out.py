@@ -1,5 +1,6 @@
 """The commands that bring messages out of a store: `lislab deliver` and `lislab codes`."""
 import argparse
+import functools
 import os
 import signal
 from types import FrameType
@@ -17,6 +18,7 @@ from ..model.stores import open_store
 from ..out import aside, https, mllp
 from ..out import deliver, export
 from ..out.tables import tables_of
+from .common import Renamed
 from .host import _COUNT, _FACTOR, _store, add_forms, form_asked
 
 #: Exit statuses, as those of the other commands.
@@ -54,15 +56,18 @@ def _add_deliver(one: argparse.ArgumentParser) -> None:
     )
     one.add_argument("--once", action="store_true", help="deliver what there is, then exit")
     one.add_argument(
-        "--aside",
+        "--quarantine",
         type=_COUNT,
         default=0,
         metavar="N",
         help="quarantine a message after N failures, with later messages of its samples",
     )
     one.add_argument(
-        "--again", metavar="KEY", help="send this quarantined message and those that share its samples; all: every one"
+        "--resend", metavar="KEY", help="send this quarantined message and those that share its samples; all: every one"
     )
+    old = functools.partial(one.add_argument, action=Renamed, help=argparse.SUPPRESS)
+    old("--aside", dest="quarantine", const="--quarantine", type=_COUNT, metavar="N")
+    old("--again", dest="resend", const="--resend", metavar="KEY")
     one.add_argument(
         "words", nargs="*", metavar="COMMAND", help="after --: a command that reads one message from standard input"
     )
@@ -109,7 +114,7 @@ def _target_of(ask: argparse.Namespace, form: export.Form, lock: int) -> deliver
 
 def run_deliver(ask: argparse.Namespace) -> int:
     """Delivers until it is stopped, or what there is, or what was set aside."""
-    if ask.again is not None:
+    if ask.resend is not None:
         return _run_again(ask)
     form = _form_of(ask)
     store = open_store(ask.store)
@@ -151,7 +156,7 @@ def _wants(ask: argparse.Namespace) -> "deliver.Wants":
 
 
 def _aside_of(ask: argparse.Namespace, form: export.Form) -> aside.Aside:
-    kept = aside.Aside(ask.cursor, int(ask.aside), *([form.tables.reading] if form.tables else []))
+    kept = aside.Aside(ask.cursor, int(ask.quarantine), *([form.tables.reading] if form.tables else []))
     if kept.most or kept.held:
         calls()  # without the library no sample could be read
     return kept
@@ -159,14 +164,14 @@ def _aside_of(ask: argparse.Namespace, form: export.Form) -> aside.Aside:
 
 def _run_again(ask: argparse.Namespace) -> int:
     """Sends what is set aside; if a delivery has the cursor, that one is asked to."""
-    if not aside.is_key(ask.again):
-        raise OptionError(f"--again {ask.again}: the key of a message is wanted, or the word all")
-    named = aside.Aside(ask.cursor).together(ask.again)
+    if not aside.is_key(ask.resend):
+        raise OptionError(f"--resend {ask.resend}: the key of a message is wanted, or the word all")
+    named = aside.Aside(ask.cursor).together(ask.resend)
     if not named:
-        say(f"{ask.cursor}: nothing is set aside" + ("" if ask.again == aside.ALL else f" by the key {ask.again}"))
+        say(f"{ask.cursor}: nothing is set aside" + ("" if ask.resend == aside.ALL else f" by the key {ask.resend}"))
         return WRONG
     if _is_taken(ask.cursor):
-        aside.wish(ask.cursor, ask.again)
+        aside.wish(ask.cursor, ask.resend)
         say(f"{len(named)} messages are sent by the delivery that has {ask.cursor}")
         return GOOD
     form = _form_of(ask)
@@ -175,7 +180,7 @@ def _run_again(ask: argparse.Namespace) -> int:
     try:
         target = _target_of(ask, form, cursor.lock)
         one = deliver.Delivery(store, cursor, target, say, aside=_aside_of(ask, form))
-        return GOOD if deliver.run_again(one, ask.again) else WRONG
+        return GOOD if deliver.run_again(one, ask.resend) else WRONG
     finally:
         cursor.close()
         store.close()
