@@ -23,7 +23,7 @@ _STATES = (
 def add_commands(commands: Any) -> None:
     """Adds the command to those of lislab."""
     top = commands.add_parser("order", "add, list, cancel or resend orders")
-    whats = top.add_subparsers(dest="what", required=True, metavar="WHAT")
+    whats = top.add_subparsers(dest="what", required=True, metavar="COMMAND")
     _add_add(whats.add_parser("add", help="add the orders of a file", description="Add the orders of a file."))
     _add_list(whats.add_parser("list", help="list orders with their states", description="List orders with their states.", epilog=_STATES))
     _add_change(whats.add_parser("cancel", help="cancel orders that are not sent", description="Cancel orders that are not sent."), run_cancel)

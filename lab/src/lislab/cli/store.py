@@ -24,7 +24,7 @@ _BESIDE = ("", "-wal", "-shm")
 def add_command(commands: Any) -> None:
     """Adds the command to those of lislab."""
     store = commands.add_parser("store", "back up, restore, check or upgrade a store")
-    deeds = store.add_subparsers(dest="deed", metavar="DEED", required=True)
+    deeds = store.add_subparsers(dest="deed", metavar="COMMAND", required=True)
     for name, run, what in (
         ("backup", run_backup, "copy a store while its host runs, with the cursors and quarantine of its deliveries"),
         ("restore", run_restore, "make a store from a copy; no file of a store may exist there"),
