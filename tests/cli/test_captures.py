@@ -1,4 +1,4 @@
-"""The ways to make a capture of docs/troubleshoot.md; tests/field has the others."""
+"""The ways to make a capture of docs/lislink.md; tests/field has the others."""
 import os
 import re
 import subprocess
