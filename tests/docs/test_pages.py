@@ -24,7 +24,7 @@ import time
 from tests import ROOT, kit
 
 PAGES = ["README.md", "CONTRIBUTING.md", "CHANGELOG.md", "SECURITY.md", "docs/*.md", "conformance/README.md",
-         "python/README.md", "lab/README.md"]
+         "python/README.md", "lab/README.md", "samples/makers/README.md"]
 SOURCES = {
     "rust": ["crates/uses/src/*.rt", "crates/quick_results/src/*.rt", "crates/lis_tests/src/*.rt", "examples/rattle/*.rs",
              "bindings/rust/**/*.rs"],

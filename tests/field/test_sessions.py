@@ -1,4 +1,4 @@
-"""Ladders: they agree with the proved program on every capture, and docs/DIALECTS.md says what is so."""
+"""Ladders: they agree with the proved program on every capture, and docs/troubleshoot.md says what is so."""
 import glob
 import os
 import random
@@ -11,7 +11,7 @@ from lislab.field.ladder import Ladder
 from lislab.field.looks import looks_of
 from lislab.field.page import page_of
 from lislink.message import Fault, Found
-from tests import ROOT
+from tests import ROOT, kit
 from tests.field.lab import FieldTest, lislab
 
 DIALECTS = os.path.join(ROOT, "samples", "dialects")
@@ -340,19 +340,16 @@ class Sessions(FieldTest):
             self.same(f"a malformed line in {data[:20]!r}", found[1] if found else None, wanted[1] if wanted else None)
 
     def test_dialects(self):
-        """Each row of docs/DIALECTS.md."""
-        with open(os.path.join(ROOT, "docs", "DIALECTS.md"), encoding="utf-8") as file:
-            rows = [
-                [cell.strip() for cell in line.strip().strip("|").split("|")]
-                for line in file
-                if re.match(r"\| `[\w-]+\.\w+`", line)
-            ]
-        named = {row[0].strip("`") for row in rows}
+        """Each row of docs/troubleshoot.md, and what `lislink` prints by dialects.table."""
+        rows = re.findall(r"(?m)^\| `([\w-]+\.\w+)` \| (.*) \| (.*) \|$", kit.read("docs/troubleshoot.md"))
+        printed = dict(re.findall(r"(?m)^([\w-]+\.\w+) \| (.*)$", kit.read("tests/field/dialects.table")))
+        named = {row[0] for row in rows}
+        self.same("each row has its output", sorted(named), sorted(printed))
         self.same("each sample has a row", sorted(named), sorted(os.listdir(DIALECTS)))
         links, records = [sum(name.endswith(end) for name in named) for end in (".capture", ".records")]
         self.check(links >= 25 and records >= 20, "25 dialects of the link and 20 of records", f"{links}, {records}")
-        for sample, seen, words, helps in rows:
-            sample = sample.strip("`")
+        for sample, words, helps in rows:
+            seen, words = printed[sample], words.replace("`", "")
             path = os.path.join(DIALECTS, sample)
             if sample.endswith(".capture"):
                 of_link_row(self, sample, path, seen, words)

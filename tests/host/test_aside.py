@@ -113,7 +113,7 @@ class Dying:
 
 
 class Asides(HostTest):
-    """`lislab deliver --aside` and `--again`."""
+    """`lislab deliver --quarantine` and `--resend`."""
 
     def test_aside(self):
         """A message that fails twice is set aside with later ones of its sample, and sent again with them."""
@@ -128,9 +128,9 @@ class Asides(HostTest):
     def is_set_aside(self, one):
         """The first message fails."""
         one.fails(0)
-        first = lislab(*one.words("--aside", "2", "--once"))
+        first = lislab(*one.words("--quarantine", "2", "--once"))
         self.same("it fails once", (first.returncode, one.taken()), (1, []))
-        second = lislab(*one.words("--aside", "2", "--once"))
+        second = lislab(*one.words("--quarantine", "2", "--once"))
         self.same("others go on, and those of its samples wait", (second.returncode, one.taken()), (1, [1, 3, 6]))
         self.has("it is said which", second.stderr, f"{one.keys[0]} is set aside: {sys.executable} ended with status 7")
         self.has("and how many", second.stderr, "4 messages are set aside")
@@ -139,25 +139,28 @@ class Asides(HostTest):
         held = json.loads(lislab(*shown, "--json").stdout)["undelivered"][0]["aside"]
         self.same("and why", [(it["tries"], it["why"][:9]) for it in held], [
             (2, sys.executable[:9]), (0, "waits for"), (0, "waits for"), (0, "waits for")])
-        self.same("without --aside they wait too", lislab(*one.words("--once")).returncode, 1)
-        bad = lislab(*one.words("--again", one.keys[4]))
+        self.same("without --quarantine they wait too", lislab(*one.words("--once")).returncode, 1)
+        bad = lislab(*one.words("--resend", one.keys[4]))
         self.same("it fails again", (bad.returncode, one.taken()), (1, [1, 3, 6]))
         one.fails()
-        good = lislab(*one.words("--again", one.keys[4]))
+        good = lislab(*one.words("--resend", one.keys[4]))
         self.same("all of them go, in order", (good.returncode, one.taken()), (0, [1, 3, 6, 0, 2, 4, 5]))
         self.same("nothing is left", lislab(*shown).stdout.count("set aside"), 0)
-        self.same("there is none to send", lislab(*one.words("--again", "all")).returncode, 1)
-        self.same("a key that is none", lislab(*one.words("--again", "../x")).returncode, 2)
+        self.same("there is none to send", lislab(*one.words("--resend", "all")).returncode, 1)
+        self.same("a key that is none", lislab(*one.words("--resend", "../x")).returncode, 2)
+        old = lislab(*one.words("--aside", "1", "--again", "all"))
+        for words in ("--aside is now --quarantine", "--again is now --resend"):
+            self.has(f"an old name: {words}", old.stderr, words)
 
     def test_again_of_one_that_runs(self):
         """A delivery that runs takes up what is asked for."""
         one = Taker(self, "running", [records(["A"]), records(["A"]), records(["B"])])
         one.fails(0)
-        process(["-m", "lislab", *one.words("--aside", "1")])
+        process(["-m", "lislab", *one.words("--quarantine", "1")])
         self.true("others go on", wait_for(lambda: one.taken() == [2], 60), str(one.taken()))
         self.true("it is noted", wait_for(lambda: len(aside.held_of(one.cursor)) == 2, 60))
         one.fails()
-        words = ["deliver", "--store", one.store, "--cursor", one.cursor, "--again", one.keys[0]]
+        words = ["deliver", "--store", one.store, "--cursor", one.cursor, "--resend", one.keys[0]]
         done = lislab(*words)
         self.same("it is asked to", (done.returncode, "2 messages are sent by the" in done.stderr), (0, True))
         self.true("it sends them", wait_for(lambda: one.taken() == [2, 0, 1], 60), str(one.taken()))
@@ -166,7 +169,7 @@ class Asides(HostTest):
     def test_what_is_not_counted(self):
         """A command that isn't there is no failure of the message."""
         one = Taker(self, "there", [records(["A"])])
-        words = one.words("--aside", "1", "--once")
+        words = one.words("--quarantine", "1", "--once")
         done = lislab(*words[: words.index("--") + 1], self.path("no command"))
         self.same("the status", done.returncode, 1)
         self.same("nothing is set aside", aside.held_of(one.cursor), [])

@@ -91,7 +91,7 @@ class Connect(HostTest):
         """Sessions are kept, with the peer's address; neither --lines, --address-lines nor --allow is about them."""
         ones = [Listening(self), Listening(self)]
         words = [f"--connect={one.word(f'name={name}')}" for one, name in zip(ones, "ab")]
-        host = self.begun("--lines", "1", "--address-lines", "1", "--listen", "0,name=in", *words)
+        host = self.begun("--max-lines", "1", "--address-lines", "1", "--listen", "0,name=in", *words)
         for number, one in enumerate(ones):
             one.accept().send([*TEXTS[:-1], b"C|1|I|%d\r" % number, TEXTS[-1]])
         self.true("they are kept", wait_for(lambda: len(Found(host.store).whole) == 2))

@@ -82,7 +82,7 @@ class Deliver(HostTest):
         file = self.path("fire.lines")
         with open(file, "w", encoding="ascii") as out:
             out.write("[fire]\nlisten = 1\nsample = O.4.3\n")
-        done, files, held = self.deliver("oru", [], "--format", "oru", "--lines", file, "--again", "all")
+        done, files, held = self.deliver("oru", [], "--format", "oru", "--lines", file, "--resend", "all")
         self.same("with the setting it is delivered", (done.returncode, len(files), held), (0, 3, []))
         self.has("under its sample", files[0], "OBR|1||A|")
 
@@ -171,7 +171,7 @@ class Deliver(HostTest):
         code = ("import os, signal, sys\nsys.stdin.read()\n"
                 f"if os.environ['LISLAB_KEY'] == {keys[0]!r}: os.kill(os.getppid(), signal.SIGKILL)\n"
                 f"open({log!r}, 'a').write(os.environ['LISLAB_NUMBER'])\n")
-        words = ["deliver", "--store", store, "--cursor", cursor, "--once", "--aside", "2", "--", sys.executable, "-c"]
+        words = ["deliver", "--store", store, "--cursor", cursor, "--once", "--quarantine", "2", "--", sys.executable, "-c"]
         for wanted in (-signal.SIGKILL, -signal.SIGKILL, 1):
             done = lislab(*words, code)
             self.same("how it ended", done.returncode, wanted)
@@ -183,7 +183,7 @@ class Deliver(HostTest):
         """A delivery that is stopped while it tries doesn't count this as a failure."""
         store, cursor, log = self.path("stop.db"), self.path("stop.cursor"), self.path("stop.log")
         keep(store, [records(["A"])])
-        words = ["--store", store, "--cursor", cursor, "--aside", "1", "--", sys.executable, "-c", SLOW, log]
+        words = ["--store", store, "--cursor", cursor, "--quarantine", "1", "--", sys.executable, "-c", SLOW, log]
         for _ in range(2):
             count = len(rows_of(log))
             one = process(["-m", "lislab", "deliver", *words])

@@ -1,4 +1,4 @@
-"""What docs/DIALECTS.md says of a host: each row's setting delivers its sample, and without it the host names the
+"""What docs/troubleshoot.md says of a host: each row's setting delivers its sample, and without it the host names the
 setting."""
 import asyncio
 import os
@@ -20,8 +20,8 @@ AFTER = ("ctrl-z", "behind-l")
 
 def rows(end):
     """The rows of samples that end so: the name, what lislab says, and what helps. `As above` has the row above it."""
-    with open(os.path.join(ROOT, "docs", "DIALECTS.md"), encoding="utf-8") as file:
-        found = re.findall(rf"^\| `([\w-]+)\.{end}` \| .* \| (.*) \| (.*) \|$", file.read(), re.M)
+    with open(os.path.join(ROOT, "docs", "troubleshoot.md"), encoding="utf-8") as file:
+        found = re.findall(rf"^\| `([\w-]+)\.{end}` \| (.*) \| (.*) \|$", file.read(), re.M)
     above = ""
     for name, says, helps in found:
         above = f"{above} {helps}" if helps.startswith("As above") else helps

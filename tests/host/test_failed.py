@@ -248,7 +248,7 @@ class Ways(Hides, HostTest):
         """What the states of orders mean is said where they are listed."""
         told = " ".join(lislab("order", "list", "--help").stdout.split())
         for words in ("waiting until it is sent", "sent when the analyzer has acknowledged", "failed, with the reason",
-                      "cancelled, and not sent"):
+                      "cancelled and not sent"):
             self.has(words, told, words)
 
     def test_queries(self):

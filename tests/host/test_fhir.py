@@ -439,7 +439,7 @@ class Https(Certified, WithLibrary):
             ("another's authority", ["--ca", others[0]], "localhost"),
             ("another name", ["--ca", files[0]], "127.0.0.1"),
         ):
-            done = self.deliver("certificate.cursor", server, "--aside", "1", *words, host=host)
+            done = self.deliver("certificate.cursor", server, "--quarantine", "1", *words, host=host)
             said = "certificate verify failed" in done.stderr
             self.same(f"{name}: it is said", (done.returncode, said), (1, True))
             self.same(f"{name}: nothing was sent", server.taken, [])

@@ -275,7 +275,7 @@ class Lines(HostTest):
 
     def test_limits(self):
         """Limits on lines, on the size of a message, on silence and on the receiver's timer."""
-        words = ["--lines", "2", "--message-bytes", "1000", "--idle", "4"]
+        words = ["--max-lines", "2", "--message-bytes", "1000", "--idle", "4"]
         host = Host(self.path("limits.db"), *words, scale=LATE)
         with Client(host.port) as one, Client(host.port) as two:
             self.same("two are heard", (one.asks(ENQ), two.asks(ENQ)), (ACK, ACK))
@@ -454,7 +454,8 @@ class Lines(HostTest):
             (["--listen", "0", "--allow", "10.0.0.0/99"], "--allow"),
             (["--listen", "0", "--reply-within", "15"], "15 seconds"),
             ([], "name a line"),
-            (["--listen", "0", "--lines", "0"], "at least 1"),
+            (["--lines", "5"], "--lines N is now --max-lines N"),
+            (["--listen", "0", "--max-lines", "0"], "at least 1"),
             (["--listen", "0", "--idle", "nan"], "at least 0.001"),
         ):
             done = lislab("serve", "--store", self.path("words.db"), *words)

@@ -285,7 +285,7 @@ class LinesFile(HostTest):
             self.true("a new line", stack.enter_context(Client(ports["goes"])).whole(TEXTS))
         order = self.written("order.csv", "sample,tests\nS7,GLU\n")
         self.same("an order", lislab("order", "add", "--store", host.store, order).returncode, 0)
-        asked = lislab("send", "--to", f"127.0.0.1:{ports['long']}", "--scale", str(SLOW), "--ask", "S7")
+        asked = lislab("send", "--to", f"127.0.0.1:{ports['long']}", "--scale", str(SLOW), "--query", "S7")
         self.has("a line that sends orders now", asked.stdout, "O|1|S7||^^^GLU")
         self.same("the host's status", host.stop(), 0)
         self.true("the new line's name", "comes" in [one.line for one in Found(host.store).whole])

@@ -19,7 +19,7 @@ class Load(HostTest):
         """200 analyzers at once, each with a message a second if the machine can: they get their replies; how soon is
         said."""
         store, log, each = self.path("many.db"), self.path("many.log"), hosts.size("analyzers")
-        host = Host(store, "--lines", "250", scale=NEVER)
+        host = Host(store, "--max-lines", "250", scale=NEVER)
         many = ["--analyzers", "200", "--made", str(each), "--rate", "1"]
         said = sending(host.port, *many, "--log", log, scale=NEVER).communicate()[1]
         self.same("the host's status", host.stop(), 0)

@@ -68,7 +68,7 @@ class Makers(HostTest):
         places = lines.lines_of(f"{FOLDER}/makers.lines", options.ANY).places
         self.same("their sections", sorted(one.name for one in places), NAMES)
         self.same("how many", len(NAMES), 8)
-        page = kit.read("docs/ANALYZERS.md")
+        page = kit.read("samples/makers/README.md")
         for name in NAMES:
             self.has(f"{name}: where it is from", kit.read(f"{FOLDER}/{name}.play"), "# From memory of the maker's")
             self.has(f"{name}: the page", page, f"`{name}`")

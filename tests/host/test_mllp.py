@@ -245,8 +245,8 @@ class Oru(WithLibrary):
                   [("2345-7", "LN", "10*9/L^10\\S\\9/L^UCUM"), ("POT", "L", ""), ("NA", "L", "mmol/L")])
 
     def test_page(self):
-        """The sample of DELIVER.md is what is written of the sample that it names."""
-        page = kit.read("docs/DELIVER.md")
+        """The sample of deliver.md is what is written of the sample that it names."""
+        page = kit.read("docs/deliver.md")
         block = re.search(r"(?ms)^```\n(MSH.*?)^```$", page)[1]
         with open("samples/panel.records", "rb") as file:
             out = oru_of(stored(file.read(), "KEY")).decode().replace("\r", "\n")
@@ -431,12 +431,12 @@ class Receivers(WithLibrary):
         self.raises("nobody listens", deliver.Unreachable, lambda: one.deliver(b"MSH|", "k"))
 
     def test_rejected(self):
-        """A message that a receiver rejects is set aside by --aside, and the others go on."""
+        """A message that a receiver rejects is set aside by --quarantine, and the others go on."""
         store, cursor = self.path("rejected.db"), self.path("rejected.cursor")
         keys = keep(store, [records([one]) for one in "ABAC"])
         ids = [oru.control_id(key) for key in keys]
         receiver = Scripted(lambda at, key: ack(b"AR" if key == ids[0].encode() else b"AA", key))
-        words = ["--cursor", cursor, "--to", f"mllp://127.0.0.1:{receiver.port}", "--once", "--aside", "1"]
+        words = ["--cursor", cursor, "--to", f"mllp://127.0.0.1:{receiver.port}", "--once", "--quarantine", "1"]
         done = self.run_it("deliver", "--store", store, *words)
         receiver.close()
         self.same("the status", done.returncode, 1)

@@ -626,18 +626,20 @@ class Answers(HostTest):
         self.true("said", "order 1 of sample S7 has failed: the line was closed" in host.says(), host.says())
 
     def test_a_whole_round(self):
-        """`lislab send --ask`: the orders are printed, and results sent for them."""
+        """`lislab send --query`: the orders are printed, and results sent for them."""
         host, port = self.started()
         file = self.path("values.csv")
         with open(file, "w", encoding="utf-8") as out:
             out.write("GLU,5.5,mmol/L\nK,4.1,mmol/L\n")
         to = ["--to", f"127.0.0.1:{port}", "--scale", str(SLOW)]
-        done = lislab("send", *to, "--ask", "S7", "--results", file)
+        done = lislab("send", *to, "--query", "S7", "--results", file)
         self.same("status", done.returncode, 0)
         self.true("orders", "O|1|S7||^^^GLU\\^^^K|" in done.stdout, done.stdout)
         rows = [json.loads(row) for row in lislab("export", "--store", host.store).stdout.splitlines()]
         self.same("messages", len(rows), 2)
         self.true("results", "5.5" in json.dumps(rows[1]), rows[1])
+        old = lislab("send", *to, "--ask", "S99")
+        self.true("the old name", old.returncode == 0 and "--ask is now --query" in old.stderr, old.stderr)
 
 
 class Desks(HostTest):

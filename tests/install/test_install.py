@@ -130,7 +130,9 @@ def in_its_root(test, package, work):
               env=kit.without_library(PYTHONPATH=f"{root}/usr/lib/python3/dist-packages", LD_LIBRARY_PATH=lib,
                                       PYTHONDONTWRITEBYTECODE="1"))
     for name in ("lib/systemd/system/lislab@.service", "lib/systemd/system/lislab-watch@.service",
-                 "usr/lib/sysusers.d/lislab.conf", "usr/share/doc/lislink/examples/alerts.yml"):
+                 "usr/lib/sysusers.d/lislab.conf", "usr/share/doc/lislink/examples/alerts.yml",
+                 "usr/share/doc/lislink/examples/plays/results/noise.play", "usr/share/doc/lislink/operate.md",
+                 "usr/share/man/man5/lislab.lines.5.gz"):
         test.check(os.path.exists(f"{root}/{name}"), f"the package has {name}")
     test.runs([*dpkg, "--verify", "lislink"], "")
     test.runs([*dpkg, "--purge", "lislink"])

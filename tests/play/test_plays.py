@@ -365,8 +365,8 @@ class Lines(kit.Test):
         self.check(took[0] > 1.2 and took[1] < 1700, f"how long it took: {took}")
 
     def test_page(self):
-        """The ten steps of docs/PLAY.md, and a host that takes a wrong checksum."""
-        text = kit.read("docs/PLAY.md")
+        """The ten steps of docs/validate.md, and a host that takes a wrong checksum."""
+        text = kit.read("docs/validate.md")
         rows = re.search(r"\n    play 1\n    # A damaged frame.*?\n    end\n", text, re.S)[0]
         path = os.path.join(kit.folder_of(self), "mine.play")
         with open(path, "w", encoding="utf-8") as file:

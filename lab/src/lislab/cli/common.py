@@ -1,6 +1,7 @@
-"""What the commands share: exit statuses, standard error, files."""
+"""What the commands share: exit statuses, standard error, files, options with an old name."""
+import argparse
 import sys
-from typing import Optional
+from typing import Any, Optional
 
 from ..model.files import write_whole
 from ..model.said import shown
@@ -12,6 +13,15 @@ GOOD, LOOKS_WRONG, USAGE, STOPPED = 0, 1, 2, 3
 def say(text: str) -> None:
     """Lines on standard error."""
     print("lislab: " + "\n".join(map(shown, text.split("\n"))), file=sys.stderr)
+
+
+class Renamed(argparse.Action):
+    """An option under its old name, which this version accepts and reports: `const` has the new one."""
+
+    def __call__(self, parser: Any, namespace: argparse.Namespace, values: Any, option_string: Optional[str] = None) -> None:
+        say(f"{option_string} is now {self.const}; the next version accepts only {self.const}")
+        before = getattr(namespace, self.dest)
+        setattr(namespace, self.dest, [*before, values] if isinstance(before, list) else values)
 
 
 def read_input(path: str) -> bytes:

@@ -23,32 +23,31 @@ from .common import GOOD, LOOKS_WRONG, USAGE, read_input, say, write_output
 
 def add_commands(commands: Any) -> None:
     """Adds the commands to those of `lislab`."""
-    _add_ladder(commands.add_parser("ladder", help="show a capture or a log as a ladder, and what looks wrong"))
-    _add_capture(commands.add_parser("capture", help="make a capture of a sniffer's log"))
-    both = "compare a capture in which both sides send with what a computer must answer"
-    _add_replay(commands.add_parser("replay", help=both))
-    changes = "make record files of dialects readable, each change by its option"
-    _add_normalize(commands.add_parser("normalize", help=changes))
-    _add_table(commands.add_parser("table", help="write results as CSV, TSV or JSON lines"))
+    _add_ladder(commands.add_parser("ladder", "show a recorded session step by step, and what looks wrong"))
+    _add_capture(commands.add_parser("capture", "convert the log of a sniffer to a capture"))
+    _add_replay(commands.add_parser("replay", "compare the computer's replies in a capture with the standard's"))
+    _add_normalize(commands.add_parser("normalize", "fix files of records that break the standard"))
+    _add_table(commands.add_parser("table", "write results as CSV, TSV or JSON lines"))
 
 
 def _import_options(parser: argparse.ArgumentParser) -> None:
+    forms = sorted([*sniffers.FORMS, "pcap", "raw"])
     parser.add_argument(
-        "--form", choices=sorted([*sniffers.FORMS, "pcap", "raw"]), help="the form of the log, if it isn't found"
+        "--form", choices=forms, metavar="FORMAT", help="format of the log, if it is not recognized"
     )
-    parser.add_argument("--analyzer-side", metavar="NAME", help="which side of the log is the analyzer")
-    parser.add_argument("--swap", action="store_true", help="the other side is the analyzer")
-    parser.add_argument("--port", type=int, help="the TCP port of the line")
-    parser.add_argument("--stream", type=int, metavar="N", help="which TCP connection, from 1")
-    parser.add_argument("--fd", type=int, metavar="N", help="which descriptor of an strace")
+    parser.add_argument("--analyzer-side", metavar="NAME", help="name of the analyzer's side in the log")
+    parser.add_argument("--swap", action="store_true", help="take the other side for the analyzer")
+    parser.add_argument("--port", type=int, help="only this TCP port")
+    parser.add_argument("--stream", type=int, metavar="N", help="only this TCP connection, counted from 1")
+    parser.add_argument("--fd", type=int, metavar="N", help="only this file descriptor of an strace")
     parser.add_argument(
-        "--timer", type=float, metavar="SECONDS", help="put a line T where the analyzer is silent for longer"
+        "--timer", type=float, metavar="SECONDS", help="write a line T where the analyzer is silent for longer"
     )
-    parser.add_argument("--mixed", action="store_true", help="one stream holds both sides: take ACK and NAK apart")
+    parser.add_argument("--mixed", action="store_true", help="one stream holds both sides: separate ACK and NAK")
     parser.add_argument(
-        "--skip-missing", action="store_true", help="go on where bytes of a TCP line aren't in the file"
+        "--skip-missing", action="store_true", help="continue where bytes of a TCP connection are missing"
     )
-    parser.add_argument("--units", action="store_true", help="a line for each unit, whatever pieces the log has")
+    parser.add_argument("--units", action="store_true", help="write one line per ENQ, frame, reply or EOT")
 
 
 def _options(ask: argparse.Namespace) -> sniffers.Options:
@@ -125,7 +124,7 @@ def _frame_limit(ask: argparse.Namespace) -> int:
 
 
 def _add_long(parser: argparse.ArgumentParser) -> None:
-    parser.add_argument("--long", action="store_true", help="take frames of up to 63,993 bytes of text")
+    parser.add_argument("--long", action="store_true", help="accept frames of up to 63,993 bytes of text")
 
 
 def run_ladder(ask: argparse.Namespace) -> int:
@@ -238,44 +237,44 @@ def _encoding(name: str) -> str:
 
 
 def _add_encoding(one: argparse.ArgumentParser) -> None:
-    one.add_argument("--encoding", type=_encoding, default=LATIN, help="of the records' text (latin-1, as a host's)")
+    one.add_argument("--encoding", type=_encoding, default=LATIN, help="encoding of the records (latin-1)")
 
 
 def _add_ladder(one: argparse.ArgumentParser) -> None:
-    one.add_argument("capture", help="a capture, or a log of a sniffer (pcap, socat, ..); - is standard input")
-    one.add_argument("--html", metavar="FILE", help="write a page of HTML, for a browser without a network")
+    one.add_argument("capture", help="a capture or a log (pcap, socat, ..); - is standard input")
+    one.add_argument("--html", metavar="FILE", help="write a page for a browser")
     _add_long(one)
-    one.add_argument("--wrong", action="store_true", help="only the rows that look wrong, and the summary")
-    one.add_argument("--times", metavar="FILE", help="times of the capture's lines (CAPTURE.times if it is there)")
+    one.add_argument("--wrong", action="store_true", help="print only what looks wrong, and the summary")
+    one.add_argument("--times", metavar="FILE", help="times of the capture's lines (CAPTURE.times)")
     _add_encoding(one)
     _import_options(one)
     one.set_defaults(run=run_ladder)
 
 
 def _add_replay(one: argparse.ArgumentParser) -> None:
-    one.add_argument("capture", help="a capture, or a log of a sniffer (pcap, socat, ..); - is standard input")
+    one.add_argument("capture", help="a capture or a log (pcap, socat, ..); - is standard input")
     _add_long(one)
     _import_options(one)
     one.set_defaults(run=run_replay)
 
 
 def _add_capture(one: argparse.ArgumentParser) -> None:
-    one.add_argument("log", nargs="?", default="-", help="the log; standard input if none is named")
-    one.add_argument("-o", "--output", metavar="FILE", help="the capture; times are kept in FILE.times")
-    one.add_argument("--times", metavar="FILE", help="where times are kept")
-    one.add_argument("--analyzer", metavar="FILE", help="the bytes of the analyzer, as they came")
-    one.add_argument("--computer", metavar="FILE", help="the bytes of the computer, as they came")
+    one.add_argument("log", nargs="?", default="-", help="the log (standard input)")
+    one.add_argument("-o", "--output", metavar="FILE", help="write the capture to FILE and its times to FILE.times")
+    one.add_argument("--times", metavar="FILE", help="write the times to FILE")
+    one.add_argument("--analyzer", metavar="FILE", help="a dump of the analyzer's bytes")
+    one.add_argument("--computer", metavar="FILE", help="a dump of the computer's bytes")
     _import_options(one)
     one.set_defaults(run=run_capture)
 
 
 def _add_normalize(one: argparse.ArgumentParser) -> None:
-    one.add_argument("records", nargs="?", default="-", help="a file of records; standard input if none is named")
-    one.add_argument("-o", "--output", metavar="FILE")
+    one.add_argument("records", nargs="?", default="-", help="a file of records (standard input)")
+    one.add_argument("-o", "--output", metavar="FILE", help="write to FILE, readable only by its owner")
     one.add_argument(
-        "--explain", action="store_true", help="say what is wrong and which options mend it; change nothing"
+        "--explain", action="store_true", help="report faults and the options that fix them; change nothing"
     )
-    one.add_argument("--all", action="store_true", help="all changes but --orders and --long")
+    one.add_argument("--all", action="store_true", help="make all changes except --orders and --long")
     for name, what in CHANGES.items():
         flags = [f"--{name}", *(["--escape"] if name == "bytes" else [])]  # as it was called first
         one.add_argument(*flags, action="store_true", help=what)
@@ -284,22 +283,22 @@ def _add_normalize(one: argparse.ArgumentParser) -> None:
 
 def _add_table(one: argparse.ArgumentParser) -> None:
     one.add_argument(
-        "records", nargs="*", help="files of records, captures or logs; standard input if none is named"
+        "records", nargs="*", help="files of records, captures or logs (standard input)"
     )
-    one.add_argument("-o", "--output", metavar="FILE")
-    one.add_argument("--format", type=table.form_of, choices=table.FORMS, default="csv", help="(%(default)s)")
+    one.add_argument("-o", "--output", metavar="FILE", help="write to FILE, readable only by its owner")
+    one.add_argument("--format", type=table.form_of, choices=table.FORMS, default="csv", help="write this format (%(default)s)")
     one.add_argument(
         "--fields",
         metavar="NAMES",
         help=f"columns: {','.join(table.USUAL)}, R.4, R.3.4, HEADING=O.5, result.operator",
     )
     one.add_argument(
-        "--sample-from", type=int, choices=(3, 4), default=3, help="the field of the order that has the sample (3)"
+        "--sample-from", type=int, choices=(3, 4), default=3, help="take the sample from this field of the order (3)"
     )
     _add_encoding(one)
-    one.add_argument("--no-header", action="store_true", help="no line of names")
-    one.add_argument("--orders", action="store_true", help="a row for each order, and not for each result")
-    nested = "in JSON lines: lists where a field has components or repeats"
+    one.add_argument("--no-header", action="store_true", help="leave out the row of names")
+    one.add_argument("--orders", action="store_true", help="write orders instead of results")
+    nested = "with --format json: write components and repeats as lists"
     one.add_argument("--nested", action="store_true", help=nested)
     _add_long(one)
     _import_options(one)

@@ -1,4 +1,4 @@
-"""The commands of the host: `lislab serve`, `lines`, `send`, `status` and `export`."""
+"""The commands of the host: `lislab serve`, `lines`, `status` and `export`; and the analyzer `lislab send`."""
 import argparse
 import asyncio
 import contextlib
@@ -33,22 +33,26 @@ from ..out import export
 from ..out.oru import wishes_of
 from ..out.tables import tables_of
 from ..watch import status
+from .common import Renamed
 
 #: Exit statuses, as those of the other commands.
 GOOD, WRONG, USAGE = 0, 1, 2
 
 
-#: The settings of every line.
-_SETTINGS = "[,name=..][,frame=..][,encoding=..][,orders=ask|send][,none=..][,mend=..][,link=plain]"
+#: What `serve --help` ends with.
+_SETTINGS = (
+    "KEY=VALUE is a setting of the line, for example --listen 4000,name=chemistry,orders=ask. lislab.lines(5) and "
+    "docs/lislab.md list the settings."
+)
 
 
 def add_commands(commands: Any) -> None:
     """Adds the commands to those of lislab."""
-    _add_serve(commands.add_parser("serve", help="a host: keeps what analyzers send, and then acknowledges it"))
-    _add_lines(commands.add_parser("lines", help="checks a file of lines: each line, its settings, and each fault"))
-    _add_send(commands.add_parser("send", help="an analyzer: sends a file of records to a host"))
-    _add_status(commands.add_parser("status", help="the lines of a host, and what its store has"))
-    _add_export(commands.add_parser("export", help="messages out of a store"))
+    _add_serve(commands.add_parser("serve", "run a host: store what analyzers send, then acknowledge it"))
+    _add_lines(commands.add_parser("lines", "check a lines file: print every line, its settings and its faults"))
+    _add_send(commands.add_parser("send", "simulate an analyzer: send records to a host, or query it"))
+    _add_status(commands.add_parser("status", "show the lines of a host and what its store holds"))
+    _add_export(commands.add_parser("export", "write stored messages as JSON, CSV, records, HL7 or FHIR"))
 
 
 def _store(parser: argparse.ArgumentParser) -> None:
@@ -56,7 +60,7 @@ def _store(parser: argparse.ArgumentParser) -> None:
         "--store",
         required=True,
         metavar="STORE",
-        help="an SQLite file, postgresql://.., or spool:DIRECTORY",
+        help="use this store: an SQLite file, postgresql://.., or spool:DIRECTORY",
     )
 
 
@@ -88,22 +92,26 @@ def _limit_or_file(word: str) -> Union[float, str]:
 
 def _allow(parser: argparse.ArgumentParser) -> None:
     parser.add_argument(
-        "--allow", action="append", default=[], metavar="NETWORK", help="who may connect besides this machine"
+        "--allow",
+        action="append",
+        default=[],
+        metavar="NETWORK",
+        help="let this network connect too, for example 10.0.5.0/24; may be repeated",
     )
 
 
 def _scale(parser: argparse.ArgumentParser) -> None:
-    parser.add_argument(
-        "--scale", type=_FACTOR, default=1.0, metavar="S", help="for tests: each timer S times as long"
-    )
+    """The length of each timer, for tests."""
+    parser.add_argument("--scale", type=_FACTOR, default=1.0, metavar="S", help=argparse.SUPPRESS)
 
 
 def _add_serve(one: argparse.ArgumentParser) -> None:
+    one.epilog = _SETTINGS
     _store(one)
     for name, where, what in (
-        ("--listen", f"HOST:PORT{_SETTINGS}[,telnet=yes][,waits=..]", "a TCP port; HOST is 127.0.0.1 if it isn't named"),
-        ("--connect", f"HOST:PORT{_SETTINGS}[,telnet=yes][,waits=..]", "a TCP port to connect to, of what listens there"),
-        ("--serial", f"DEVICE:SPEED{_SETTINGS}[,mode=8N1][,flow=..]", "a serial line"),
+        ("--listen", "HOST:PORT[,KEY=VALUE ..]", "listen on a TCP port; without HOST, only for this machine"),
+        ("--connect", "HOST:PORT[,KEY=VALUE ..]", "connect to an analyzer or terminal server that listens"),
+        ("--serial", "DEVICE:SPEED[,KEY=VALUE ..]", "open a serial port"),
     ):
         one.add_argument(name, action="append", default=[], metavar=where, help=what)
     _allow(one)
@@ -112,29 +120,34 @@ def _add_serve(one: argparse.ArgumentParser) -> None:
         type=_limit_or_file,
         action="append",
         default=[],
-        metavar="FILE|N",
-        help=f"a file of lines, read again at SIGHUP; a number: the most TCP lines at once ({Limits().lines})",
+        metavar="FILE",
+        help="read the lines from a lines file, and again at SIGHUP",
     )
     one.add_argument(
-        "--host-name", default=socket.gethostname(), metavar="NAME", help="this host's name in the store"
+        "--host-name",
+        default=socket.gethostname(),
+        metavar="NAME",
+        help="name of this host in the store (the machine's name)",
     )
     _add_limits(one, Limits())
-    one.add_argument("--ask", metavar="COMMAND", help="answers queries: reads one, prints the answer's records")
-    one.add_argument("--tries", type=_PLACE, default=10, help="sessions for an order, 0 for no end (%(default)s)")
-    one.add_argument("--capture", metavar="PREFIX", help="write what goes over each line to PREFIX-NAME-..capture")
-    one.add_argument("--status", metavar="FILE", help="where the state for lislab status is (STORE.status)")
+    one.add_argument("--ask", metavar="COMMAND", help="answer queries by this command, which reads a query and prints records")
+    one.add_argument("--tries", type=_PLACE, default=10, metavar="N", help="try N times to send an order; 0 is no limit (%(default)s)")
+    one.add_argument("--capture", metavar="PREFIX", help="record the traffic of every connection to PREFIX-NAME-TIME-N.capture")
+    one.add_argument("--status", metavar="FILE", help="write the state for lislab status to FILE (STORE.status)")
     _scale(one)
     one.set_defaults(run=run_serve)
 
 
 def _add_limits(one: argparse.ArgumentParser, usual: Limits) -> None:
     number = functools.partial(one.add_argument, metavar="N")
-    number("--address-lines", type=_COUNT, default=usual.address, help="the most of one address (%(default)s)")
-    number("--message-bytes", type=_COUNT, default=usual.message, help="of one message (%(default)s)")
+    most = "accept at most N TCP connections at once (%(default)s)"
+    number("--max-lines", type=_COUNT, default=usual.lines, help=most)
+    number("--address-lines", type=_COUNT, default=usual.address, help="at most N from one address (%(default)s)")
+    number("--message-bytes", type=_COUNT, default=usual.message, help="most bytes of a message (%(default)s)")
     seconds = functools.partial(one.add_argument, metavar="SECONDS")
-    seconds("--idle", type=_FACTOR, default=usual.idle, help="the silence that closes a line (%(default)s)")
-    seconds("--reply-within", type=_FACTOR, default=usual.reply, help="after this no reply is sent (%(default)s)")
-    seconds("--grace", type=_SECONDS, default=usual.grace, help="for open sessions at a stop (%(default)s)")
+    seconds("--idle", type=_FACTOR, default=usual.idle, help="close a silent connection after this (%(default)s)")
+    seconds("--reply-within", type=_FACTOR, default=usual.reply, help="never reply later than this (%(default)s)")
+    seconds("--grace", type=_SECONDS, default=usual.grace, help="let open sessions finish at a stop (%(default)s)")
 
 
 def state_file(store: str, named: Optional[str]) -> Optional[str]:
@@ -166,7 +179,9 @@ def run_serve(ask: argparse.Namespace) -> int:
 def _asked_of(ask: argparse.Namespace) -> serve.Asked:
     """What the words of serve ask for, and its file of lines as that is now."""
     files = [one for one in ask.lines if isinstance(one, str)]
-    most = [Limits().lines, *(one for one in ask.lines if not isinstance(one, str))][-1]
+    most = [ask.max_lines, *(one for one in ask.lines if not isinstance(one, str))][-1]
+    if len(files) < len(ask.lines):
+        say("--lines N is now --max-lines N; the next version accepts only --max-lines N")
     if len(files) > 1:
         raise OptionError(f"one file of lines is read, not {' and '.join(files)}")
     networks = options.networks_of(ask.allow)
@@ -200,7 +215,7 @@ def _lines_of(ask: argparse.Namespace, files: Sequence[str], networks: Sequence[
 
 
 def _add_lines(one: argparse.ArgumentParser) -> None:
-    one.add_argument("file", metavar="FILE", help="lines: [NAME], then listen, connect or serial, and settings")
+    one.add_argument("file", metavar="FILE", help="a lines file: [NAME], then listen, connect or serial, and settings")
     _allow(one)
     one.set_defaults(run=run_lines)
 
@@ -230,34 +245,38 @@ def _outbox_of(
 
 
 def _add_send(one: argparse.ArgumentParser) -> None:
-    one.add_argument("records", nargs="?", default="-", help="a file of records; standard input if none is named")
-    one.add_argument("--to", metavar="HOST:PORT", help="a host's TCP port")
-    one.add_argument("--serial", metavar="DEVICE:SPEED[,mode=8N1][,flow=..]", help="a serial line")
+    one.add_argument("records", nargs="?", default="-", help="a file of records (standard input)")
+    one.add_argument("--to", metavar="HOST:PORT", help="connect to a host's TCP port")
+    one.add_argument("--serial", metavar="DEVICE:SPEED[,mode=8N1][,flow=..]", help="open a serial port")
     one.add_argument(
-        "--tries", type=_PLACE, default=10, help="sessions for a message, 0 for no end (%(default)s)"
+        "--tries", type=_PLACE, default=10, metavar="N", help="try N times to send a message; 0 is no limit (%(default)s)"
     )
-    one.add_argument("--rate", type=_SECONDS, default=0.0, help="messages a second of each analyzer, at most")
-    one.add_argument("--analyzers", type=_COUNT, default=1, metavar="N", help="so many analyzers, each sends all")
-    one.add_argument("--made", type=_COUNT, metavar="N", help="send N made-up messages of each analyzer, and no file")
+    one.add_argument("--rate", type=_SECONDS, default=0.0, metavar="N", help="send at most N messages per second and analyzer")
+    one.add_argument("--analyzers", type=_COUNT, default=1, metavar="N", help="simulate N analyzers, each of which sends everything")
+    one.add_argument("--made", type=_COUNT, metavar="N", help="send N generated messages per analyzer, and no file")
+    one.add_argument("--seconds", type=_FACTOR, metavar="S", help="stop after S seconds")
     one.add_argument(
-        "--name", default="A", help="the first letters of the names of made-up analyzers (%(default)s)"
+        "--query", action="append", default=[], metavar="SAMPLE", help="query the orders of a sample, or of ALL; may be repeated"
     )
-    one.add_argument("--seconds", type=_FACTOR, metavar="S", help="stop after so many seconds")
-    one.add_argument("--noise", type=_CHANCE, default=0.0, metavar="P", help="the chance of a byte to be damaged")
     one.add_argument(
-        "--late", type=_CHANCE, default=0.0, metavar="P", help="the chance of a reply to come after its timer"
+        "--ask", action=Renamed, dest="query", const="--query", metavar="SAMPLE", help=argparse.SUPPRESS
     )
-    one.add_argument("--reset", type=_CHANCE, default=0.0, metavar="P", help="the chance of a reset before a unit")
-    one.add_argument("--cut", action="store_true", help="cut units at random places")
-    one.add_argument("--seed", type=int, default=1, help="of what happens by chance (%(default)s)")
-    one.add_argument("--log", metavar="FILE", help="a line of JSON for each message that is done")
-    one.add_argument(
-        "--ask", action="append", default=[], metavar="SAMPLE", help="ask for the orders of a sample, or of ALL"
-    )
-    one.add_argument("--results", metavar="FILE", help="send results for them: lines of TEST,VALUE,UNIT")
-    one.add_argument("--quiet", action="store_true", help="no line for each message")
+    one.add_argument("--results", metavar="FILE", help="with --query: send results, from rows TEST,VALUE,UNIT")
+    one.add_argument("--log", metavar="FILE", help="write a JSON line for every message that is done")
+    one.add_argument("--quiet", action="store_true", help="print no line per message")
+    _add_damage(one)
     _scale(one)
     one.set_defaults(run=run_send)
+
+
+def _add_damage(one: argparse.ArgumentParser) -> None:
+    """What only tests of this repository use: the chances that a byte is damaged, a reply comes after its timer, or the
+    connection is reset before a unit; units cut at random places; the random seed, and the names of the analyzers."""
+    for name in ("--noise", "--late", "--reset"):
+        one.add_argument(name, type=_CHANCE, default=0.0, metavar="P", help=argparse.SUPPRESS)
+    one.add_argument("--cut", action="store_true", help=argparse.SUPPRESS)
+    one.add_argument("--seed", type=int, default=1, help=argparse.SUPPRESS)
+    one.add_argument("--name", default="A", help=argparse.SUPPRESS)
 
 
 def _texts_of(ask: argparse.Namespace, bad: List[str]) -> Callable[[str], Iterator[send.Texts]]:
@@ -280,8 +299,8 @@ def run_send(ask: argparse.Namespace) -> int:
     target: send.Target = options.split_address(ask.to) if ask.to else options.serial_of(ask.serial)
     if ask.serial and ask.analyzers != 1:
         raise OptionError("a serial line has one analyzer")
-    if ask.ask:
-        return _run_ask(ask, target)
+    if ask.query:
+        return _run_query(ask, target)
     bad: List[str] = []
     texts = _texts_of(ask, bad)
     for why in bad:
@@ -300,13 +319,13 @@ def run_send(ask: argparse.Namespace) -> int:
     return WRONG if bad or summary.failed else GOOD
 
 
-def _run_ask(ask: argparse.Namespace, target: send.Target) -> int:
-    """Asks for orders, prints the records that came, and sends results for them."""
+def _run_query(ask: argparse.Namespace, target: send.Target) -> int:
+    """Queries orders, prints the records that came, and sends results for them."""
     values = None
     if ask.results:
         with open(ask.results, "rb") as file:
             values = asker.values_of(file.read())
-    samples = [] if ask.ask == ["ALL"] else ask.ask
+    samples = [] if ask.query == ["ALL"] else ask.query
 
     async def run() -> asker.Round:
         channel = await asker.connected(target, ask.tries, ask.scale)
@@ -327,11 +346,11 @@ def _run_ask(ask: argparse.Namespace, target: send.Target) -> int:
 
 def _add_status(one: argparse.ArgumentParser) -> None:
     _store(one)
-    one.add_argument("--status", metavar="FILE", help="where the host writes its state (STORE.status)")
+    one.add_argument("--status", metavar="FILE", help="read the host's state from FILE (STORE.status)")
     one.add_argument(
-        "--cursor", action="append", default=[], metavar="FILE", help="of a delivery: what it has still to do"
+        "--cursor", action="append", default=[], metavar="FILE", help="also show the delivery with this cursor"
     )
-    one.add_argument("--json", action="store_true", help="as JSON")
+    one.add_argument("--json", action="store_true", help="print JSON")
     one.set_defaults(run=run_status)
 
 
@@ -348,29 +367,29 @@ def run_status(ask: argparse.Namespace) -> int:
 
 def _add_export(one: argparse.ArgumentParser) -> None:
     _store(one)
-    one.add_argument("--format", type=form_of, choices=export.FORMATS, default="json", help="(%(default)s)")
-    one.add_argument("--since", metavar="TIME", help="kept at this time or later: 2026-11-27 or 2026-11-27T10:30")
+    one.add_argument("--format", type=form_of, choices=export.FORMATS, default="json", help="write this format (%(default)s)")
+    one.add_argument("--since", metavar="TIME", help="only messages since 2026-11-27 or 2026-11-27T10:30")
     one.add_argument(
-        "--after", type=_PLACE, default=0, metavar="NUMBER", help="whole messages with a greater number"
+        "--after", type=_PLACE, default=0, metavar="NUMBER", help="only whole messages with a greater number"
     )
-    one.add_argument("--state", choices=(WHOLE, UNFINISHED, UNREADABLE, "all"), default=WHOLE, help="(%(default)s)")
+    one.add_argument("--state", choices=(WHOLE, UNFINISHED, UNREADABLE, "all"), default=WHOLE, help="only messages in this state (%(default)s)")
     add_forms(one)
-    one.add_argument("-o", "--output", metavar="FILE")
+    one.add_argument("-o", "--output", metavar="FILE", help="write to FILE, readable only by its owner")
     one.set_defaults(run=run_export)
 
 
 def add_forms(one: argparse.ArgumentParser) -> None:
     """The options that say which messages are written, and how."""
-    one.add_argument("--line", metavar="NAME", help="of this line alone")
-    one.add_argument("--without-repeats", action="store_true", help="leave out messages that came again")
-    what = "the laboratory's codes and units, as lislab codes checks them; of lines that have no table of their own"
+    one.add_argument("--line", metavar="NAME", help="only messages of this line")
+    one.add_argument("--without-repeats", action="store_true", help="leave out repeated messages")
+    what = "map test codes and units by this table, for lines without a table of their own"
     one.add_argument("--codes", metavar="FILE", help=what)
-    file = "a file of lines, as serve has it: the settings and the table of codes of each"
+    file = "read every line's settings and code table from a lines file"
     one.add_argument("--lines", metavar="FILE", help=file)
-    one.add_argument("--controls", choices=("with", "without", "only"), default="with", help="(%(default)s)")
-    one.add_argument("--fields", metavar="NAMES", help="the columns of csv and tsv, as lislab table has them")
-    one.add_argument("--safe-cells", action="store_true", help="an apostrophe before cells of csv that are formulas")
-    names = "what the receiver wants: MSH-5=LIS, practice=HOSP PI, obr=test; more in DELIVER.md"
+    one.add_argument("--controls", choices=("with", "without", "only"), default="with", help="write quality controls: with, without, only (%(default)s)")
+    one.add_argument("--fields", metavar="NAMES", help="columns of csv and tsv, as in lislab table")
+    one.add_argument("--safe-cells", action="store_true", help="put an apostrophe before cells that look like formulas")
+    names = "set what the receiver needs, for example MSH-5=LIS or obr=test; may be repeated"
     one.add_argument("--set", action="append", default=[], metavar="NAME=VALUE", help=names)
 
 

@@ -2,7 +2,7 @@
 import argparse
 import os
 import sys
-from typing import List, Optional
+from typing import Any, Dict, List, Optional
 
 from lislink import LibraryMissing, __version__
 from lislink.capture import CaptureError
@@ -17,20 +17,58 @@ from . import field, host, order, out, play, store, watch
 from .common import STOPPED, USAGE, say
 
 
+#: The commands by their purpose, in the order of `lislab --help`.
+GROUPS = (
+    ("Look at a connection", ("ladder", "capture", "replay", "normalize", "table")),
+    ("Run a host", ("serve", "lines", "status", "watch", "order", "store")),
+    ("Hand on results", ("deliver", "export", "codes")),
+    ("Validate an interface", ("play", "send")),
+)
+
+
+class Commands:
+    """The commands as they are added, each with what it does."""
+
+    def __init__(self, parsers: Any) -> None:
+        self._parsers = parsers
+        self.lines: Dict[str, str] = {}
+
+    def add_parser(self, name: str, does: str) -> argparse.ArgumentParser:
+        """A command: what it does is a sentence in the imperative, without its full stop."""
+        self.lines[name] = does
+        made: argparse.ArgumentParser = self._parsers.add_parser(name, description=f"{does[0].upper()}{does[1:]}.")
+        return made
+
+    def text(self) -> str:
+        """The commands in their groups, for the help of `lislab`."""
+        rows = []
+        for title, names in GROUPS:
+            rows += ["", f"{title}:", *(f"  {name:11}{self.lines[name]}" for name in names)]
+        return "\n".join([*rows, "", "`lislab COMMAND --help` lists the options of a command."]).lstrip("\n")
+
+
 def parser() -> argparse.ArgumentParser:
     """The words of the command."""
     top = argparse.ArgumentParser(
-        prog="lislab", description="Tools for a laboratory's line, over the proved library."
+        prog="lislab",
+        usage="lislab COMMAND ..",
+        description="Connect laboratory analyzers: a host, a protocol analyzer, and a tester of interfaces.",
+        formatter_class=argparse.RawDescriptionHelpFormatter,
     )
-    top.add_argument("--version", action="version", version=f"lislab {__version__}")
-    commands = top.add_subparsers(dest="command", required=True, metavar="COMMAND")
-    field.add_commands(commands)
-    host.add_commands(commands)
-    store.add_command(commands)
-    out.add_commands(commands)
-    order.add_commands(commands)
-    play.add_command(commands)
-    watch.add_command(commands)
+    top.add_argument("--version", action="version", version=f"lislab {__version__}", help="print the version")
+    parsers = top.add_subparsers(dest="command", required=True, metavar="COMMAND", prog="lislab", help=argparse.SUPPRESS)
+    commands = Commands(parsers)
+    for add in (
+        field.add_commands,
+        host.add_commands,
+        store.add_command,
+        out.add_commands,
+        order.add_commands,
+        play.add_command,
+        watch.add_command,
+    ):
+        add(commands)
+    top.epilog = commands.text()
     return top
 
 

@@ -13,47 +13,47 @@ from ..model.said import say, shown
 #: Exit statuses, as those of the other commands.
 GOOD, WRONG = 0, 1
 _STATES = (
-    "An order is waiting until it is sent, also after a try that failed; sent when the analyzer has acknowledged each "
-    "frame of it; done when a result of each of its tests has come; failed, with the reason, after the last try of "
-    "`serve --tries`, or if it can't be written in the line's encoding: `lislab order again NUMBER` sends it anew, "
-    "`lislab order cancel NUMBER` gives it up; cancelled, and not sent."
+    "An order is waiting until it is sent, also after a try that failed. It is sent when the analyzer has acknowledged "
+    "every frame of it, and done when a result of each of its tests has come. It is failed, with the reason, after the "
+    "last try of `serve --tries`, or if it can't be written in the line's encoding. `lislab order again NUMBER` sends a "
+    "failed order again, `lislab order cancel NUMBER` gives it up: it is then cancelled and not sent."
 )
 
 
 def add_commands(commands: Any) -> None:
     """Adds the command to those of lislab."""
-    top = commands.add_parser("order", help="the orders of a store: add, list, cancel, again")
-    whats = top.add_subparsers(dest="what", required=True, metavar="WHAT")
-    _add_add(whats.add_parser("add", help="add the orders of a file"))
-    _add_list(whats.add_parser("list", help="list orders, each with what became of it", epilog=_STATES))
-    _add_change(whats.add_parser("cancel", help="cancel orders that aren't sent"), run_cancel)
-    _add_change(whats.add_parser("again", help="let orders wait again"), run_again)
+    top = commands.add_parser("order", "add, list, cancel or resend orders")
+    whats = top.add_subparsers(dest="what", required=True, metavar="COMMAND")
+    _add_add(whats.add_parser("add", help="add the orders of a file", description="Add the orders of a file."))
+    _add_list(whats.add_parser("list", help="list orders with their states", description="List orders with their states.", epilog=_STATES))
+    _add_change(whats.add_parser("cancel", help="cancel orders that are not sent", description="Cancel orders that are not sent."), run_cancel)
+    _add_change(whats.add_parser("again", help="let orders wait again", description="Let orders wait again."), run_again)
 
 
 def _store(parser: argparse.ArgumentParser) -> None:
-    parser.add_argument("--store", required=True, metavar="STORE", help="an SQLite file, spool:DIRECTORY or postgresql://..")
+    parser.add_argument("--store", required=True, metavar="STORE", help="use this store: an SQLite file, postgresql://.., or spool:DIRECTORY")
 
 
 def _add_add(one: argparse.ArgumentParser) -> None:
     _store(one)
-    one.add_argument("orders", nargs="?", default="-", help="CSV, JSON lines or records; standard input if not named")
-    one.add_argument("--line", default="", metavar="NAME", help="for this line, if a row names none")
-    one.add_argument("--some", action="store_true", help="add the good ones of a file that has others too")
-    one.add_argument("--encoding", default="utf-8", help="of the file (utf-8)")
+    one.add_argument("orders", nargs="?", default="-", help="CSV, JSON lines or records (standard input)")
+    one.add_argument("--line", default="", metavar="NAME", help="the line of rows that name none")
+    one.add_argument("--some", action="store_true", help="add the valid orders of a file that has faults")
+    one.add_argument("--encoding", default="utf-8", help="encoding of the file (utf-8)")
     one.set_defaults(run=run_add)
 
 
 def _add_list(one: argparse.ArgumentParser) -> None:
     _store(one)
-    one.add_argument("--sample", metavar="SAMPLE", help="of this sample")
-    one.add_argument("--state", choices=STATES, help="in this state")
-    one.add_argument("--owed", action="store_true", help="those that are sent and lack a result, with the tests that do")
+    one.add_argument("--sample", metavar="SAMPLE", help="only orders of this sample")
+    one.add_argument("--state", choices=STATES, help="only orders in this state")
+    one.add_argument("--owed", action="store_true", help="only sent orders that lack a result, with the missing tests")
     one.set_defaults(run=run_list)
 
 
 def _add_change(one: argparse.ArgumentParser, run: Any) -> None:
     _store(one)
-    one.add_argument("numbers", nargs="+", type=int, metavar="NUMBER", help="of an order, as lislab order list has it")
+    one.add_argument("numbers", nargs="+", type=int, metavar="NUMBER", help="number of an order, from lislab order list")
     one.set_defaults(run=run)
 
 

@@ -1,5 +1,6 @@
 """The commands that bring messages out of a store: `lislab deliver` and `lislab codes`."""
 import argparse
+import functools
 import os
 import signal
 from types import FrameType
@@ -17,6 +18,7 @@ from ..model.stores import open_store
 from ..out import aside, https, mllp
 from ..out import deliver, export
 from ..out.tables import tables_of
+from .common import Renamed
 from .host import _COUNT, _FACTOR, _store, add_forms, form_asked
 
 #: Exit statuses, as those of the other commands.
@@ -27,45 +29,47 @@ _SCHEMES = {"mllp": "oru", "mllps": "oru", "https": "fhir", "http": "fhir"}
 
 def add_commands(commands: Any) -> None:
     """Adds the commands to those of lislab."""
-    _add_codes(commands.add_parser("codes", help="checks a table of codes, and what a store has that it lacks"))
-    where = "delivers each whole message: to a command, a directory, MLLP or HTTPS"
-    _add_deliver(commands.add_parser("deliver", help=where))
+    _add_codes(commands.add_parser("codes", "check a code table, and list the codes of a store that it lacks"))
+    _add_deliver(commands.add_parser("deliver", "send every whole message to a command, a directory, MLLP or HTTPS"))
 
 
 def _add_deliver(one: argparse.ArgumentParser) -> None:
     _store(one)
-    one.add_argument("--cursor", required=True, metavar="FILE", help="keeps which message was delivered last")
+    one.add_argument("--cursor", required=True, metavar="FILE", help="remember here which message was delivered last")
     one.add_argument(
         "--to",
         metavar="WHERE",
-        help="mllp://HOST:PORT, mllps://HOST:PORT (TLS), https://.., or a directory: a file for each message",
+        help="send to mllp://HOST:PORT, mllps://HOST:PORT (TLS), https://.., or a directory",
     )
     one.add_argument("--directory", metavar="DIR", help="the same as --to DIR")
     one.add_argument(
         "--format",
         type=form_of,
         choices=export.FORMATS,
-        help="(oru over MLLP, fhir over HTTPS, else records)",
+        help="write this format (oru over MLLP, fhir over HTTPS, else records)",
     )
     add_forms(one)
-    one.add_argument("--ca", metavar="FILE", help="the authorities of a certificate, in PEM; else the system's")
-    one.add_argument("--headers", metavar="FILE", help="header fields for HTTPS, rows of Name: value")
+    one.add_argument("--ca", metavar="FILE", help="trust the certificate authorities of this PEM file, not the system's")
+    one.add_argument("--headers", metavar="FILE", help="send these HTTP headers, rows of Name: value")
     one.add_argument(
-        "--seconds", type=_FACTOR, default=60.0, help="how long a command or an answer may take (%(default)s)"
+        "--seconds", type=_FACTOR, default=60.0, help="wait so long for a command or an answer (%(default)s)"
     )
-    one.add_argument("--once", action="store_true", help="deliver what there is, and end")
+    one.add_argument("--once", action="store_true", help="deliver what there is, then exit")
     one.add_argument(
-        "--aside",
+        "--quarantine",
         type=_COUNT,
         default=0,
         metavar="N",
-        help="set a message aside that failed N times, and later ones of its samples; others go on",
+        help="quarantine a message after N failures, with later messages of its samples",
     )
     one.add_argument(
-        "--again", metavar="KEY", help="send this message that is set aside, and those of its samples; all: each one"
+        "--resend", metavar="KEY", help="send this quarantined message and those that share its samples; all: every one"
     )
+    old = functools.partial(one.add_argument, action=Renamed, help=argparse.SUPPRESS)
+    old("--aside", dest="quarantine", const="--quarantine", type=_COUNT, metavar="N")
+    old("--again", dest="resend", const="--resend", metavar="KEY")
     one.add_argument(
-        "words", nargs="*", metavar="COMMAND", help="after --: a command that reads a message, and its words"
+        "words", nargs="*", metavar="COMMAND", help="after --: a command that reads one message from standard input"
     )
     one.set_defaults(run=run_deliver)
 
@@ -110,7 +114,7 @@ def _target_of(ask: argparse.Namespace, form: export.Form, lock: int) -> deliver
 
 def run_deliver(ask: argparse.Namespace) -> int:
     """Delivers until it is stopped, or what there is, or what was set aside."""
-    if ask.again is not None:
+    if ask.resend is not None:
         return _run_again(ask)
     form = _form_of(ask)
     store = open_store(ask.store)
@@ -152,7 +156,7 @@ def _wants(ask: argparse.Namespace) -> "deliver.Wants":
 
 
 def _aside_of(ask: argparse.Namespace, form: export.Form) -> aside.Aside:
-    kept = aside.Aside(ask.cursor, int(ask.aside), *([form.tables.reading] if form.tables else []))
+    kept = aside.Aside(ask.cursor, int(ask.quarantine), *([form.tables.reading] if form.tables else []))
     if kept.most or kept.held:
         calls()  # without the library no sample could be read
     return kept
@@ -160,14 +164,14 @@ def _aside_of(ask: argparse.Namespace, form: export.Form) -> aside.Aside:
 
 def _run_again(ask: argparse.Namespace) -> int:
     """Sends what is set aside; if a delivery has the cursor, that one is asked to."""
-    if not aside.is_key(ask.again):
-        raise OptionError(f"--again {ask.again}: the key of a message is wanted, or the word all")
-    named = aside.Aside(ask.cursor).together(ask.again)
+    if not aside.is_key(ask.resend):
+        raise OptionError(f"--resend {ask.resend}: the key of a message is wanted, or the word all")
+    named = aside.Aside(ask.cursor).together(ask.resend)
     if not named:
-        say(f"{ask.cursor}: nothing is set aside" + ("" if ask.again == aside.ALL else f" by the key {ask.again}"))
+        say(f"{ask.cursor}: nothing is set aside" + ("" if ask.resend == aside.ALL else f" by the key {ask.resend}"))
         return WRONG
     if _is_taken(ask.cursor):
-        aside.wish(ask.cursor, ask.again)
+        aside.wish(ask.cursor, ask.resend)
         say(f"{len(named)} messages are sent by the delivery that has {ask.cursor}")
         return GOOD
     form = _form_of(ask)
@@ -176,7 +180,7 @@ def _run_again(ask: argparse.Namespace) -> int:
     try:
         target = _target_of(ask, form, cursor.lock)
         one = deliver.Delivery(store, cursor, target, say, aside=_aside_of(ask, form))
-        return GOOD if deliver.run_again(one, ask.again) else WRONG
+        return GOOD if deliver.run_again(one, ask.resend) else WRONG
     finally:
         cursor.close()
         store.close()
@@ -191,10 +195,10 @@ def _is_taken(cursor: str) -> bool:
 
 
 def _add_codes(one: argparse.ArgumentParser) -> None:
-    one.add_argument("--store", metavar="STORE", help="print each code of its results that the table lacks")
-    one.add_argument("--line", metavar="NAME", help="look at the results of this line alone")
-    one.add_argument("--lines", metavar="FILE", help="a file of lines: which component of each is the test")
-    one.add_argument("file", metavar="FILE", help=f"CSV with a row of names: {', '.join(codes.COLUMNS)}")
+    one.add_argument("--store", metavar="STORE", help="list the codes of this store that the table lacks")
+    one.add_argument("--line", metavar="NAME", help="only results of this line")
+    one.add_argument("--lines", metavar="FILE", help="a lines file, for each line's setting `test`")
+    one.add_argument("file", metavar="FILE", help=f"the code table, CSV with the columns {', '.join(codes.COLUMNS)}")
     one.set_defaults(run=run_codes)
 
 

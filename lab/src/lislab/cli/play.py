@@ -38,40 +38,44 @@ class Play(NamedTuple):
 
 def add_command(commands: Any) -> None:
     """Adds the command to those of lislab."""
-    one = commands.add_parser("play", help="an acceptance test: plays a script at one end of a line")
-    one.add_argument("script", help="a script or a capture, or a folder of them; - is standard input")
+    one = commands.add_parser("play", "run test scripts against a host or an analyzer")
+    one.add_argument("script", help="a script, a capture, or a folder of them; - is standard input")
     _add_line(one)
-    one.add_argument("--fast", action="store_true", help="as fast as replies come, and not by a capture's times")
+    one.add_argument("--fast", action="store_true", help="ignore the times of a capture: send as soon as a reply comes")
     one.add_argument(
-        "--same-but", default="", metavar="FIELDS", help="fields that may differ in all frames, as DATE,H.5"
+        "--same-but", default="", metavar="FIELDS", help="let these fields differ in all frames, for example DATE,H.5"
     )
-    one.add_argument("--store", metavar="STORE", help="a store of lislab serve: K looks at what it has kept")
-    one.add_argument("--kept", metavar="COMMAND", help="prints the records that the other end has kept, for K")
-    one.add_argument("--restart", metavar="COMMAND", help="restarts the other end, for R")
-    one.add_argument("--report", metavar="FILE", help="write a page of HTML to be signed")
-    one.add_argument("--junit", metavar="FILE", help="write JUnit's XML")
+    one.add_argument("--store", metavar="STORE", help="check stored records (step K) in this store of lislab serve")
+    one.add_argument("--kept", metavar="COMMAND", help="check stored records (step K) by this command, which prints them")
+    one.add_argument("--restart", metavar="COMMAND", help="restart the other end (step R) by this command")
+    one.add_argument("--report", metavar="FILE", help="write an HTML report with a place for signatures")
+    one.add_argument("--junit", metavar="FILE", help="write the results as JUnit XML")
     _scale(one)
     one.set_defaults(run=run_play)
 
 
 def _add_line(one: argparse.ArgumentParser) -> None:
-    one.add_argument("--to", metavar="HOST:PORT", help="connect to this port")
+    one.add_argument("--to", metavar="HOST:PORT", help="connect to a TCP port")
     one.add_argument(
-        "--listen", metavar="[HOST:]PORT", help="wait for a connection; HOST is 127.0.0.1 if it isn't named"
+        "--listen", metavar="[HOST:]PORT", help="wait for a connection; without HOST, only from this machine"
     )
-    one.add_argument("--serial", metavar="DEVICE:SPEED[,mode=8N1][,flow=..]", help="a serial line")
+    one.add_argument("--serial", metavar="DEVICE:SPEED[,mode=8N1][,flow=..]", help="open a serial port")
     one.add_argument(
-        "--allow", action="append", default=[], metavar="NETWORK", help="who may connect besides this machine"
+        "--allow",
+        action="append",
+        default=[],
+        metavar="NETWORK",
+        help="with --listen: let this network connect too; may be repeated",
     )
     one.add_argument(
-        "--as", dest="end", choices=("analyzer", "computer"), help="the end that is played (the script says it)"
+        "--as", dest="end", choices=("analyzer", "computer"), help="play this end (the one that the script names)"
     )
     one.add_argument(
         "--within",
         type=_FACTOR,
         default=60.0,
         metavar="SECONDS",
-        help="how long the other end may take to connect, or to begin a session (%(default)s)",
+        help="wait so long for a connection or a new session (%(default)s)",
     )
 
 

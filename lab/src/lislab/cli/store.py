@@ -23,22 +23,22 @@ _BESIDE = ("", "-wal", "-shm")
 
 def add_command(commands: Any) -> None:
     """Adds the command to those of lislab."""
-    store = commands.add_parser("store", help="copies a store while a host runs, makes one of a copy, looks at its tables")
-    deeds = store.add_subparsers(dest="deed", metavar="DEED", required=True)
+    store = commands.add_parser("store", "back up, restore, check or upgrade a store")
+    deeds = store.add_subparsers(dest="deed", metavar="COMMAND", required=True)
     for name, run, what in (
-        ("backup", run_backup, "a copy of the store, with the cursors of its deliveries and what they set aside"),
-        ("restore", run_restore, "the store of a copy; no file of a store may be there"),
+        ("backup", run_backup, "copy a store while its host runs, with the cursors and quarantine of its deliveries"),
+        ("restore", run_restore, "make a store from a copy; no file of a store may exist there"),
     ):
-        one = deeds.add_parser(name, help=what)
+        one = deeds.add_parser(name, help=what, description=f"{what[0].upper()}{what[1:]}.")
         one.add_argument("--store", required=True, metavar="FILE", help="an SQLite file")
-        one.add_argument("--cursor", action="append", default=[], metavar="FILE", help="of a delivery; once for each")
+        one.add_argument("--cursor", action="append", default=[], metavar="FILE", help="the cursor of a delivery; may be repeated")
         one.add_argument("copy", metavar="COPY", help="the file of the copy")
         one.set_defaults(run=run)
     for name, run, what in (
-        ("check", run_check, "print the version of the tables, and what is wrong with the database; status 1 if something is"),
-        ("upgrade", run_upgrade, "take the tables to this program's version; make a backup first, and stop the host"),
+        ("check", run_check, "print the version of the tables and every fault of the database"),
+        ("upgrade", run_upgrade, "upgrade the tables to this version; back up first, and stop the host"),
     ):
-        one = deeds.add_parser(name, help=what)
+        one = deeds.add_parser(name, help=what, description=f"{what[0].upper()}{what[1:]}.")
         one.add_argument("--store", required=True, metavar="STORE", help="an SQLite file or postgresql://..")
         one.set_defaults(run=run)
 
@@ -101,7 +101,7 @@ def run_restore(ask: argparse.Namespace) -> int:
 
 def _sqlite(store: str) -> str:
     if store.startswith("spool:") or "://" in store:
-        raise OptionError(f"{store} is no SQLite file: docs/SERVICE.md says how a spool and PostgreSQL are copied")
+        raise OptionError(f"{store} is no SQLite file: docs/operate.md has how to back up a spool or PostgreSQL")
     return store
 
 

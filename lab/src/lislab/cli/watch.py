@@ -35,20 +35,24 @@ CLEAR, COLOURS, PLAIN = "\x1b[H\x1b[J", {"bad": "\x1b[1;31m", "quiet": "\x1b[2m"
 
 def add_command(commands: Any) -> None:
     """Adds the command to those of lislab."""
-    one = commands.add_parser("watch", help="what goes on on a host's lines: a row a line, good, quiet or bad, and why")
-    one.add_argument("--store", required=True, metavar="STORE", help="as serve has it")
-    one.add_argument("--status", metavar="FILE", help="where the host writes its state (STORE.status)")
-    one.add_argument("--once", action="store_true", help="print once; status 1 if a line is bad")
-    one.add_argument("--every", type=float, default=2.0, metavar="SECONDS", help="how often it looks (%(default)s)")
-    one.add_argument("--line", metavar="NAME", help="the ladder of a line as it goes, the oldest row first")
-    one.add_argument("--save", metavar="FILE", help="with --line: write its last bytes as a capture, and end")
-    one.add_argument("--notify", metavar="COMMAND", help="run once when a line turns bad, once when it is good again")
-    one.add_argument("--http", metavar="HOST:PORT", help="serve pages for a browser, and /metrics")
+    one = commands.add_parser("watch", "show whether every line is good, quiet or bad, and why")
+    one.add_argument("--store", required=True, metavar="STORE", help="the store of the host")
+    one.add_argument("--status", metavar="FILE", help="the host's state file; its socket is next to it (STORE.status)")
+    one.add_argument("--once", action="store_true", help="print once; exit with 1 if a line is bad")
+    one.add_argument("--every", type=float, default=2.0, metavar="SECONDS", help="look so often (%(default)s)")
+    one.add_argument("--line", metavar="NAME", help="show the traffic of this line as it goes")
+    one.add_argument("--save", metavar="FILE", help="with --line: write its last bytes as a capture, then exit")
+    one.add_argument("--notify", metavar="COMMAND", help="run this when a line turns bad, and when it is good again")
+    one.add_argument("--http", metavar="HOST:PORT", help="serve status pages and /metrics")
     one.add_argument(
-        "--allow", action="append", default=[], metavar="NETWORK", help="with --http: who may look besides this machine"
+        "--allow",
+        action="append",
+        default=[],
+        metavar="NETWORK",
+        help="with --http: let this network look too; may be repeated",
     )
-    one.add_argument("--token", metavar="FILE", help="with --http: what a browser must give as its password")
-    one.add_argument("--cursor", action="append", default=[], metavar="FILE", help="of a delivery: a row of its own")
+    one.add_argument("--token", metavar="FILE", help="with --http: the file of the token that opens records")
+    one.add_argument("--cursor", action="append", default=[], metavar="FILE", help="also show the delivery with this cursor; may be repeated")
     one.set_defaults(run=run_watch)
 
 

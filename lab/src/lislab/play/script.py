@@ -1,4 +1,4 @@
-"""Scripts: a capture as it is, or the readable form of docs/PLAY.md, read into steps. A script that is wrong names its
+"""Scripts: a capture as it is, or the readable form of docs/validate.md, read into steps. A script that is wrong names its
 line."""
 import re
 from typing import Dict, Iterator, List, NamedTuple, Optional, Sequence, Tuple
