@@ -34,10 +34,9 @@ def _lots(rows: Sequence[T]) -> Iterator[Sequence[T]]:
     return (rows[start : start + ROWS] for start in range(0, len(rows), ROWS))
 
 
-def _marks(rows: Sequence[Any], width: int = 0) -> str:
+def _marks(rows: Sequence[Tuple[Any, ...]]) -> str:
     """The signs for the values of rows."""
-    width = width or len(rows[0])
-    return ",".join([f"({','.join('?' * width)})"] * len(rows))
+    return ",".join([f"({','.join('?' * len(rows[0]))})"] * len(rows))
 
 
 def _flat(rows: Sequence[Tuple[Any, ...]]) -> List[Any]:
@@ -179,27 +178,40 @@ class SqlStore(Store):
             )
 
     def _number(self, ends: Sequence[End]) -> None:
+        """Ends whole messages, each with its number and the first one of its bytes. However many they are, few rows are
+        read: after each row this thread waits for its turn, as long as the lines are busy."""
         self.lock_numbers()
         number = int(self.run("SELECT coalesce(max(number), 0) FROM message").fetchone()[0])
-        states: Dict[str, str] = {}
-        first: Dict[Tuple[str, str], str] = {}
-        for some in _lots(ends):
-            words = f"SELECT key, state FROM message WHERE key IN ({','.join('?' * len(some))})"
-            states.update(self.run(words, [one.key for one in some]).fetchall())
-            words = f"SELECT line, digest, key FROM (VALUES {_marks(some, 2)}) AS v CROSS JOIN message"
-            words += f" WHERE line = v.column1 AND digest = v.column2 AND again_of IS NULL AND state = '{WHOLE}'"
-            found = self.run(words, _flat([(one.line, one.digest) for one in some])).fetchall()
-            first.update({(line, digest): key for line, digest, key in found})
+        ends = self._not_kept_yet(ends)
+        first = self._first_of(sorted({(one.line, one.digest) for one in ends}))
         rows = []
-        for end in ends:
-            if states.get(end.key) == WHOLE:  # its commit was kept, and the answer lost
-                continue
-            if states.get(end.key) != OPEN:
-                raise StoreError(f"message {end.key} isn't open")
-            number += 1
+        for number, end in enumerate(ends, number + 1):
             rows.append((end, first.get((end.line, end.digest)), number))
             first.setdefault((end.line, end.digest), end.key)
         self._end(rows)
+
+    def _not_kept_yet(self, ends: Sequence[End]) -> Sequence[End]:
+        """Those of whole messages whose commit wasn't kept before, its answer being lost. StoreError if one isn't open."""
+        lots = [(f"key IN ({','.join('?' * len(some))})", some) for some in _lots([one.key for one in ends])]
+        words = f"SELECT count(*) FROM message WHERE state = '{OPEN}' AND"
+        if sum(int(self.run(f"{words} {which}", keys).fetchone()[0]) for which, keys in lots) == len(ends):
+            return ends
+        states: Dict[str, str] = {}
+        for which, keys in lots:
+            states.update(self.run(f"SELECT key, state FROM message WHERE {which}", keys).fetchall())
+        for one in ends:
+            if states.get(one.key) not in (OPEN, WHOLE):
+                raise StoreError(f"message {one.key} isn't open")
+        return [one for one in ends if states[one.key] == OPEN]
+
+    def _first_of(self, pairs: Sequence[Tuple[str, str]]) -> Dict[Tuple[str, str], str]:
+        """The first message of each line and digest that is kept, by its key."""
+        first: Dict[Tuple[str, str], str] = {}
+        for some in _lots(pairs):
+            words = f"SELECT line, digest, key FROM (VALUES {_marks(some)}) AS v CROSS JOIN message"
+            words += f" WHERE line = v.column1 AND digest = v.column2 AND again_of IS NULL AND state = '{WHOLE}'"
+            first.update({(line, digest): key for line, digest, key in self.run(words, _flat(some)).fetchall()})
+        return first
 
     def read(self, statement: str, values: Sequence[Any] = ()) -> List[Tuple[Any, ...]]:
         """The rows of a statement that changes nothing."""
