@@ -44,6 +44,9 @@ FAULTS = {
     "test_commits.Owed.test_one_that_fails": Edit(
         "host/commits.py", "self._owed.extend(batch)\n", "self._owed.extendleft(reversed(batch))\n"
     ),
+    "test_commits.Steps.test_a_commit_of_many": Edit(
+        "model/sql.py", "sorted({(one.line, one.digest) for one in ends})", "[(one.line, one.digest) for one in ends]"
+    ),
     "test_commits.Owed.test_said_once_kept": Edit(
         "host/line.py",
         "kept.add_done_callback(lambda done: None if done.cancelled() else self._note_ends(changes))",
@@ -62,7 +65,7 @@ FAULTS = {
         "model/postgresql.py", "if is_answered and self._db", "if not is_answered and self._db"
     ),
     "test_postgres.RepeatsOfPostgres.test_what_is_owed": Edit(
-        "model/sql.py", "if states.get(end.key) == WHOLE:  #", "if not states:  #"
+        "model/sql.py", "if states[one.key] == OPEN]", "if states]"
     ),
     "test_repeats.RepeatsOfSqlite.test_what_is_owed": Edit("model/sql.py", " ON CONFLICT DO NOTHING", ""),
     "test_repeats.RepeatsOfSpool.test_what_is_owed": Edit(
@@ -383,8 +386,8 @@ FAULTS = {
     ),
     "test_postgres.RepeatsOfPostgres.test_each_write": Edit(
         "model/sql.py",
-        "again_of IS NULL AND state = '{WHOLE}'\"\n            found",
-        "again_of IS NULL\"\n            found",
+        "again_of IS NULL AND state = '{WHOLE}'\"\n            first",
+        "again_of IS NULL\"\n            first",
     ),
     "test_postgres.Postgres.test_start_while_another_commits": Edit(
         "model/postgresql.py", "[0][0] is not None", "[0][0] == 0"
@@ -412,8 +415,8 @@ FAULTS = {
     ),
     "test_repeats.RepeatsOfSqlite.test_each_write": Edit(
         "model/sql.py",
-        "again_of IS NULL AND state = '{WHOLE}'\"\n            found",
-        "again_of IS NULL\"\n            found",
+        "again_of IS NULL AND state = '{WHOLE}'\"\n            first",
+        "again_of IS NULL\"\n            first",
     ),
     "test_said.Said.test_signs_for_a_terminal": Edit("watch/status.py", "shown(row) + ", "row + "),
     "test_said.Said.test_the_password_of_a_database": Edit("model/postgresql.py", '== address.count("@") < 2', "!= 9"),
@@ -474,8 +477,9 @@ FAULTS = {
         "        if self._share.is_over():\n            self._pause",
         "        if not self._share:\n            self._pause",
     ),
-    "test_turns.Turns.test_who_works_now_and_then": Edit(
-        "host/turns.py", "max(self._turns.had - CREDIT, self._had) + now", "self._turns.had - CREDIT + now"
+    "test_turns.Turns.test_who_works_now_and_then": Edit("host/turns.py", "min(now - self._since, MOST)", "now - self._since"),
+    "test_turns.Turns.test_many_connections_of_a_peer": Edit(
+        "host/turns.py", "turns.account(peer), turns", "Account(turns.had), turns"
     ),
     "test_turns.Turns.test_connections_of_a_line": Edit(
         "diagnosis/pulse.py", "if time.monotonic() - pulse.good_at < PATIENCE * pulse.scale:", "if pulse.good_at < 0:"

@@ -114,7 +114,7 @@ class Line:
         #: Whether the last frame was taken, and when a reply went out last.
         self._is_taken, self._replied = False, 0.0
         self._wire, self._intake, self._committer, self._limits = parts.wire, parts.intake, parts.committer, parts.limits
-        self._counts, self._say, self._share = parts.counts, parts.say, Share(parts.turns)
+        self._counts, self._say, self._share = parts.counts, parts.say, Share(parts.turns, parts.intake.peer)
         self._asleep, self._room, self._tell = parts.asleep, parts.room, parts.observers.tell
         self._feeds = self._feeds_of(parts.frame)
         self._loop = asyncio.get_running_loop()

@@ -2,6 +2,7 @@
 import asyncio
 import contextlib
 import functools
+import gc
 import json
 import os
 import re
@@ -714,6 +715,7 @@ async def serve(asked: Asked, store: Store, left: Left = Left([], [])) -> None:
     host = Host(asked, store, left)
     try:
         await host.start()
+        gc.freeze()  # what is there for good: no line waits until all of it was looked at for garbage
         host.reads_again(again)
         await stop.wait()
     finally:
