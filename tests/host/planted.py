@@ -189,6 +189,9 @@ FAULTS = {
     "test_lines.Lines.test_enq_behind_eot": Edit(
         "host/line.py", "                if self._is_through():\n                    return\n", ""
     ),
+    "test_lines.Lines.test_who_listens": Edit(
+        "diagnosis/events.py", "self._those.get(type(event), ())", "sum(self._those.values(), [])"
+    ),
     "test_lines.Lines.test_observers": Edit("diagnosis/events.py", "except Exception as error:", "except OSError as error:"),
     "test_lines.Lines.test_giving_way": Edit("host/line.py", "return self._is_through() or (", "return ("),
     "test_lines_file.LinesFile.test_enq_behind_eot": Edit(

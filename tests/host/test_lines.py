@@ -8,10 +8,11 @@ import threading
 import time
 import unittest.mock
 from collections import Counter
+from typing import get_args
 
 from lislink import FrameFault, frame_bytes
 from lislink.link import LONG_FRAME_TEXT
-from lislab.diagnosis.events import Observers
+from lislab.diagnosis.events import Came, Closed, Event, Kept, Observers, Sent
 from lislab.host import line, serve
 from lislab.model import options
 from tests.host.hosts import NEVER, Found, Host, HostTest, lislab, sending, wait_for
@@ -408,7 +409,8 @@ class Lines(HostTest):
             wire = unittest.mock.Mock(is_tcp=True, write=sent.append)
             intake, committer, mender = (unittest.mock.Mock(names=frozenset(), bodies={}) for _ in range(3))
             intake.drop.return_value = intake.take.return_value = []
-            observers = Observers([*those, heard.append], lambda text, _: said.append(text))
+            every = [dict.fromkeys(get_args(Event), see) for see in (*those, heard.append)]
+            observers = Observers(every, lambda text, _: said.append(text))
             one = line.Line(line.Parts(wire, intake, observers, print, Counter(), mender, committer, line.Turns()))
             task = asyncio.ensure_future(one.run())
             for unit in (ENQ, frames(TEXTS)[0], EOT):
@@ -426,6 +428,15 @@ class Lines(HostTest):
         self.same("it is said", (len(bad[2]), bad[2][0]),
                   (len(good[1]), "who listens to the line failed at Came: ValueError: it fails"))
         self.same("nothing is said of the others", good[2], [])
+
+    def test_who_listens(self):
+        """An observer is called for the kinds of events that it listens for, and for no other."""
+        heard = []
+        observers = Observers([{Sent: heard.append}, {Sent: heard.append, Kept: heard.append}], print)
+        events = [Came(b"x"), Sent(ACK), Kept(), Closed("x")]
+        for event in events:
+            observers.tell(event)
+        self.same("calls", heard, [events[1], events[1], events[2]])
 
     def test_capture(self):
         """What went over a line is a capture that replays without a difference."""

@@ -11,7 +11,7 @@ from lislab.host.commits import Committer
 from lislink.link import LONG_FRAME_TEXT, Note, Step
 from lislab.diagnosis.events import Came, Meant
 from lislab.diagnosis.pulse import Probe, Pulse
-from tests.host.hosts import Host, HostTest, wait_for
+from tests.host.hosts import Host, HostTest, see, wait_for
 from tests.host.test_lines import ACK, ENQ, NAK, TEXTS, Client
 
 #: The longest text.
@@ -149,8 +149,8 @@ class Turns(HostTest):
             with unittest.mock.patch.object(Probe, "silent", lambda probe: looks.append(probe)):
                 for _ in range(50):
                     for note in (Note.OPENED, Note.ACCEPTED, Note.ENDED):
-                        probes[0].see(Came(b"x"))
-                        probes[0].see(Meant(0, step(note)))
+                        see(probes[0], Came(b"x"))
+                        see(probes[0], Meant(0, step(note)))
             asked.append(len(looks))
         self.true("looks at connections", asked[1] - asked[0] < 300, asked)
 

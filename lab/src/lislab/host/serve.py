@@ -213,8 +213,8 @@ class Host:
         intake = Intake(place.name, peer, place.encoding, self.limits.message, time.time, self._held, unknown)
         notice = functools.partial(self._notice, place.name, peer)
         is_careful, tape = place.careful != "no", self._tape(place.name)
-        those = [*([tape.see] if tape else []), Watch(notice).see, *self.board.observers(place, is_careful)]
-        observers = Observers([*those, functools.partial(unknown.see, counts, notice)], notice)
+        those = [*([tape.sees()] if tape else []), Watch(notice).sees(), *self.board.observers(place, is_careful)]
+        observers = Observers([*those, unknown.sees(counts, notice)], notice)
         given = wire, intake, observers, notice, counts, mender, self.committer, self.turns
         more = self.limits, place.frame, is_careful, self.asleep, self._texts
         line = self._line(place, peer, Parts(*given, *more))
