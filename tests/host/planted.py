@@ -187,7 +187,7 @@ FAULTS = {
         "host/intake.py", "one.fault or _after(one, reason), changes", "_after(one, reason), changes"
     ),
     "test_lines.Lines.test_enq_behind_eot": Edit(
-        "host/line.py", "                if self._is_through():\n                    return\n", ""
+        "host/line.py", "_turns()\n        return self._is_through()\n", "_turns()\n        return False\n"
     ),
     "test_lines.Lines.test_who_listens": Edit(
         "diagnosis/events.py", "self._those.get(type(event), ())", "sum(self._those.values(), [])"
@@ -259,7 +259,7 @@ FAULTS = {
         "model/options.py", "tuple(one for one in NAMES if one in given)", "tuple(given)"
     ),
     "test_noise.Noise.test_one_byte": Edit("host/serve.py", 'place.careful != "no"', "False"),
-    "test_noise.Careful.test_enq_and_stx": Edit("host/line.py", "            self._tell(Noise(count))\n", ""),
+    "test_noise.Careful.test_enq_and_stx": Edit("host/line.py", "            self._tell(Noise(self._noise - before))\n", ""),
     "test_noise.Careful.test_anew": Edit("host/serve.py", 'place.careful != "no"', "True"),
     "test_noise.Careful.test_mends": Edit("host/feeds.py", "_ENDS if is_careful else _BREAKS", "_BREAKS"),
     "test_notices.Said.test_a_bad_line": Edit(
@@ -477,8 +477,8 @@ FAULTS = {
     ),
     "test_turns.Turns.test_sqlite": Edit(
         "host/line.py",
-        "        if self._share.is_over():\n            self._pause",
-        "        if not self._share:\n            self._pause",
+        "        if self._share.is_over():\n            if self",
+        "        if not self._share:\n            if self",
     ),
     "test_turns.Turns.test_who_works_now_and_then": Edit("host/turns.py", "min(now - self._since, MOST)", "now - self._since"),
     "test_turns.Turns.test_many_connections_of_a_peer": Edit(

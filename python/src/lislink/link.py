@@ -72,6 +72,11 @@ class Step(NamedTuple):
     place: int
 
 
+#: The reply of each byte, and the notes by their numbers: looked up for each step.
+_REPLIES = (b"", *(bytes([byte]) for byte in range(1, 256)))
+_NOTES = {note.value: note for note in Note}
+
+
 def address(data: bytes) -> int:
     """The address of bytes. Keep them as long as it is used."""
     return ctypes.cast(ctypes.c_char_p(data), ctypes.c_void_p).value or 0
@@ -483,4 +488,4 @@ class Receiver(ReceivingEnd[Step]):
 
     def _told(self, out: _library.StepOut) -> Step:
         text = self._text() if out.has_text else None
-        return Step(bytes([out.reply]) if out.reply else b"", text, Note(out.note), out.detail, out.place)
+        return Step(_REPLIES[out.reply], text, _NOTES[out.note], out.detail, out.place)
