@@ -603,8 +603,8 @@ HARMLESS = (
     ),
     Edit(
         "model/sql.py",
-        "        if whole:\n            self._number(whole)",
-        "        if len(whole) > 0:\n            self._number(whole)",
+        "        if not ends:\n            return\n        self.lock",
+        "        if len(ends) == 0:\n            return\n        self.lock",
     ),
     Edit("out/deliver.py", "        elif not found:\n", "        elif found == 0:\n"),
     Edit("out/aside.py", "sorted([*others, row])", "sorted([row, *others])"),

@@ -159,7 +159,7 @@ class Pulse:
 
     def right(self, *kinds: str) -> None:
         """Something went right: what was wrong before is over, and remembered if it was bad."""
-        for kind in kinds:
+        for kind in kinds if self.troubles else ():
             if kind in self.troubles:
                 self.remember(self._bad(kind))
                 del self.troubles[kind]

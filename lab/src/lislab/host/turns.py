@@ -41,12 +41,12 @@ class Turns:
         """The account of a peer, which all its lines have."""
         return self._accounts.setdefault(peer, Account(self.had))
 
-    def is_full(self) -> bool:
-        """Whether the lines had enough in this turn of the loop."""
+    def is_full(self, now: float) -> bool:
+        """Whether the lines had enough in this turn of the loop, now that the thread has worked for so long."""
         if self._begun is None:
-            self._begun = self.worked()
+            self._begun = now
             asyncio.get_running_loop().call_soon(self._turn_over)
-        return self.worked() > self._begun + ALL
+        return now > self._begun + ALL
 
     def _turn_over(self) -> None:
         self._begun = None
@@ -100,7 +100,7 @@ class Share:
         enough for now."""
         self.rests()
         more = self._account.had - self._turns.had
-        return more > HEARS or (more > -HEARS and self._turns.is_full())
+        return more > HEARS or (more > -HEARS and self._turns.is_full(self._since))
 
     async def wait(self) -> None:
         """Done when it is the line's turn again."""
