@@ -75,33 +75,33 @@ FAULTS = {
         "host/serve.py", "if isinstance(place, Listen):\n            self.room", "if place:\n            self.room"
     ),
     "test_connect.Connect.test_orders": Edit(
-        "host/serve.py",
+        "host/tcp.py",
         "host.add(self, self._end.place, peer)",
         'host.add(self, self._end.place._replace(orders=""), peer)',
     ),
     "test_connect.Connect.test_gone_and_back": Edit(
-        "host/serve.py", "pause = min(2 * pause, MOST)", "pause = min(pause, MOST)"
+        "host/calls.py", "pause = min(2 * pause, MOST)", "pause = min(pause, MOST)"
     ),
     "test_connect.Connect.test_pause_that_ends": Edit(
-        "host/serve.py", "await asyncio.wait_for(self._changed.wait(), seconds)", "await asyncio.sleep(seconds)"
+        "host/calls.py", "await asyncio.wait_for(self._changed.wait(), seconds)", "await asyncio.sleep(seconds)"
     ),
     "test_connect.Connect.test_nothing_listens": Edit(
-        "host/serve.py", "if self._said.get(name) != why:", "if why:"
+        "host/asked.py", "if self.texts.get(name) != why:", "if why:"
     ),
     "test_connect.Connect.test_stop": Edit(
-        "host/serve.py",
-        "return not self.stopping and place in self.asked.connects",
-        "return place in self.asked.connects",
+        "host/calls.py",
+        "return not host.stopping and place in host.asked.connects",
+        "return place in host.asked.connects",
     ),
     "test_connect.Connect.test_reload": Edit(
         "host/serve.py", "if connect not in before:", "if connect.name not in {one.name for one in before}:"
     ),
     "test_connect.Connect.test_pauses": Edit(
-        "host/serve.py", "if line is not None and (line.had_session or", "if line and ("
+        "host/calls.py", "if line is not None and (line.had_session or", "if line and ("
     ),
     "test_connect.Connect.test_words": Edit("model/options.py", "    if not port:\n", "    if port < 0:\n"),
     "test_connect.Connect.test_a_call_to_itself": Edit(
-        "host/serve.py", 'name == transport.get_extra_info("sockname") or', 'name == () or'
+        "host/tcp.py", 'name == transport.get_extra_info("sockname") or', 'name == () or'
     ),
     "test_files.Whole.test_damaged": Edit(
         "cli/host.py", "return writing(path)", 'return contextlib.nullcontext(open(path, "wb"))'
@@ -150,7 +150,7 @@ FAULTS = {
     "test_late.Late.test_a_new_line": Edit(
         "host/duplex.py", "if self._site.is_anew and waits and self", "if False and waits and self"
     ),
-    "test_late.Late.test_the_same_line": Edit("host/serve.py", "Serial) and not place.waits:", "Serial) and place.waits:"),
+    "test_late.Late.test_the_same_line": Edit("host/asked.py", "Serial) and not place.waits:", "Serial) and place.waits:"),
     "test_late.Late.test_a_serial_line": Edit("host/duplex.py", "return max(float(seconds), QUIET - since)", "return seconds"),
     "test_late.Suspended.test_lines_are_taken_anew": Edit(
         "host/line.py", "(self._is_cut or not self._is_busy())", "not self._is_busy()"
@@ -174,15 +174,15 @@ FAULTS = {
         "host/line.py", "self._paused_at = since\n            self._wire.pause()\n", "self._paused_at = since\n"
     ),
     "test_lines.Lines.test_limits": Edit(
-        "host/serve.py", "self._lines.values())) < limits.lines:", "self._lines.values())) <= limits.lines:"
+        "host/ports.py", "self._lines.values())) < limits.lines:", "self._lines.values())) <= limits.lines:"
     ),
     "test_lines.Lines.test_one_address": Edit(
-        "host/serve.py", "key=lambda line: line.last_byte", "key=lambda line: -line.last_byte"
+        "host/ports.py", "key=lambda line: line.last_byte", "key=lambda line: -line.last_byte"
     ),
     "test_lines.Lines.test_long_frames": Edit(
         "host/line.py", "Receiver(frame_limit=frame, careful=self._is_careful)", "Receiver(careful=self._is_careful)"
     ),
-    "test_lines.Lines.test_peers": Edit("host/serve.py", "if name is None:", "if name == 0:"),
+    "test_lines.Lines.test_peers": Edit("host/tcp.py", "if name is None:", "if name == 0:"),
     "test_lines.Lines.test_quarantine": Edit(
         "host/intake.py", "one.fault or _after(one, reason), changes", "_after(one, reason), changes"
     ),
@@ -209,15 +209,15 @@ FAULTS = {
         "if not is_loopback(one.host) and networks and",
     ),
     "test_lines.Lines.test_written_addresses": Edit(
-        "host/serve.py", "peer = plain_address(name[0])", "peer = name[0]"
+        "host/tcp.py", "peer = plain_address(name[0])", "peer = name[0]"
     ),
     "test_lines_file.LinesFile.test_two_hundred_lines": Edit(
-        "host/serve.py", "port.place = found", "port.place = None"
+        "host/ports.py", "port.place = found", "port.place = None"
     ),
     "test_lines_file.LinesFile.test_allow": Edit(
-        "host/serve.py", "[*host.asked.networks, *place.allow]", "[*host.asked.networks]"
+        "host/ports.py", "[*host.asked.networks, *place.allow]", "[*host.asked.networks]"
     ),
-    "test_lines_file.LinesFile.test_changes": Edit("host/serve.py", "port.place = found", "port.place = port.place"),
+    "test_lines_file.LinesFile.test_changes": Edit("host/ports.py", "port.place = found", "port.place = port.place"),
     "test_lines_file.LinesFile.test_command": Edit(
         "cli/host.py", "return WRONG if found.faults else GOOD", "return GOOD"
     ),
@@ -226,11 +226,11 @@ FAULTS = {
     ),
     "test_lines_file.LinesFile.test_reloads": Edit("host/serve.py", "if place not in now:", "if place.name:"),
     "test_lines_file.LinesFile.test_serial": Edit(
-        "host/serve.py", "while not self.stopping and serial in self.asked.serials:", "while not self.stopping:"
+        "host/serials.py", "while not host.stopping and serial in host.asked.serials:", "while not host.stopping:"
     ),
     "test_lines_file.LinesFile.test_start": Edit("cli/host.py", "    if twice:\n", "    if twice and not read:\n"),
     "test_load.Load.test_200_analyzers": Edit(
-        "host/serve.py", "self._lines.values())) < limits.lines:", "self._lines.values())) < 100:"
+        "host/ports.py", "self._lines.values())) < limits.lines:", "self._lines.values())) < 100:"
     ),
     "test_load.Load.test_memory": Edit(
         "model/sql.py",
@@ -431,16 +431,16 @@ FAULTS = {
         '    if fault is not None:\n        say("")\n    for one in done:\n        if one.done():',
     ),
     "test_serial.Serial.test_a_device_that_is_no_terminal": Edit(
-        "host/serve.py", "self._ready is False and not self._unusable and", "self._ready is False and"
+        "host/serials.py", "self._ready is False and not self._unusable and", "self._ready is False and"
     ),
     "test_serial.Serial.test_a_host_that_stops_is_not_ready": Edit(
-        "host/serve.py", "not self._unusable and not self.stopping:", "not self._unusable:"
+        "host/serials.py", "not self._unusable and not self._host.stopping:", "not self._unusable:"
     ),
     "test_serial.Serial.test_a_speed_that_is_not_taken": Edit(
         "host/tty.py", "            _check_speed(descriptor, serial)\n", ""
     ),
     "test_serial.Serial.test_a_device_that_is_gone_at_once": Edit(
-        "host/serve.py", "if time.monotonic() < opened + REOPEN:", "if time.monotonic() < opened:"
+        "host/serials.py", "if time.monotonic() < opened + REOPEN:", "if time.monotonic() < opened:"
     ),
     "test_serial.Serial.test_a_reply_that_is_held_up": Edit(
         "host/tty.py", "if _is_held_up(self._descriptor):", "if not _is_held_up(self._descriptor):"
@@ -452,7 +452,7 @@ FAULTS = {
         "host/tty.py", "[taken, 0, control, 0,", "[taken, 0, control, termios.ICANON,"
     ),
     "test_status.Status.test_a_state_that_cannot_be_written": Edit(
-        "host/serve.py", "if why and not self._said.get(path):", "if why:"
+        "host/state.py", "if why and not self._why:", "if why:"
     ),
     "test_telnet.Terminals.test_connect": Edit("host/telnet.py", "option in (_BINARY, _GO_AHEAD)", "option >= 0"),
     "test_telnet.Terminals.test_cuts": Edit(
@@ -460,7 +460,7 @@ FAULTS = {
     ),
     "test_telnet.Terminals.test_orders": Edit("host/telnet.py", 'rb"\\r(?!\\n)", b"\\r\\0"', 'rb"\\r(?!\\n)", b"\\r"'),
     "test_telnet.Terminals.test_without": Edit(
-        "host/serve.py", "Telnet() if self._end.place.telnet else None", "Telnet()"
+        "host/tcp.py", "Telnet() if self._end.place.telnet else None", "Telnet()"
     ),
     "test_telnet.Terminals.test_words": Edit(
         "model/options.py",
@@ -579,7 +579,7 @@ HARMLESS = (
         "        one.places += 1\n        one.size += len(body)\n        one.digest.update(body)\n",
         "        one.digest.update(body)\n        one.size += len(body)\n        one.places += 1\n",
     ),
-    Edit("host/serve.py", "            host.refused += 1\n", "            host.refused = 1 + host.refused\n"),
+    Edit("host/ports.py", "            host.refused += 1\n", "            host.refused = 1 + host.refused\n"),
     Edit(
         "diagnosis/reports.py",
         '_taken = 0\n        self._why, self._rejected_at = "", -1\n\n    def _without',

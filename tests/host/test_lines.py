@@ -13,7 +13,7 @@ from typing import get_args
 from lislink import FrameFault, frame_bytes
 from lislink.link import LONG_FRAME_TEXT
 from lislab.diagnosis.events import Came, Closed, Event, Kept, Observers, Sent
-from lislab.host import line, serve
+from lislab.host import line, ports, tcp
 from lislab.model import options
 from tests.host.hosts import NEVER, Found, Host, HostTest, lislab, sending, wait_for
 
@@ -321,7 +321,7 @@ class Lines(HostTest):
             transport.get_extra_info.side_effect = {"peername": peer, "socket": unittest.mock.Mock()}.get
             host = unittest.mock.Mock(stopping=False, lines={}, limits=options.Limits(), refused=0)
             host.asked.networks = options.networks_of(["192.0.2.0/24"])
-            serve.TcpWire(host, serve.Port(options.listen_of("0"))).connection_made(transport)
+            tcp.TcpWire(host, ports.Port(options.listen_of("0"))).connection_made(transport)
             found = transport.abort.call_count, host.add.call_count, host.refused
             self.same(f"{peer}: broken off, a line, refused", found, wanted)
             said = [call.args[1] for call in host.notices.say.call_args_list]
@@ -487,7 +487,7 @@ class Lines(HostTest):
 
     def test_written_addresses(self):
         """An address of IPv4 and the same one written in IPv6 are counted together."""
-        host, port = unittest.mock.Mock(stopping=False), serve.Port(options.listen_of("0,name=one"))
+        host, port = unittest.mock.Mock(stopping=False), ports.Port(options.listen_of("0,name=one"))
         host.asked.networks = options.networks_of(["192.0.2.0/24", "2001:db8::/32"])
         for given, wanted in (
             ("192.0.2.7", "192.0.2.7"),
@@ -497,6 +497,6 @@ class Lines(HostTest):
         ):
             transport = unittest.mock.Mock(spec=asyncio.Transport)
             transport.get_extra_info.side_effect = {"peername": (given, 4000), "socket": unittest.mock.Mock()}.get
-            serve.TcpWire(host, port).connection_made(transport)
+            tcp.TcpWire(host, port).connection_made(transport)
             self.same(f"{given} is counted as", host.room.has_room.call_args[0][1], wanted)
             self.same(f"{given} is shown as", host.add.call_args[0][2], wanted)
