@@ -541,6 +541,9 @@ FAULTS = {
     "test_watch_page.Looks.test_metrics": Edit(
         "watch/metrics.py", "            total += count\n", "            total = count\n"
     ),
+    "test_watch_page.Looks.test_pages_of_a_spool": Edit(
+        "model/spool.py", "in self._listed(WHOLE)[: -AMONG - 1 : -1])", "in self._listed(WHOLE)[-AMONG:])"
+    ),
     "test_watch_page.Looks.test_notify": Edit(
         "watch/notify.py", "if before is None or (before", "if before or (before"
     ),

@@ -7,6 +7,7 @@ from typing import Any, ContextManager, Dict, Iterator, List, Optional, Sequence
 from .schema import LATER, ORDERS, SCHEMA, TABLES
 from .store import (
     LEFT,
+    LISTED,
     MENDED,
     OPEN,
     UNFINISHED,
@@ -15,6 +16,7 @@ from .store import (
     Add,
     Begin,
     End,
+    Head,
     LineCount,
     Store,
     StoreError,
@@ -22,11 +24,12 @@ from .store import (
     Unit,
 )
 
-#: How many rows one statement puts.
-ROWS = 100
+#: How many rows one statement puts; among how many messages the last ones of a line are looked for.
+ROWS, AMONG = 100, 100_000
 # In the words of the index of messages that aren't whole.
 _OPEN_HOSTS = f"SELECT DISTINCT host FROM message WHERE state <> '{WHOLE}' AND state = '{OPEN}'"
 T = TypeVar("T")
+_HEADS = "SELECT number, line, began, ended, state, reason, key, size FROM message"
 _COLUMNS = "number, key, line, peer, encoding, began, ended, state, reason, again_of"
 
 
@@ -242,6 +245,49 @@ class SqlStore(Store):
         for row in rows:
             one = self._stored(row)
             yield one._replace(state=UNFINISHED, reason=LEFT) if one.state == OPEN else one
+
+    def heads(self, after: int, most: int) -> List[Head]:
+        rows = self.read(f"{_HEADS} WHERE number > ? ORDER BY number LIMIT ?", (after, most))
+        return [Head._make(row) for row in rows]
+
+    def _newest(self) -> int:
+        """The number of the last whole message; 0 if there is none."""
+        return int(self.read("SELECT coalesce(max(number), 0) FROM message")[0][0])
+
+    def last_heads(self, line: str, most: int = LISTED) -> List[Head]:
+        rows = self.read(
+            f"{_HEADS} WHERE number > ? AND line = ? ORDER BY number DESC LIMIT ?", (self._newest() - AMONG, line, most)
+        )
+        return [Head._make(row) for row in rows]
+
+    def not_whole(self, line: Optional[str] = None, most: int = LISTED) -> List[Head]:
+        words, values = ("AND line = ?", [line]) if line is not None else ("", [])
+        rows = self.read(
+            f"{_HEADS} WHERE state <> '{WHOLE}' AND state IN (?, ?) {words} ORDER BY began DESC LIMIT ?",
+            (UNFINISHED, UNREADABLE, *values, most),
+        )
+        return [Head._make(row) for row in rows]
+
+    def message(self, key: str) -> Optional[Stored]:
+        rows = self.read("SELECT number FROM message WHERE key = ?", (key,))
+        if rows and rows[0][0] is not None:
+            return next(iter(self.messages(int(rows[0][0]) - 1, 1)), None)
+        return next((one for one in (self.others() if rows else ()) if one.key == key), None)
+
+    def count_after(self, number: int) -> int:
+        return int(self.read("SELECT count(*) FROM message WHERE number > ?", (number,))[0][0])
+
+    def number_at(self, at: float) -> int:
+        """Numbers rise with the time."""
+        low, high = 0, self._newest()
+        while low < high:
+            middle = (low + high) // 2
+            rows = self.read("SELECT number, ended FROM message WHERE number > ? ORDER BY number LIMIT 1", (middle,))
+            if rows and rows[0][1] < at:
+                low = int(rows[0][0])
+            else:
+                high = middle
+        return low
 
     def _stored(self, row: Tuple[Any, ...]) -> Stored:
         return Stored._make([*row, self.body_of(row[1])])
