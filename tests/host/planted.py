@@ -314,7 +314,7 @@ FAULTS = {
     "test_out.OutOfSpool.test_status": Edit(
         "model/spool.py", 'if about.get("again_of"))', 'if not about.get("again_of"))'
     ),
-    "test_out.OutOfSpool.test_wanted": Edit("model/spool.py", '.split("-")[0]) > after]', '.split("-")[0]) >= after]'),
+    "test_out.OutOfSpool.test_wanted": Edit("model/spool.py", 'f"{number:016}~"', 'f"{number:016}"'),
     "test_out.OutOfSqlite.test_delivery_to_a_command": Edit(
         "out/deliver.py", "        if status:\n", "        if status < 0:\n"
     ),

@@ -7,6 +7,7 @@ acknowledgement, and moved to its place when its message is whole.
     unfinished/KEY.records    the acknowledged texts of one that never became whole; unreadable/ the same
     digests/DIGEST            which whole message has these bytes first
 """
+import bisect
 import contextlib
 import hashlib
 import itertools
@@ -77,13 +78,11 @@ class SpoolStore(Store):
 
     def _names(self, state: str) -> List[str]:
         """The messages in a state, without the ends of their files' names; open ones of which something is kept."""
-        end = "" if state == OPEN else ".records"
-        names = [
-            name for name in os.listdir(self._path(state)) if name.endswith(end) and not name.endswith(".about")
-        ]
-        if state == OPEN:
-            names = [name for name in names if _size_of(self._path(OPEN, name))]
-        return sorted(name[: len(name) - len(end)] for name in names if not name.startswith("."))
+        names = os.listdir(self._path(state))
+        if state != OPEN:
+            return sorted([name[: -len(".records")] for name in names if name.endswith(".records") and name[0] != "."])
+        kept = [name for name in names if name[0] != "." and not name.endswith(".about")]
+        return sorted([name for name in kept if _size_of(self._path(OPEN, name))])
 
     def _take_last(self) -> None:
         """Goes on after the last whole message, which a host that died may have left without its mark."""
@@ -234,10 +233,14 @@ class SpoolStore(Store):
             sync_folder(self._path(name))
 
     def messages(self, after: int = 0, limit: Optional[int] = None) -> Iterator[Stored]:
-        names = [name for name in self._listed(WHOLE) if int(name.split("-")[0]) > after]
-        for name in names[:limit]:
+        for name in self._after(after)[:limit]:
             number, key = name.split("-")
             yield self._stored(WHOLE, name, int(number), key)
+
+    def _after(self, number: int) -> List[str]:
+        """Whole messages with a number above this one, in order, by their names."""
+        names = self._listed(WHOLE)
+        return names[bisect.bisect(names, f"{number:016}~") :]
 
     def _others(self) -> List[Tuple[str, str]]:
         """Messages that aren't whole: the name and the state of each, in the order in which they began."""
@@ -250,8 +253,7 @@ class SpoolStore(Store):
             yield self._left(name) if state == OPEN else self._stored(state, name, None, name)
 
     def heads(self, after: int, most: int) -> List[Head]:
-        names = [name for name in self._listed(WHOLE) if int(name.split("-")[0]) > after]
-        return [self._head(WHOLE, name) for name in names[:most]]
+        return [self._head(WHOLE, name) for name in self._after(after)[:most]]
 
     def last_heads(self, line: str, most: int = LISTED) -> List[Head]:
         found = (self._head(WHOLE, name) for name in self._listed(WHOLE)[: -AMONG - 1 : -1])
@@ -268,7 +270,7 @@ class SpoolStore(Store):
         return next((one for one in self.others() if one.key == key), None)
 
     def count_after(self, number: int) -> int:
-        return sum(int(name.split("-")[0]) > number for name in self._listed(WHOLE))
+        return len(self._after(number))
 
     def number_at(self, at: float) -> int:
         """Numbers are times, in microseconds."""
