@@ -301,9 +301,9 @@ FAULTS = {
     "test_out.Files.test_no_library": Edit("cli/host.py", "    calls()  # without", "    # without"),
     "test_out.Names.test_names": Edit("message.py", "sequence source comment_text", "sequence source text"),
     "test_out.OutOfSpool.test_delivery_to_a_command": Edit(
-        "model/spool.py", 'if not name.startswith("."))', 'if not name.startswith("."))[::-1]'
+        "model/spool.py", 'name[0] != "."])\n        kept', 'name[0] != "."])[::-1]\n        kept'
     ),
-    "test_out.OutOfSpool.test_delivery_to_a_directory": Edit("model/spool.py", "names[:limit]", "names[-1:]"),
+    "test_out.OutOfSpool.test_delivery_to_a_directory": Edit("model/spool.py", "self._after(after)[:limit]", "self._after(after)[-1:]"),
     "test_out.OutOfSpool.test_export": Edit("model/spool.py", 'about["again_of"], body)', "None, body)"),
     "test_out.OutOfSpool.test_one_host": Edit(
         "model/spool.py", "take_lock(self._path(\"host\"))", "take_lock(self._path(f'host{os.getpid()}'))"
