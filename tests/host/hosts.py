@@ -201,6 +201,11 @@ class Host:
             return next(int(row.split()[1]) for row in file if row.startswith("VmRSS"))
 
 
+def see(observer, event):
+    """What an observer does at an event."""
+    observer.sees()[type(event)](event)
+
+
 def trouble(said):
     """What a host said, without the lines that came and went."""
     return [row for row in said.splitlines() if not re.search(r": (connected|open|closed .*)$", row)]

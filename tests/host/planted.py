@@ -44,6 +44,9 @@ FAULTS = {
     "test_commits.Owed.test_one_that_fails": Edit(
         "host/commits.py", "self._owed.extend(batch)\n", "self._owed.extendleft(reversed(batch))\n"
     ),
+    "test_commits.Steps.test_a_commit_of_many": Edit(
+        "model/sql.py", "sorted({(one.line, one.digest) for one in ends})", "[(one.line, one.digest) for one in ends]"
+    ),
     "test_commits.Owed.test_said_once_kept": Edit(
         "host/line.py",
         "kept.add_done_callback(lambda done: None if done.cancelled() else self._note_ends(changes))",
@@ -62,7 +65,7 @@ FAULTS = {
         "model/postgresql.py", "if is_answered and self._db", "if not is_answered and self._db"
     ),
     "test_postgres.RepeatsOfPostgres.test_what_is_owed": Edit(
-        "model/sql.py", "if states.get(end.key) == WHOLE:  #", "if not states:  #"
+        "model/sql.py", "if states[one.key] == OPEN]", "if states]"
     ),
     "test_repeats.RepeatsOfSqlite.test_what_is_owed": Edit("model/sql.py", " ON CONFLICT DO NOTHING", ""),
     "test_repeats.RepeatsOfSpool.test_what_is_owed": Edit(
@@ -72,33 +75,33 @@ FAULTS = {
         "host/serve.py", "if isinstance(place, Listen):\n            self.room", "if place:\n            self.room"
     ),
     "test_connect.Connect.test_orders": Edit(
-        "host/serve.py",
+        "host/tcp.py",
         "host.add(self, self._end.place, peer)",
         'host.add(self, self._end.place._replace(orders=""), peer)',
     ),
     "test_connect.Connect.test_gone_and_back": Edit(
-        "host/serve.py", "pause = min(2 * pause, MOST)", "pause = min(pause, MOST)"
+        "host/calls.py", "pause = min(2 * pause, MOST)", "pause = min(pause, MOST)"
     ),
     "test_connect.Connect.test_pause_that_ends": Edit(
-        "host/serve.py", "await asyncio.wait_for(self._changed.wait(), seconds)", "await asyncio.sleep(seconds)"
+        "host/calls.py", "await asyncio.wait_for(self._changed.wait(), seconds)", "await asyncio.sleep(seconds)"
     ),
     "test_connect.Connect.test_nothing_listens": Edit(
-        "host/serve.py", "if self._said.get(name) != why:", "if why:"
+        "host/asked.py", "if self.texts.get(name) != why:", "if why:"
     ),
     "test_connect.Connect.test_stop": Edit(
-        "host/serve.py",
-        "return not self.stopping and place in self.asked.connects",
-        "return place in self.asked.connects",
+        "host/calls.py",
+        "return not host.stopping and place in host.asked.connects",
+        "return place in host.asked.connects",
     ),
     "test_connect.Connect.test_reload": Edit(
         "host/serve.py", "if connect not in before:", "if connect.name not in {one.name for one in before}:"
     ),
     "test_connect.Connect.test_pauses": Edit(
-        "host/serve.py", "if line is not None and (line.had_session or", "if line and ("
+        "host/calls.py", "if line is not None and (line.had_session or", "if line and ("
     ),
     "test_connect.Connect.test_words": Edit("model/options.py", "    if not port:\n", "    if port < 0:\n"),
     "test_connect.Connect.test_a_call_to_itself": Edit(
-        "host/serve.py", 'name == transport.get_extra_info("sockname") or', 'name == () or'
+        "host/tcp.py", 'name == transport.get_extra_info("sockname") or', 'name == () or'
     ),
     "test_files.Whole.test_damaged": Edit(
         "cli/host.py", "return writing(path)", 'return contextlib.nullcontext(open(path, "wb"))'
@@ -147,7 +150,7 @@ FAULTS = {
     "test_late.Late.test_a_new_line": Edit(
         "host/duplex.py", "if self._site.is_anew and waits and self", "if False and waits and self"
     ),
-    "test_late.Late.test_the_same_line": Edit("host/serve.py", "Serial) and not place.waits:", "Serial) and place.waits:"),
+    "test_late.Late.test_the_same_line": Edit("host/asked.py", "Serial) and not place.waits:", "Serial) and place.waits:"),
     "test_late.Late.test_a_serial_line": Edit("host/duplex.py", "return max(float(seconds), QUIET - since)", "return seconds"),
     "test_late.Suspended.test_lines_are_taken_anew": Edit(
         "host/line.py", "(self._is_cut or not self._is_busy())", "not self._is_busy()"
@@ -171,20 +174,23 @@ FAULTS = {
         "host/line.py", "self._paused_at = since\n            self._wire.pause()\n", "self._paused_at = since\n"
     ),
     "test_lines.Lines.test_limits": Edit(
-        "host/serve.py", "self._lines.values())) < limits.lines:", "self._lines.values())) <= limits.lines:"
+        "host/ports.py", "self._lines.values())) < limits.lines:", "self._lines.values())) <= limits.lines:"
     ),
     "test_lines.Lines.test_one_address": Edit(
-        "host/serve.py", "key=lambda line: line.last_byte", "key=lambda line: -line.last_byte"
+        "host/ports.py", "key=lambda line: line.last_byte", "key=lambda line: -line.last_byte"
     ),
     "test_lines.Lines.test_long_frames": Edit(
         "host/line.py", "Receiver(frame_limit=frame, careful=self._is_careful)", "Receiver(careful=self._is_careful)"
     ),
-    "test_lines.Lines.test_peers": Edit("host/serve.py", "if name is None:", "if name == 0:"),
+    "test_lines.Lines.test_peers": Edit("host/tcp.py", "if name is None:", "if name == 0:"),
     "test_lines.Lines.test_quarantine": Edit(
         "host/intake.py", "one.fault or _after(one, reason), changes", "_after(one, reason), changes"
     ),
     "test_lines.Lines.test_enq_behind_eot": Edit(
-        "host/line.py", "                if self._is_through():\n                    return\n", ""
+        "host/line.py", "_turns()\n        return self._is_through()\n", "_turns()\n        return False\n"
+    ),
+    "test_lines.Lines.test_who_listens": Edit(
+        "diagnosis/events.py", "self._those.get(type(event), ())", "sum(self._those.values(), [])"
     ),
     "test_lines.Lines.test_observers": Edit("diagnosis/events.py", "except Exception as error:", "except OSError as error:"),
     "test_lines.Lines.test_giving_way": Edit("host/line.py", "return self._is_through() or (", "return ("),
@@ -203,15 +209,15 @@ FAULTS = {
         "if not is_loopback(one.host) and networks and",
     ),
     "test_lines.Lines.test_written_addresses": Edit(
-        "host/serve.py", "peer = plain_address(name[0])", "peer = name[0]"
+        "host/tcp.py", "peer = plain_address(name[0])", "peer = name[0]"
     ),
     "test_lines_file.LinesFile.test_two_hundred_lines": Edit(
-        "host/serve.py", "port.place = found", "port.place = None"
+        "host/ports.py", "port.place = found", "port.place = None"
     ),
     "test_lines_file.LinesFile.test_allow": Edit(
-        "host/serve.py", "[*host.asked.networks, *place.allow]", "[*host.asked.networks]"
+        "host/ports.py", "[*host.asked.networks, *place.allow]", "[*host.asked.networks]"
     ),
-    "test_lines_file.LinesFile.test_changes": Edit("host/serve.py", "port.place = found", "port.place = port.place"),
+    "test_lines_file.LinesFile.test_changes": Edit("host/ports.py", "port.place = found", "port.place = port.place"),
     "test_lines_file.LinesFile.test_command": Edit(
         "cli/host.py", "return WRONG if found.faults else GOOD", "return GOOD"
     ),
@@ -220,11 +226,11 @@ FAULTS = {
     ),
     "test_lines_file.LinesFile.test_reloads": Edit("host/serve.py", "if place not in now:", "if place.name:"),
     "test_lines_file.LinesFile.test_serial": Edit(
-        "host/serve.py", "while not self.stopping and serial in self.asked.serials:", "while not self.stopping:"
+        "host/serials.py", "while not host.stopping and serial in host.asked.serials:", "while not host.stopping:"
     ),
     "test_lines_file.LinesFile.test_start": Edit("cli/host.py", "    if twice:\n", "    if twice and not read:\n"),
     "test_load.Load.test_200_analyzers": Edit(
-        "host/serve.py", "self._lines.values())) < limits.lines:", "self._lines.values())) < 100:"
+        "host/ports.py", "self._lines.values())) < limits.lines:", "self._lines.values())) < 100:"
     ),
     "test_load.Load.test_memory": Edit(
         "model/sql.py",
@@ -253,7 +259,7 @@ FAULTS = {
         "model/options.py", "tuple(one for one in NAMES if one in given)", "tuple(given)"
     ),
     "test_noise.Noise.test_one_byte": Edit("host/serve.py", 'place.careful != "no"', "False"),
-    "test_noise.Careful.test_enq_and_stx": Edit("host/line.py", "            self._tell(Noise(count))\n", ""),
+    "test_noise.Careful.test_enq_and_stx": Edit("host/line.py", "            self._tell(Noise(self._noise - before))\n", ""),
     "test_noise.Careful.test_anew": Edit("host/serve.py", 'place.careful != "no"', "True"),
     "test_noise.Careful.test_mends": Edit("host/feeds.py", "_ENDS if is_careful else _BREAKS", "_BREAKS"),
     "test_notices.Said.test_a_bad_line": Edit(
@@ -295,9 +301,9 @@ FAULTS = {
     "test_out.Files.test_no_library": Edit("cli/host.py", "    calls()  # without", "    # without"),
     "test_out.Names.test_names": Edit("message.py", "sequence source comment_text", "sequence source text"),
     "test_out.OutOfSpool.test_delivery_to_a_command": Edit(
-        "model/spool.py", 'if not name.startswith("."))', 'if not name.startswith("."))[::-1]'
+        "model/spool.py", 'name[0] != "."])\n        kept', 'name[0] != "."])[::-1]\n        kept'
     ),
-    "test_out.OutOfSpool.test_delivery_to_a_directory": Edit("model/spool.py", "names[:limit]", "names[-1:]"),
+    "test_out.OutOfSpool.test_delivery_to_a_directory": Edit("model/spool.py", "self._after(after)[:limit]", "self._after(after)[-1:]"),
     "test_out.OutOfSpool.test_export": Edit("model/spool.py", 'about["again_of"], body)', "None, body)"),
     "test_out.OutOfSpool.test_one_host": Edit(
         "model/spool.py", "take_lock(self._path(\"host\"))", "take_lock(self._path(f'host{os.getpid()}'))"
@@ -308,7 +314,7 @@ FAULTS = {
     "test_out.OutOfSpool.test_status": Edit(
         "model/spool.py", 'if about.get("again_of"))', 'if not about.get("again_of"))'
     ),
-    "test_out.OutOfSpool.test_wanted": Edit("model/spool.py", '.split("-")[0]) > after]', '.split("-")[0]) >= after]'),
+    "test_out.OutOfSpool.test_wanted": Edit("model/spool.py", 'f"{number:016}~"', 'f"{number:016}"'),
     "test_out.OutOfSqlite.test_delivery_to_a_command": Edit(
         "out/deliver.py", "        if status:\n", "        if status < 0:\n"
     ),
@@ -383,8 +389,8 @@ FAULTS = {
     ),
     "test_postgres.RepeatsOfPostgres.test_each_write": Edit(
         "model/sql.py",
-        "again_of IS NULL AND state = '{WHOLE}'\"\n            found",
-        "again_of IS NULL\"\n            found",
+        "again_of IS NULL AND state = '{WHOLE}'\"\n            first",
+        "again_of IS NULL\"\n            first",
     ),
     "test_postgres.Postgres.test_start_while_another_commits": Edit(
         "model/postgresql.py", "[0][0] is not None", "[0][0] == 0"
@@ -412,8 +418,8 @@ FAULTS = {
     ),
     "test_repeats.RepeatsOfSqlite.test_each_write": Edit(
         "model/sql.py",
-        "again_of IS NULL AND state = '{WHOLE}'\"\n            found",
-        "again_of IS NULL\"\n            found",
+        "again_of IS NULL AND state = '{WHOLE}'\"\n            first",
+        "again_of IS NULL\"\n            first",
     ),
     "test_said.Said.test_signs_for_a_terminal": Edit("watch/status.py", "shown(row) + ", "row + "),
     "test_said.Said.test_the_password_of_a_database": Edit("model/postgresql.py", '== address.count("@") < 2', "!= 9"),
@@ -425,16 +431,16 @@ FAULTS = {
         '    if fault is not None:\n        say("")\n    for one in done:\n        if one.done():',
     ),
     "test_serial.Serial.test_a_device_that_is_no_terminal": Edit(
-        "host/serve.py", "self._ready is False and not self._unusable and", "self._ready is False and"
+        "host/serials.py", "self._ready is False and not self._unusable and", "self._ready is False and"
     ),
     "test_serial.Serial.test_a_host_that_stops_is_not_ready": Edit(
-        "host/serve.py", "not self._unusable and not self.stopping:", "not self._unusable:"
+        "host/serials.py", "not self._unusable and not self._host.stopping:", "not self._unusable:"
     ),
     "test_serial.Serial.test_a_speed_that_is_not_taken": Edit(
         "host/tty.py", "            _check_speed(descriptor, serial)\n", ""
     ),
     "test_serial.Serial.test_a_device_that_is_gone_at_once": Edit(
-        "host/serve.py", "if time.monotonic() < opened + REOPEN:", "if time.monotonic() < opened:"
+        "host/serials.py", "if time.monotonic() < opened + REOPEN:", "if time.monotonic() < opened:"
     ),
     "test_serial.Serial.test_a_reply_that_is_held_up": Edit(
         "host/tty.py", "if _is_held_up(self._descriptor):", "if not _is_held_up(self._descriptor):"
@@ -446,7 +452,7 @@ FAULTS = {
         "host/tty.py", "[taken, 0, control, 0,", "[taken, 0, control, termios.ICANON,"
     ),
     "test_status.Status.test_a_state_that_cannot_be_written": Edit(
-        "host/serve.py", "if why and not self._said.get(path):", "if why:"
+        "host/state.py", "if why and not self._why:", "if why:"
     ),
     "test_telnet.Terminals.test_connect": Edit("host/telnet.py", "option in (_BINARY, _GO_AHEAD)", "option >= 0"),
     "test_telnet.Terminals.test_cuts": Edit(
@@ -454,7 +460,7 @@ FAULTS = {
     ),
     "test_telnet.Terminals.test_orders": Edit("host/telnet.py", 'rb"\\r(?!\\n)", b"\\r\\0"', 'rb"\\r(?!\\n)", b"\\r"'),
     "test_telnet.Terminals.test_without": Edit(
-        "host/serve.py", "Telnet() if self._end.place.telnet else None", "Telnet()"
+        "host/tcp.py", "Telnet() if self._end.place.telnet else None", "Telnet()"
     ),
     "test_telnet.Terminals.test_words": Edit(
         "model/options.py",
@@ -471,11 +477,12 @@ FAULTS = {
     ),
     "test_turns.Turns.test_sqlite": Edit(
         "host/line.py",
-        "        if self._share.is_over():\n            self._pause",
-        "        if not self._share:\n            self._pause",
+        "        if self._share.is_over():\n            if self",
+        "        if not self._share:\n            if self",
     ),
-    "test_turns.Turns.test_who_works_now_and_then": Edit(
-        "host/turns.py", "max(self._turns.had - CREDIT, self._had) + now", "self._turns.had - CREDIT + now"
+    "test_turns.Turns.test_who_works_now_and_then": Edit("host/turns.py", "min(now - self._since, MOST)", "now - self._since"),
+    "test_turns.Turns.test_many_connections_of_a_peer": Edit(
+        "host/turns.py", "turns.account(peer), turns", "Account(turns.had), turns"
     ),
     "test_turns.Turns.test_connections_of_a_line": Edit(
         "diagnosis/pulse.py", "if time.monotonic() - pulse.good_at < PATIENCE * pulse.scale:", "if pulse.good_at < 0:"
@@ -534,6 +541,9 @@ FAULTS = {
     "test_watch_page.Looks.test_metrics": Edit(
         "watch/metrics.py", "            total += count\n", "            total = count\n"
     ),
+    "test_watch_page.Looks.test_pages_of_a_spool": Edit(
+        "model/spool.py", "in self._listed(WHOLE)[: -AMONG - 1 : -1])", "in self._listed(WHOLE)[-AMONG:])"
+    ),
     "test_watch_page.Looks.test_notify": Edit(
         "watch/notify.py", "if before is None or (before", "if before or (before"
     ),
@@ -572,7 +582,7 @@ HARMLESS = (
         "        one.places += 1\n        one.size += len(body)\n        one.digest.update(body)\n",
         "        one.digest.update(body)\n        one.size += len(body)\n        one.places += 1\n",
     ),
-    Edit("host/serve.py", "            host.refused += 1\n", "            host.refused = 1 + host.refused\n"),
+    Edit("host/ports.py", "            host.refused += 1\n", "            host.refused = 1 + host.refused\n"),
     Edit(
         "diagnosis/reports.py",
         '_taken = 0\n        self._why, self._rejected_at = "", -1\n\n    def _without',
@@ -596,8 +606,8 @@ HARMLESS = (
     ),
     Edit(
         "model/sql.py",
-        "        if whole:\n            self._number(whole)",
-        "        if len(whole) > 0:\n            self._number(whole)",
+        "        if not ends:\n            return\n        self.lock",
+        "        if len(ends) == 0:\n            return\n        self.lock",
     ),
     Edit("out/deliver.py", "        elif not found:\n", "        elif found == 0:\n"),
     Edit("out/aside.py", "sorted([*others, row])", "sorted([row, *others])"),

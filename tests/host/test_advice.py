@@ -6,7 +6,7 @@ from lislink.link import Receiver
 from lislab.diagnosis.events import Came, Meant
 from lislab.diagnosis.pulse import Probe, Pulse
 from lislab.diagnosis.verdicts import Verdict
-from tests.host.hosts import HostTest
+from tests.host.hosts import HostTest, see
 from tests.host.plain import frame
 from tests.host.test_lines import ENQ, EOT, TEXTS
 from tests.host.test_watch import H, body, even, odd
@@ -35,9 +35,9 @@ def told(stream):
     pulse = Pulse(240, 0.0)  # no timer is waited for
     probe = Probe(pulse)
     with Receiver() as receiver:
-        probe.see(Came(stream))
+        see(probe, Came(stream))
         for place, step in receiver.hear_placed(stream):
-            probe.see(Meant(place, step))
+            see(probe, Meant(place, step))
     found = pulse.says()
     return found, looks_of(Ladder(Capture(1, [(1, Line(">", stream))], [None])))
 

@@ -6,6 +6,7 @@ from collections import Counter
 from lislab.host import line
 from lislab.host.commits import Committer
 from lislab.model.store import StoreError
+from lislab.model.stores import open_store
 from tests.host.hosts import HostTest
 from tests.host.test_repeats import begun, ended
 
@@ -69,3 +70,41 @@ class Owed(HostTest):
             return before, (counts["messages"], one.last)
 
         self.same("before and after", asyncio.run(runs()), ((0, None), (1, 2.0)))
+
+
+class Rows:
+    """A cursor that notes each row that is read."""
+
+    def __init__(self, cursor, steps):
+        self._cursor, self._steps = cursor, steps
+
+    def fetchone(self):
+        """A row."""
+        self._steps.append("row")
+        return self._cursor.fetchone()
+
+    def fetchall(self):
+        """All rows."""
+        rows = self._cursor.fetchall()
+        self._steps.extend(["row"] * len(rows))
+        return rows
+
+
+class Steps(HostTest):
+    """What a commit asks of SQLite. The thread that commits waits for its turn after each statement and each row."""
+
+    def test_a_commit_of_many(self):
+        """A commit of the messages of many lines takes few steps: of other bytes each, and all of the same."""
+        store, steps = open_store(self.path("steps.db")), []
+        store.start("steps")
+        run = store.run
+        for name, many in (("other bytes", 100), ("the same bytes", 1), ("the same bytes again", 1)):
+            units = [[*begun(f"{name} {at}"), *ended(f"{name} {at}")] for at in range(100)]
+            units = [[*rest, end._replace(digest=f"{many} {at % many}")] for at, (*rest, end) in enumerate(units)]
+            steps.clear()
+            with unittest.mock.patch.object(
+                store, "run", lambda words, values=(): (steps.append(words), Rows(run(words, values), steps))[1]
+            ):
+                store.commit(units)
+            self.true(f"few steps for messages of {name}", len(steps) <= 15, f"{len(steps)}: {steps}")
+        store.close()

@@ -7,7 +7,7 @@ import time
 import unittest.mock
 
 from lislab.model import lines, options
-from lislab.host import serve
+from lislab.host import calls, serve, tcp
 from lislab.model.stores import open_store
 from lislab.model.books import open_book
 from lislink.order import Order
@@ -268,8 +268,8 @@ class Connect(HostTest):
                 pauses.append(seconds / 0.125)
                 host.stopping = len(pauses) == 13
 
-            with unittest.mock.patch.multiple(host, _connect=connect, _pause=pause):
-                await host._serve_connect(place)
+            with unittest.mock.patch.multiple(host.calls, _connect=connect, _pause=pause):
+                await host.calls.serve(place)
             await host.stop()
 
         serve.asyncio.run(run())
@@ -281,8 +281,9 @@ class Connect(HostTest):
             transport = unittest.mock.create_autospec(serve.asyncio.Transport, instance=True)
             ends = {"peername": ("127.0.0.1", 4000), "sockname": own, "socket": unittest.mock.Mock()}
             transport.get_extra_info.side_effect = ends.get
-            host = unittest.mock.Mock()
-            serve.TcpWire(host, serve.Call(options.connect_of("4000"))).connection_made(transport)
+            place = options.connect_of("4000")
+            host = unittest.mock.Mock(stopping=False, asked=unittest.mock.Mock(connects=[place]))
+            tcp.TcpWire(host, calls.Call(place)).connection_made(transport)
             self.same(f"from {own}", (transport.abort.call_count, host.add.call_count), wanted)
         kept = unittest.mock.call(socket.SOL_SOCKET, socket.SO_KEEPALIVE, 1)
         self.true("keep-alives", kept in ends["socket"].setsockopt.call_args_list)

@@ -6,7 +6,7 @@ import unittest.mock
 
 from lislab.cli import main as cli
 from lislab.out import deliver, export
-from lislab.host import serve
+from lislab.host import state
 from lislab.watch import status
 from lislab.diagnosis import tape
 from lislab.model.store import UNFINISHED, WHOLE, Add, Begin, End, StoreError
@@ -74,7 +74,7 @@ class Whole(HostTest):
             cursor = deliver.Cursor(self.path("short.cursor"))
             deliver.to_directory(self.path("short.d"), "records", export.writer_of(export.Form("records")))(found[0])
             cursor.move(found[0])
-            serve.write_state(self.path("short.status"), {"at": 1.0, "begun": 1.0})
+            state.write_state(self.path("short.status"), {"at": 1.0, "begun": 1.0})
             one = tape.Tape(self.path("short.capture"))
             one.event("T")
             one.close()

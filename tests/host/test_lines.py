@@ -8,11 +8,12 @@ import threading
 import time
 import unittest.mock
 from collections import Counter
+from typing import get_args
 
 from lislink import FrameFault, frame_bytes
 from lislink.link import LONG_FRAME_TEXT
-from lislab.diagnosis.events import Observers
-from lislab.host import line, serve
+from lislab.diagnosis.events import Came, Closed, Event, Kept, Observers, Sent
+from lislab.host import line, ports, tcp
 from lislab.model import options
 from tests.host.hosts import NEVER, Found, Host, HostTest, lislab, sending, wait_for
 
@@ -320,7 +321,7 @@ class Lines(HostTest):
             transport.get_extra_info.side_effect = {"peername": peer, "socket": unittest.mock.Mock()}.get
             host = unittest.mock.Mock(stopping=False, lines={}, limits=options.Limits(), refused=0)
             host.asked.networks = options.networks_of(["192.0.2.0/24"])
-            serve.TcpWire(host, serve.Port(options.listen_of("0"))).connection_made(transport)
+            tcp.TcpWire(host, ports.Port(options.listen_of("0"))).connection_made(transport)
             found = transport.abort.call_count, host.add.call_count, host.refused
             self.same(f"{peer}: broken off, a line, refused", found, wanted)
             said = [call.args[1] for call in host.notices.say.call_args_list]
@@ -408,7 +409,8 @@ class Lines(HostTest):
             wire = unittest.mock.Mock(is_tcp=True, write=sent.append)
             intake, committer, mender = (unittest.mock.Mock(names=frozenset(), bodies={}) for _ in range(3))
             intake.drop.return_value = intake.take.return_value = []
-            observers = Observers([*those, heard.append], lambda text, _: said.append(text))
+            every = [dict.fromkeys(get_args(Event), see) for see in (*those, heard.append)]
+            observers = Observers(every, lambda text, _: said.append(text))
             one = line.Line(line.Parts(wire, intake, observers, print, Counter(), mender, committer, line.Turns()))
             task = asyncio.ensure_future(one.run())
             for unit in (ENQ, frames(TEXTS)[0], EOT):
@@ -426,6 +428,15 @@ class Lines(HostTest):
         self.same("it is said", (len(bad[2]), bad[2][0]),
                   (len(good[1]), "who listens to the line failed at Came: ValueError: it fails"))
         self.same("nothing is said of the others", good[2], [])
+
+    def test_who_listens(self):
+        """An observer is called for the kinds of events that it listens for, and for no other."""
+        heard = []
+        observers = Observers([{Sent: heard.append}, {Sent: heard.append, Kept: heard.append}], print)
+        events = [Came(b"x"), Sent(ACK), Kept(), Closed("x")]
+        for event in events:
+            observers.tell(event)
+        self.same("calls", heard, [events[1], events[1], events[2]])
 
     def test_capture(self):
         """What went over a line is a capture that replays without a difference."""
@@ -477,7 +488,7 @@ class Lines(HostTest):
 
     def test_written_addresses(self):
         """An address of IPv4 and the same one written in IPv6 are counted together."""
-        host, port = unittest.mock.Mock(stopping=False), serve.Port(options.listen_of("0,name=one"))
+        host, port = unittest.mock.Mock(stopping=False), ports.Port(options.listen_of("0,name=one"))
         host.asked.networks = options.networks_of(["192.0.2.0/24", "2001:db8::/32"])
         for given, wanted in (
             ("192.0.2.7", "192.0.2.7"),
@@ -487,6 +498,6 @@ class Lines(HostTest):
         ):
             transport = unittest.mock.Mock(spec=asyncio.Transport)
             transport.get_extra_info.side_effect = {"peername": (given, 4000), "socket": unittest.mock.Mock()}.get
-            serve.TcpWire(host, port).connection_made(transport)
+            tcp.TcpWire(host, port).connection_made(transport)
             self.same(f"{given} is counted as", host.room.has_room.call_args[0][1], wanted)
             self.same(f"{given} is shown as", host.add.call_args[0][2], wanted)

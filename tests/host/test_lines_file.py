@@ -1,4 +1,5 @@
 """One file for all lines: what it may say, each fault with its row, and what changes when it is read again."""
+import asyncio
 import contextlib
 import json
 import os
@@ -10,7 +11,7 @@ import unittest.mock
 
 from lislink import frame_bytes
 from lislab.model import lines, options
-from lislab.host import serve
+from lislab.host import ports, tcp
 from lislink.link import LONG_FRAME_TEXT
 from tests.host import hosts
 from tests.host.hosts import (
@@ -188,13 +189,13 @@ class LinesFile(HostTest):
     def test_allow(self):
         """The networks of a line are those of --allow and its own; other lines have none of them."""
         for given, wanted in (("10.0.5.0/24", True), ("10.0.6.0/24 10.0.5.7/32", True), ("10.0.6.0/24", False)):
-            transport = unittest.mock.create_autospec(serve.asyncio.Transport, instance=True)
+            transport = unittest.mock.create_autospec(asyncio.Transport, instance=True)
             transport.get_extra_info.side_effect = {"peername": ("10.0.5.7", 1), "socket": unittest.mock.Mock()}.get
             host = unittest.mock.Mock(stopping=False, refused=0)
             host.asked.networks = options.networks_of(["192.0.2.0/24"])
             text = f"[a]\nlisten = 10.0.5.2:4001\nallow = {given}\n"
             (place,) = lines.lines_of(self.written("allow.lines", text), []).places
-            serve.TcpWire(host, serve.Port(place)).connection_made(transport)
+            tcp.TcpWire(host, ports.Port(place)).connection_made(transport)
             self.same(f"{given}: 10.0.5.7 is let in", host.add.call_count == 1, wanted)
 
     def test_reloads(self):

@@ -15,7 +15,8 @@ import tty
 import unittest.mock
 
 from lislab.model import options
-from lislab.host import serve
+from lislab.host import asked as asking
+from lislab.host import serials, serve
 from lislab.host import tty as serial
 from lislab.model.stores import open_store
 from tests.host.hosts import ENV, SCALE, Found, Host, HostTest, acknowledged, process
@@ -142,12 +143,12 @@ class Serial(HostTest):
             device = options.serial_of("/dev/ttyUSB0:9600")
             asked = serve.Asked([], [device], [], options.Limits(), None, None)
             host = serve.Host(asked, open_store(self.path("gone.db")))
-            task = asyncio.ensure_future(host._serve_serial(device))
+            task = asyncio.ensure_future(host.serials.serve(device))
             await asyncio.sleep(1.5)
             task.cancel()
             await host.stop()
 
-        with unittest.mock.patch.object(serve, "open_serial", end_of_a_pipe):
+        with unittest.mock.patch.object(serials, "open_serial", end_of_a_pipe):
             with unittest.mock.patch.object(serve, "say"):
                 asyncio.run(serve_it())
         self.same("it is opened twice in a second and a half", len(opened), 2)
@@ -174,11 +175,11 @@ class Serial(HostTest):
             await host.start()
             host.lines[unittest.mock.Mock()] = asyncio.ensure_future(asyncio.sleep(0.5))
             await host.stop()
-            return [one.done() for one in host._devices.values()]
+            return [one.done() for one in host.serials.served.values()]
 
-        with unittest.mock.patch.multiple(serve, REOPEN=0.02, say=unittest.mock.DEFAULT, announce=unittest.mock.DEFAULT
-                                          ) as named:
-            over = asyncio.run(serve_it())
+        with unittest.mock.patch.multiple(serials, REOPEN=0.02, announce=unittest.mock.DEFAULT) as named:
+            with unittest.mock.patch.object(asking, "say"):
+                over = asyncio.run(serve_it())
         self.same("nobody waits for the device any more", over, [True])
         self.same("announced", [call.args[0] for call in named["announce"].call_args_list], [])
 
@@ -215,10 +216,14 @@ class Serial(HostTest):
             await host.stop()
 
         with contextlib.ExitStack() as stack:
-            named = {"REOPEN": 0.05, "say": unittest.mock.Mock(), "announce": unittest.mock.Mock()}
+            named = {"say": unittest.mock.Mock(), "announce": unittest.mock.Mock()}
             opened = unittest.mock.Mock(side_effect=serial.open_serial)
-            for name, one in {**named, "open_serial": opened, "Line": unittest.mock.Mock(side_effect=waiting)}.items():
-                stack.enter_context(unittest.mock.patch.object(serve, name, one, create=True))
+            for module, name, one in (
+                (serials, "REOPEN", 0.05), (serials, "announce", named["announce"]), (serials, "open_serial", opened),
+                (asking, "say", named["say"]), (serve, "say", named["say"]),
+                (serve, "Line", unittest.mock.Mock(side_effect=waiting)),
+            ):
+                stack.enter_context(unittest.mock.patch.object(module, name, one))
             asyncio.run(serve_it())
         found = ([str(call.args[0]) for call in named[name].call_args_list] for name in ("say", "announce"))
         return [[row for row in rows if not row.endswith(": open")] for rows in found]

@@ -10,7 +10,7 @@ import unittest.mock
 
 from lislab.cli import main as cli
 from lislab.model import options
-from lislab.host import serve
+from lislab.host import serials, serve, state
 from lislab.model.stores import open_store
 from tests.host.hosts import HostTest
 
@@ -78,9 +78,11 @@ class Status(HostTest):
                 os.rename(*names)
             await host.stop()
 
-        write_state = serve.write_state
-        named = {"STATUS": 0.02, "write_state": write, "announce": unittest.mock.Mock()}
-        with unittest.mock.patch.multiple(serve, **named), unittest.mock.patch.object(serve, "say") as say:
+        write_state = state.write_state
+        with contextlib.ExitStack() as stack:
+            for module, name, one in ((serve, "STATUS", 0.02), (state, "write_state", write), (serials, "announce", print)):
+                stack.enter_context(unittest.mock.patch.object(module, name, one))
+            say = stack.enter_context(unittest.mock.patch.object(state, "say"))
             asyncio.run(serve_it())
         said = [call.args[0].partition(":")[0] for call in say.call_args_list]
         self.same("what is said", said, ["the state can't be written"] * 2)

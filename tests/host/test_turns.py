@@ -11,7 +11,7 @@ from lislab.host.commits import Committer
 from lislink.link import LONG_FRAME_TEXT, Note, Step
 from lislab.diagnosis.events import Came, Meant
 from lislab.diagnosis.pulse import Probe, Pulse
-from tests.host.hosts import Host, HostTest, wait_for
+from tests.host.hosts import Host, HostTest, see, wait_for
 from tests.host.test_lines import ACK, ENQ, NAK, TEXTS, Client
 
 #: The longest text.
@@ -56,6 +56,41 @@ def longest_wait(port, seconds, over):
     return max(waits)
 
 
+def shared(busy, times, long):
+    """Lines of these peers have work all the time, and one works so many times now and then, some of them for so long:
+    how much each peer did, how much they did before each of its times, and how many turns of the loop there were."""
+    worked, done, over, waits, loops = [0.0], Counter(), [], [], [0]
+    turns = turn.Turns(lambda: worked[0])
+
+    async def has_work(name):
+        share = turn.Share(turns, name)
+        while not over:
+            share.goes_on()
+            worked[0] += 0.0007
+            done[name] += 1
+            await (share.wait() if share.is_over() else asyncio.sleep(0))
+
+    async def calm():
+        share = turn.Share(turns, "calm")
+        for time_ in range(times):
+            for _ in range(400):
+                loops[0] += 1
+                await asyncio.sleep(0)
+            before = sum(done.values())
+            share.goes_on()
+            worked[0] += long.get(time_, 0.0007)
+            if share.is_over():
+                await share.wait()
+            waits.append(sum(done.values()) - before)
+        over.append(True)
+
+    async def all_of_them():
+        await asyncio.gather(calm(), *map(has_work, busy))
+
+    asyncio.run(all_of_them())
+    return done, waits, loops[0]
+
+
 class Turns(HostTest):
     """Texts that take long."""
 
@@ -90,40 +125,19 @@ class Turns(HostTest):
         self.same("commits", commits, [[["first"]], *rest])
 
     def test_who_works_now_and_then(self):
-        """120 lines have work all the time, and share it; one that works now and then waits for none of them, and they
-        have a little of each turn of the loop."""
-        worked, done, over, waits, loops = [0.0], Counter(), [], [], [0]
-        turns = turn.Turns(lambda: worked[0])
-
-        async def busy(name):
-            share = turn.Share(turns)
-            while not over:
-                share.goes_on()
-                worked[0] += 0.0007
-                done[name] += 1
-                await (share.wait() if share.is_over() else asyncio.sleep(0))
-
-        async def calm():
-            share = turn.Share(turns)
-            for _ in range(20):
-                for _ in range(400):
-                    loops[0] += 1
-                    await asyncio.sleep(0)
-                before = sum(done.values())
-                share.goes_on()
-                worked[0] += 0.0007
-                if share.is_over():
-                    await share.wait()
-                waits.append(sum(done.values()) - before)
-            over.append(True)
-
-        async def all_of_them():
-            await asyncio.gather(calm(), *map(busy, range(120)))
-
-        asyncio.run(all_of_them())
+        """120 peers have work all the time, and share it; one that works now and then waits for none of them, and hardly
+        if the interpreter collects garbage meanwhile; and they have a little of each turn of the loop."""
+        done, waits, loops = shared([f"busy {number}" for number in range(120)], 20, {5: 0.05})
+        self.true("after garbage it waits for few", waits.pop(5) <= 20, waits)
         self.same("it waits for", set(waits), {0})
         self.true("each as much", max(done.values()) - min(done.values()) <= 20, done)
-        self.true("a little of each turn", 0 < sum(done.values()) <= 4 * turn.AT_ONCE * loops[0], (done, loops))
+        self.true("a little of each turn", 0 < sum(done.values()) <= 4 * turn.AT_ONCE * loops, (done, loops))
+
+    def test_many_connections_of_a_peer(self):
+        """A peer has as much over many connections as another one over one; who works now and then waits for none."""
+        done, waits, _ = shared(["many"] * 64 + [f"one {number}" for number in range(8)], 20, {})
+        self.same("it waits for", set(waits), {0})
+        self.true("each as much", max(done.values()) - min(done.values()) <= 20, done)
 
     def test_connections_of_a_line(self):
         """A session takes no more work on a line with many connections than on one with few."""
@@ -135,8 +149,8 @@ class Turns(HostTest):
             with unittest.mock.patch.object(Probe, "silent", lambda probe: looks.append(probe)):
                 for _ in range(50):
                     for note in (Note.OPENED, Note.ACCEPTED, Note.ENDED):
-                        probes[0].see(Came(b"x"))
-                        probes[0].see(Meant(0, step(note)))
+                        see(probes[0], Came(b"x"))
+                        see(probes[0], Meant(0, step(note)))
             asked.append(len(looks))
         self.true("looks at connections", asked[1] - asked[0] < 300, asked)
 

@@ -23,7 +23,7 @@ from lislab.diagnosis.events import Came, Closed, Meant
 from lislab.diagnosis.pulse import Probe, Pulse
 from lislab.model.unix import WatchError, ask
 from lislab.diagnosis.verdicts import Meaning
-from tests.host.hosts import Host, HostTest, lislab, process, say, wait_for
+from tests.host.hosts import Host, HostTest, lislab, process, say, see, wait_for
 from tests.host.plain import frame
 from tests.host.test_lines import ACK, ENQ, EOT, NAK, TEXTS, Client, frames, session
 
@@ -236,11 +236,11 @@ class Watch(HostTest):
                 while at < len(stream):
                     piece = stream[at : at + rng.randrange(1, 60)]
                     at += len(piece)
-                    probe.see(Came(piece))
+                    see(probe, Came(piece))
                     for place, step in receiver.hear_placed(piece):
-                        probe.see(Meant(place, step))
+                        see(probe, Meant(place, step))
                     self.assertTrue(pulse.says().text)
-            probe.see(Closed("by the other end"))
+            see(probe, Closed("by the other end"))
             ladder = Ladder(Capture(1, [(1, Line(">", stream))], [None]))
             rows = [row for row in ladder.rows if row.meaning is Meaning.REJECTED]
             wanted = Counter(row.cause.verdict.key for row in rows)

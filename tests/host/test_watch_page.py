@@ -18,6 +18,7 @@ import unittest.mock
 from lislab.out.deliver import read_took
 from lislab.out.export import time_text
 from lislab.model.store import UNREADABLE, WHOLE, Add, Begin, End
+from lislab.model.spool import SpoolStore
 from lislab.model.stores import open_store
 from lislab.watch import metrics, page, plot, tally, web
 from lislab.watch.client import Host as Seen
@@ -171,7 +172,7 @@ class Looks(HostTest):
             self.same(f"asked as {name}", site.get("/", Host=name)[0], wanted)
         for method in ("POST", "PUT", "DELETE", "OPTIONS", "PATCH", "TRACE"):
             self.same(method, site.get("/", method)[0], 501)
-        key = tally.each(store, lambda one: tally.last_heads(one, "chemistry"))[0].key
+        key = tally.each(store, lambda one: one.last_heads("chemistry"))[0].key
         for path in ("/line?name=chemistry", "/trouble", f"/message?key={key}", "/x"):
             self.same(f"{path} without a token", site.get(path)[0], 403)
         self.same("metrics", site.get("/metrics")[0], 200)
@@ -181,7 +182,7 @@ class Looks(HostTest):
         """With a token what records say is read by who has it alone."""
         store = self.path("who.db")
         fill(store, "chemistry", [whole("a")])
-        key = tally.each(store, lambda one: tally.last_heads(one, "chemistry"))[0].key
+        key = tally.each(store, lambda one: one.last_heads("chemistry"))[0].key
         site = self.site(store)
         for path in ("/x", "/../etc/passwd", "//etc/passwd", "/line?name=x", "/message?key=x", "/line"):
             self.same(path, site.get(path)[0], 404)
@@ -263,7 +264,7 @@ class Looks(HostTest):
         site.pages.tally.count()
         shown = 0
         paths = ["/", "/trouble", "/metrics"]
-        heads = tally.each(store, lambda one: [*tally.heads(one, 0, 100), *tally.not_whole(one, None)])
+        heads = tally.each(store, lambda one: [*one.heads(0, 100), *one.not_whole(None)])
         paths += [f"/message?{page.urlencode({'key': one.key})}" for one in heads]
         paths += [f"/line?{page.urlencode({'name': name})}" for name in names]
         for path in paths:
@@ -295,7 +296,7 @@ class Looks(HostTest):
             rejected(client, frame(2, H))
         site = self.site(host.store, host.store + ".watch")
         site.pages.tally.count()
-        heads = tally.each(host.store, lambda one: [*tally.heads(one, 0, 100), *tally.not_whole(one, None)])
+        heads = tally.each(host.store, lambda one: [*one.heads(0, 100), *one.not_whole(None)])
         paths = ["/", "/trouble", "/line?name=fire"] + [f"/message?key={one.key}" for one in heads][:2]
         frames = ""
         for number, path in enumerate(paths):
@@ -447,14 +448,32 @@ class Looks(HostTest):
             self.same(f"{kind[:5]}: how long", round(tally.share(one.took("a"), 0.5), 3), 0.5)
             bars = plot.bars(one.hours(), time.time(), tally.HOUR, 24)
             self.same(f"{kind[:5]}: bars", sum(bar.many for bar in bars), 3 + 2 * (kind == "tally.db"))
-            head = tally.each(store, lambda it: tally.last_heads(it, "a"))[0]
-            self.same(f"{kind[:5]}: a message", tally.each(store, lambda it: tally.message(it, head.key)).key, head.key)
-            self.same(f"{kind[:5]}: none", tally.each(store, lambda it: tally.message(it, "no")), None)
+            head = tally.each(store, lambda it: it.last_heads("a"))[0]
+            self.same(f"{kind[:5]}: a message", tally.each(store, lambda it: it.message(head.key)).key, head.key)
+            self.same(f"{kind[:5]}: none", tally.each(store, lambda it: it.message("no")), None)
             left = tally.each(store, lambda it: tally.undelivered(it, self.path("no")))
             self.same(f"{kind[:5]}: left", left, 3 + 2 * (kind == "tally.db"))
         self.same("a time", page.when(1.0), time_text(1.0)[:19].replace("T", " "))
         self.same("what is before the month isn't counted", sum(
             bar.many for bar in plot.bars([(0.0, 7)], time.time(), tally.DAY, 31)), 0)
+
+    def test_pages_of_a_spool(self):
+        """What a page lists is read without the messages' bytes, the newest first, and no more files than it lists."""
+        where = "spool:" + self.path("pages.spool")
+        fill(where, "a", [whole("x")] * 30, ago=10.0)
+        fill(where, "b", [whole("y")] * 3, ago=5.0)
+        store, about = open_store(where), SpoolStore._about
+        with unittest.mock.patch.object(SpoolStore, "_stored", side_effect=AssertionError("bytes are read")):
+            with unittest.mock.patch.object(SpoolStore, "_about", autospec=True, side_effect=about) as read:
+                last = store.last_heads("b", 3)
+                self.same("files that are read", read.call_count, 3)
+                self.same("the rest", len(store.last_heads("a", 50)), 30)
+            self.same("the newest first", last, store.heads(0, 100)[: -4 : -1])
+            self.same("those that come after", store.count_after(last[1].number), 1)
+            self.same("all are of this month", store.heads(store.number_at(time.time() - 60), 100), store.heads(0, 100))
+            self.same("none isn't whole", store.not_whole(), [])
+        self.same("their sizes", {one.size for one in last}, {len(store.message(last[0].key).body)})
+        store.close()
 
     def test_notify(self):
         """A command is run once when a line turns bad, once when it is good again; one that fails is said."""

@@ -41,13 +41,13 @@ class WatchPostgres(HostTest):
         one.count()
         bars = plot.bars(one.hours("fire"), time.time(), tally.HOUR, 24)
         self.true("messages are counted", sum(bar.many for bar in bars) >= 3, str(bars))
-        heads = tally.each(store, lambda it: tally.last_heads(it, "fire"))
-        wait_for(lambda: tally.each(store, lambda it: tally.not_whole(it, "fire")), WAIT)  # after its mends are tried
-        trouble = tally.each(store, lambda it: tally.not_whole(it, "fire"))
+        heads = tally.each(store, lambda it: it.last_heads("fire"))
+        wait_for(lambda: tally.each(store, lambda it: it.not_whole("fire")), WAIT)  # after its mends are tried
+        trouble = tally.each(store, lambda it: it.not_whole("fire"))
         self.true("the last ones", len(heads) >= 3 and heads[0].number > heads[1].number, str(heads))
         self.has("what can't be read", trouble[-1].reason, "record 2")
         for head in (heads[0], trouble[-1]):
-            self.same("a message", tally.each(store, lambda it: tally.message(it, head.key)).key, head.key)
+            self.same("a message", tally.each(store, lambda it: it.message(head.key)).key, head.key)
         self.same("left to deliver", tally.each(store, lambda it: tally.undelivered(it, self.path("none"))), len(heads))
         without = lislab("watch", "--store", store, "--once")
         self.has("a host without a file for its state", without.stdout, "it has no socket: name a file by --status")

@@ -187,6 +187,7 @@ for _kind in ("scanner", "sender", "receiver", "station", "reader", "writer"):
 
 _NAME = "liblislink.so"
 _calls: Optional[Dict[str, Callable[..., Any]]] = None
+_of_kinds: Dict[str, Dict[str, Callable[..., Any]]] = {}
 
 
 class LibraryMissing(ImportError):
@@ -231,3 +232,13 @@ def calls() -> Dict[str, Callable[..., Any]]:
     if _calls is None:
         _calls = _load()
     return _calls
+
+
+def calls_of(kind: str) -> Dict[str, Callable[..., Any]]:
+    """The calls of a kind of object, as `receiver`, by their names without it."""
+    found = _of_kinds.get(kind)
+    if found is None:
+        prefix = f"{kind}_"
+        found = {name[len(prefix) :]: call for name, call in calls().items() if name.startswith(prefix)}
+        _of_kinds[kind] = found
+    return found

@@ -72,6 +72,11 @@ class Step(NamedTuple):
     place: int
 
 
+#: The reply of each byte, and the notes by their numbers: looked up for each step.
+_REPLIES = (b"", *(bytes([byte]) for byte in range(1, 256)))
+_NOTES = {note.value: note for note in Note}
+
+
 def address(data: bytes) -> int:
     """The address of bytes. Keep them as long as it is used."""
     return ctypes.cast(ctypes.c_char_p(data), ctypes.c_void_p).value or 0
@@ -115,23 +120,23 @@ class Owner:
     _kind = ""
 
     def __init__(self) -> None:
-        calls = _library.calls()
-        size, align = calls[f"{self._kind}_size"](), calls[f"{self._kind}_align"]()
+        calls = self._calls = _library.calls_of(self._kind)
+        size, align = calls["size"](), calls["align"]()
         self._thread: Optional[int] = threading.get_ident()
         self._block = ctypes.create_string_buffer(size + align)
         start = ctypes.addressof(self._block)
         self._handle: Optional[_library.Handle] = _library.Handle(start + -start % align)
-        calls[f"{self._kind}_init"](self._handle.at)
+        self._pointer = ctypes.byref(self._handle)
+        calls["init"](self._handle.at)
         # The bytes of a piece that a loop left unread: they are read before those of the next piece.
         self._piece, self._at = b"", 0
 
-    def _owned(self) -> _library.Handle:
-        """The handle, for the thread that has it."""
+    def _owned(self) -> None:
+        """The object is open, and this thread has it from now on."""
         if self._handle is None:
             raise ValueError(f"the {self._kind} is closed")
         if self._thread != threading.get_ident():
             self._take()
-        return self._handle
 
     def _take(self) -> None:
         """This thread takes the object, if it was given away."""
@@ -149,7 +154,9 @@ class Owner:
         raise TypeError(f"a {self._kind} can't be copied")
 
     def _call(self, name: str, *words: Any) -> Any:
-        return _library.calls()[f"{self._kind}_{name}"](ctypes.byref(self._owned()), *words)
+        if self._handle is None or self._thread != threading.get_ident():
+            self._owned()
+        return self._calls[name](self._pointer, *words)
 
     def _set_limit(self, limit: int) -> None:
         """Sets how long a frame's text may be. An object that can't have that limit is closed."""
@@ -166,24 +173,26 @@ class Owner:
     def _text(self) -> bytes:
         """The text that is there to be copied."""
         size = self._call("text_len")
-        copy = (ctypes.c_uint8 * max(size, 1))()
+        copy = ctypes.create_string_buffer(size or 1)
         status = self._call("text", copy, size)
         if status:
             raise LinkError(status)
-        return bytes(memoryview(copy)[:size])
+        return copy.raw if size else b""
 
     def _add(self, data: bytes) -> int:
         """Puts a piece after what is left; returns how many bytes were left before it."""
-        data = as_bytes(data)
+        data = data if type(data) is bytes else as_bytes(data)
         left = len(self._piece) - self._at
-        self._owned()
+        if self._handle is None or self._thread != threading.get_ident():
+            self._owned()
         self._piece, self._at = (self._piece[self._at :] + data if left else data), 0
         return left
 
     def _read_on(self, name: str, out: Any) -> int:
         """Reads bytes that are left by a call of the library; returns how many it read."""
-        piece = self._piece
-        count: int = self._call(name, address(piece) + self._at, len(piece) - self._at, ctypes.byref(out))
+        piece, at = self._piece, self._at
+        start = address(piece) + at if at else piece
+        count: int = self._call(name, start, len(piece) - at, ctypes.byref(out))
         self._at += count
         return count
 
@@ -201,7 +210,7 @@ class Owner:
     def _end(self) -> None:
         handle, self._handle = getattr(self, "_handle", None), None
         if handle is not None:
-            _library.calls()[f"{self._kind}_end"](handle)
+            self._calls["end"](handle)
 
     def __enter__(self: Itself) -> Itself:
         return self
@@ -479,4 +488,4 @@ class Receiver(ReceivingEnd[Step]):
 
     def _told(self, out: _library.StepOut) -> Step:
         text = self._text() if out.has_text else None
-        return Step(bytes([out.reply]) if out.reply else b"", text, Note(out.note), out.detail, out.place)
+        return Step(_REPLIES[out.reply], text, _NOTES[out.note], out.detail, out.place)

@@ -1,5 +1,4 @@
 """The board of a host that runs: the pulse of each line, as data for who looks, and the pieces of a line's ring."""
-import functools
 import json
 import time
 from typing import Any, Callable, Dict, Iterable, List, Mapping, Optional
@@ -7,7 +6,7 @@ from typing import Any, Callable, Dict, Iterable, List, Mapping, Optional
 from ..model.book import Failed
 from ..model.options import Connect, Place, no_line
 from ..model.unix import Door
-from .events import Observer
+from .events import Sees
 from .pulse import Probe, Pulse, Says, many
 
 
@@ -20,12 +19,12 @@ class Board:
         self._failed: Dict[str, Failed] = {}
         self._door: Optional[Door] = None
 
-    def observers(self, place: Place, is_careful: bool) -> List[Observer]:
+    def observers(self, place: Place, is_careful: bool) -> List[Sees]:
         """What sees a connection of a line."""
         pulse = self._pulse(place)
         pulse.frame = place.frame
         probe = Probe(pulse, is_careful)
-        return [functools.partial(pulse.ring.see, pulse.connections), probe.see]
+        return [pulse.ring.sees(pulse.connections), probe.sees()]
 
     def _pulse(self, place: Place) -> Pulse:
         if place.name not in self._pulses:

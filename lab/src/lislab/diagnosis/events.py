@@ -1,5 +1,5 @@
 """What happens on a line, for those who listen. A line waits for none of them, and none can break it."""
-from typing import Callable, NamedTuple, Sequence, Union
+from typing import Callable, Dict, List, Mapping, NamedTuple, Sequence, Type, Union
 
 from lislink.link import Step
 from ..model.store import End
@@ -100,19 +100,23 @@ Event = Union[
     Came, Sent, Meant, TimerOver, Noise, Kept, NotKept, MessageEnded, Answered, Late, Restarted, OwnAnswered, OwnFailed,
     ReplyAfterAll, Looked, Closed,
 ]
-#: Who listens.
-Observer = Callable[[Event], None]
+#: What an observer does at each kind of event. It isn't called for a kind that it lacks.
+Sees = Mapping[Type[Event], Callable[..., object]]
 
 
 class Observers:
     """Those who listen to a line. One that fails is no reason to stop the line, and it is said."""
 
-    def __init__(self, those: Sequence[Observer], say: Callable[[str, str], None]) -> None:
-        self._those, self._say = those, say
+    def __init__(self, those: Sequence[Sees], say: Callable[[str, str], None]) -> None:
+        self._say = say
+        self._those: Dict[Type[Event], List[Callable[..., object]]] = {}
+        for one in those:
+            for kind, see in one.items():
+                self._those.setdefault(kind, []).append(see)
 
     def tell(self, event: Event) -> None:
-        """Tells each of them what happened."""
-        for see in self._those:
+        """Tells those what happened who listen for such events."""
+        for see in self._those.get(type(event), ()):
             try:
                 see(event)
             except Exception as error:  # whatever it is, the line goes on

@@ -1,5 +1,6 @@
 """How each line of a host does, while it runs: what came last, and what is wrong since when. A probe sees what one
 connection hears and what that meant; the pulse of a line has what its probes saw."""
+import bisect
 import re
 import time
 from collections import Counter, deque
@@ -8,9 +9,9 @@ from typing import Any, Callable, Deque, Dict, List, NamedTuple, Optional, Tuple
 from lislink.codes import FrameFault, Note
 from lislink.link import Step
 from ..model.book import Failed
-from ..model.store import MENDED, WHOLE, End, StoreError
+from ..model.store import MENDED, WHOLE, StoreError
 from .events import (
-    Answered, Came, Closed, Event, Kept, Late, Looked, Meant, MessageEnded, Noise, NotKept, OwnAnswered, OwnFailed, Restarted,
+    Answered, Came, Closed, Kept, Late, Looked, Meant, MessageEnded, Noise, NotKept, OwnAnswered, OwnFailed, Restarted, Sees,
     Sent,
 )
 from .faults import Cause, cause_of_frame
@@ -158,7 +159,7 @@ class Pulse:
 
     def right(self, *kinds: str) -> None:
         """Something went right: what was wrong before is over, and remembered if it was bad."""
-        for kind in kinds:
+        for kind in kinds if self.troubles else ():
             if kind in self.troubles:
                 self.remember(self._bad(kind))
                 del self.troubles[kind]
@@ -287,50 +288,31 @@ class Probe:
         #: The number that is due, the frame that was accepted last; whether a text is kept that wasn't answered yet.
         self._due, self._frame, self._is_kept = 1, b"", False
 
-    def see(self, event: Event) -> None:
-        """What happens on the connection."""
+    def sees(self) -> Sees:
+        """What it does when something happens on the connection."""
         pulse = self._pulse
-        if isinstance(event, Came):
-            self._hears(event.data)
-        elif isinstance(event, Meant):
-            self._step(event.place, event.step)
-        elif isinstance(event, Sent):
-            self._sent = event.data
-        elif isinstance(event, Answered):
-            self._replied(event.seconds)
-        elif isinstance(event, Kept):
-            self._is_kept = True
-            pulse.right("store")
-        elif isinstance(event, NotKept):
-            self._not_kept(event.error)
-        elif isinstance(event, MessageEnded):
-            self._ended(event.end)
-        elif isinstance(event, Restarted):
-            self.is_open = False
-        elif isinstance(event, Closed):
-            self._close()
-        elif isinstance(event, Looked) and event.is_any:
-            pulse.right("queries")
-        elif isinstance(event, OwnAnswered):
-            pulse.right("own")
-        elif isinstance(event, (Looked, OwnFailed, Late, Noise)):
-            self._wrong(event)
-
-    def _wrong(self, event: Event) -> None:
-        """What counts each time."""
-        if isinstance(event, Looked):
-            self._pulse.wrong("queries", Verdict.NO_ORDERS)
-        elif isinstance(event, OwnFailed):
-            self._pulse.wrong("own", Verdict.NO_REPLY, event.why)
-        elif isinstance(event, Late):
-            self._pulse.wrong("late", Verdict.LATE)
-        elif isinstance(event, Noise):
-            self._pulse.wrong("noise", Verdict.DISTURBED).count += event.times - 1
+        return {
+            Came: self._hears,
+            Meant: self._meant,
+            Sent: self._sends,
+            Kept: self._kept,
+            NotKept: self._not_kept,
+            Answered: self._answered,
+            Late: lambda _: pulse.wrong("late", Verdict.LATE),
+            Noise: self._noise,
+            MessageEnded: self._ended,
+            Restarted: self._restarted,
+            Looked: self._looked,
+            OwnAnswered: lambda _: pulse.right("own"),
+            OwnFailed: lambda own: pulse.wrong("own", Verdict.NO_REPLY, own.why),
+            Closed: self._close,
+        }
 
     # ---- what came, and what it meant
 
-    def _hears(self, data: bytes) -> None:
-        """Bytes that are heard from here on."""
+    def _hears(self, came: Came) -> None:
+        """Bytes are heard from here on."""
+        data = came.data
         if self._sent and data.startswith(self._sent):
             self._pulse.wrong("echo", Verdict.ECHO)
         elif self._sent:
@@ -350,9 +332,9 @@ class Probe:
             self._since = self._since if self._stray else (time.time(), time.monotonic())
             self._stray += data[: LOOKED_AT - len(self._stray)]
 
-    def _step(self, place: int, step: Step) -> None:
-        """What a byte meant, at this place of the bytes that are heard."""
-        raw = b""
+    def _meant(self, meant: Meant) -> None:
+        """What a byte meant."""
+        (place, step, _), raw = meant, b""
         if step.note is not Note.TIMED_OUT:
             raw = bytes(self._carry + self._now[self._start : place + 1]) if step.note not in _ALONE else raw
             self._carry.clear()
@@ -474,25 +456,46 @@ class Probe:
 
     # ---- what the host did
 
-    def _replied(self, seconds: float) -> None:
-        """A reply went out so long after the bytes came that it answers."""
+    def _sends(self, sent: Sent) -> None:
+        self._sent = sent.data
+
+    def _kept(self, _: Kept) -> None:
+        self._is_kept = True
+        self._pulse.right("store")
+
+    def _restarted(self, _: Restarted) -> None:
+        self.is_open = False
+
+    def _noise(self, noise: Noise) -> None:
+        self._pulse.wrong("noise", Verdict.DISTURBED).count += noise.times - 1
+
+    def _looked(self, looked: Looked) -> None:
         pulse = self._pulse
-        pulse.replies[next((at for at, most in enumerate(BUCKETS) if seconds <= most), len(BUCKETS))] += 1
-        pulse.reply_seconds += seconds
+        if looked.is_any:
+            pulse.right("queries")
+        else:
+            pulse.wrong("queries", Verdict.NO_ORDERS)
+
+    def _answered(self, answered: Answered) -> None:
+        """A reply went out."""
+        pulse = self._pulse
+        pulse.replies[bisect.bisect_left(BUCKETS, answered.seconds)] += 1
+        pulse.reply_seconds += answered.seconds
         if self._is_kept:
             self._is_kept = False
             pulse.right("late")
 
-    def _not_kept(self, error: Exception) -> None:
+    def _not_kept(self, failed: NotKept) -> None:
         """A text could not be kept."""
-        why = str(error)
+        error, why = failed.error, str(failed.error)
         is_full = _FULL.search(why) is not None
         verdict = Verdict.DISK_FULL if is_full else Verdict.STORE_GONE
         self._pulse.wrong("store", verdict if isinstance(error, StoreError) else Verdict.TOO_BIG, why)
 
-    def _ended(self, end: End) -> None:
+    def _ended(self, ended: MessageEnded) -> None:
         """A message ended. One of no bytes isn't counted, nor one of which another one was made."""
-        pulse, is_mended = self._pulse, end.reason.startswith(MENDED)
+        pulse, end = self._pulse, ended.end
+        is_mended = end.reason.startswith(MENDED)
         if end.state == WHOLE:
             pulse.messages[end.state] += 1
             pulse.last = end.at
@@ -501,7 +504,7 @@ class Probe:
             pulse.messages[end.state] += 1
             pulse.wrong("messages", Verdict.NOT_WHOLE, f"{end.state}: {end.reason}")
 
-    def _close(self) -> None:
+    def _close(self, _: Closed) -> None:
         """The connection is over."""
         self._over()
         if self.strange() is not None:

@@ -3,7 +3,7 @@ from typing import Callable, Optional
 
 from lislink.codes import FrameFault, Note
 from lislink.link import Step
-from .events import Came, Closed, Event, Late, Meant, OwnAnswered, ReplyAfterAll, Restarted
+from .events import Came, Closed, Late, Meant, OwnAnswered, ReplyAfterAll, Restarted, Sees
 from .notices import CONNECTION, FRAME, NOISE, REJECTED, REPLY, SESSION
 
 #: After so many bytes without a session that is said of a line that stays open; and after so many empty sessions.
@@ -32,28 +32,33 @@ class Watch:
         #: Where in the connection the last ENQ was that was heard as noise; less than 0 for none.
         self._noise_at = -1
 
-    def see(self, event: Event) -> None:
-        """What happens on the connection."""
-        if isinstance(event, Came):
-            self.hears(event.data)
-        elif isinstance(event, Meant):
-            self.step(event.place, event.step)
-            if event.is_enq:
-                self._note_enq(event.step)
-        elif isinstance(event, Restarted):
-            self.session_over()
-        elif isinstance(event, OwnAnswered):
-            self.sessions += 1
-        elif isinstance(event, Late):
-            byte = f"byte {self.at} of the connection"
-            self._say(f"a reply is late and isn't sent: {byte} came {event.seconds:.1f} s ago", REPLY)
-        elif isinstance(event, ReplyAfterAll):
-            byte = f"byte {self._before} of the connection is 0x{event.byte:02X}"
-            self._say(f"a reply came after the host had given its session up: {byte}", REPLY)
-        elif isinstance(event, Closed):
-            self.session_over()
-            self._no_session(self.heard)
-            self._say(f"closed {event.why}; bytes {self.heard}, sessions {self.sessions}", CONNECTION)
+    def sees(self) -> Sees:
+        """What it does when something happens on the connection."""
+        return {
+            Came: self.hears,
+            Meant: self.meant,
+            Restarted: lambda _: self.session_over(),
+            OwnAnswered: self._own_answered,
+            Late: self._late,
+            ReplyAfterAll: self._reply_after_all,
+            Closed: self._closed,
+        }
+
+    def _own_answered(self, _: OwnAnswered) -> None:
+        self.sessions += 1
+
+    def _late(self, late: Late) -> None:
+        byte = f"byte {self.at} of the connection"
+        self._say(f"a reply is late and isn't sent: {byte} came {late.seconds:.1f} s ago", REPLY)
+
+    def _reply_after_all(self, reply: ReplyAfterAll) -> None:
+        byte = f"byte {self._before} of the connection is 0x{reply.byte:02X}"
+        self._say(f"a reply came after the host had given its session up: {byte}", REPLY)
+
+    def _closed(self, closed: Closed) -> None:
+        self.session_over()
+        self._no_session(self.heard)
+        self._say(f"closed {closed.why}; bytes {self.heard}, sessions {self.sessions}", CONNECTION)
 
     def _note_enq(self, step: Step) -> None:
         """Says of an ENQ whether it is noise: it came in a session, and had no reply. An analyzer that begins anew without
@@ -65,17 +70,19 @@ class Watch:
         elif 0 <= before == at - 1:
             self._say(f"ENQ came again, with nothing between: if the analyzer begins anew without EOT, {ANEW}", NOISE)
 
-    def hears(self, data: bytes) -> None:
-        """Bytes that are heard from here on."""
+    def hears(self, came: Came) -> None:
+        """Bytes are heard from here on."""
         self._before += len(self._data)
-        self._data, self._first = data, self._first or data[:1]
+        self._data = data = came.data
+        self._first = self._first or data[:1]
         if self._start is not None:
             self._second = self._second or data[:1]
         if self._before >= BYTES:
             self._no_session(self._before)
 
-    def step(self, place: int, step: Step) -> None:
-        """What a byte meant, at this place of the bytes that are heard."""
+    def meant(self, meant: Meant) -> None:
+        """What a byte meant."""
+        place, step, is_enq = meant
         self.at = self._before + place
         if step.note is Note.OPENED:
             self.session_over(place)
@@ -90,6 +97,8 @@ class Watch:
             self._taken += step.note is Note.ACCEPTED
         elif step.note in REJECTED:
             self._reject(f"ends at byte {self.at} of the connection: {code_of(step)}")
+        if is_enq:
+            self._note_enq(step)
 
     def _reject(self, why: str) -> None:
         """A frame was rejected. It comes again, and may be rejected again: that is said once."""

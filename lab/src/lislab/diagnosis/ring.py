@@ -5,7 +5,7 @@ import time
 from typing import Iterator, List, NamedTuple, Optional, Tuple
 
 from lislink.capture import LINE_BYTES, Capture, Line
-from .events import Came, Event, Restarted, Sent, TimerOver
+from .events import Came, Restarted, Sees, Sent, TimerOver
 
 #: How many bytes are held of a line, with the head of each piece; and that head: time, connection, mark, length.
 MOST = 256 << 10
@@ -42,14 +42,14 @@ class Ring:
         if drop:
             del self._held[:drop]
 
-    def see(self, connection: int, event: Event) -> None:
-        """What goes over a connection of the line."""
-        if isinstance(event, Came):
-            self.add(connection, ">", event.data)
-        elif isinstance(event, Sent):
-            self.add(connection, "<", event.data)
-        elif isinstance(event, (TimerOver, Restarted)):
-            self.add(connection, "T" if isinstance(event, TimerOver) else "R")
+    def sees(self, connection: int) -> Sees:
+        """What it does when something goes over a connection of the line."""
+        return {
+            Came: lambda came: self.add(connection, ">", came.data),
+            Sent: lambda sent: self.add(connection, "<", sent.data),
+            TimerOver: lambda _: self.add(connection, "T"),
+            Restarted: lambda _: self.add(connection, "R"),
+        }
 
     def after(self, number: int) -> Tuple[int, bytes]:
         """The pieces from this number on, as they are held, and the number of the first of them."""

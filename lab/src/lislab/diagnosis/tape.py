@@ -5,7 +5,7 @@ from typing import List
 
 from lislink.capture import LINE_BYTES
 from ..model.files import Appended
-from .events import Came, Closed, Event, Restarted, Sent, TimerOver
+from .events import Came, Closed, Restarted, Sees, Sent, TimerOver
 from .log import time_text
 
 #: The most bytes of one capture; what comes after them isn't written.
@@ -25,16 +25,15 @@ class Tape:
             self.close()
         self._line("capture 2", "")
 
-    def see(self, event: Event) -> None:
-        """What goes over the line."""
-        if isinstance(event, Came):
-            self.bytes(">", event.data)
-        elif isinstance(event, Sent):
-            self.bytes("<", event.data)
-        elif isinstance(event, (TimerOver, Restarted)):
-            self.event("T" if isinstance(event, TimerOver) else "R")
-        elif isinstance(event, Closed):
-            self.close()
+    def sees(self) -> Sees:
+        """What it does when something goes over the line."""
+        return {
+            Came: lambda came: self.bytes(">", came.data),
+            Sent: lambda sent: self.bytes("<", sent.data),
+            TimerOver: lambda _: self.event("T"),
+            Restarted: lambda _: self.event("R"),
+            Closed: lambda _: self.close(),
+        }
 
     def bytes(self, mark: str, data: bytes) -> None:
         """Bytes of the analyzer (`>`) or of the computer (`<`)."""

@@ -3,7 +3,7 @@ import asyncio
 import threading
 import time
 from collections import deque
-from typing import Callable, Deque, List, Optional
+from typing import Callable, Deque, List, NamedTuple, Optional
 
 from ..model.store import Store, StoreError, Unit
 
@@ -13,11 +13,12 @@ TOGETHER, OWED = 500, 10000
 LAST_TRIES = 5
 
 
-class _Waiting:
+class _Waiting(NamedTuple):
     """A unit that is to be kept; `done` is its future, which an error ends unless it is owed."""
 
-    def __init__(self, unit: Unit, done: "asyncio.Future[None]", is_owed: bool) -> None:
-        self.unit, self.done, self.is_owed = unit, done, is_owed
+    unit: Unit
+    done: "asyncio.Future[None]"
+    is_owed: bool
 
 
 class Committer:
@@ -51,7 +52,8 @@ class Committer:
 
     def _queue(self, one: _Waiting, is_long: bool) -> "asyncio.Future[None]":
         (self._long if is_long else self._waiting).append(one)
-        self._wake.set()
+        if not self._wake.is_set():  # the thread looks for what waits after it clears this
+            self._wake.set()
         return one.done
 
     async def stop(self) -> None:
@@ -87,7 +89,7 @@ class Committer:
             self._owed.extend(one for one in batch if one.is_owed)
             batch = [one for one in batch if not one.is_owed]
         self._settle(batch, fault)
-        if fault is None:
+        if fault is None and self._owed:
             self._keep_owed()
 
     def _settle(self, batch: List[_Waiting], fault: Optional[Exception]) -> None:

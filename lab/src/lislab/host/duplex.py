@@ -14,6 +14,7 @@ from ..diagnosis.events import Looked, OwnAnswered, OwnFailed, ReplyAfterAll
 from ..diagnosis.notices import OTHER
 from ..model.query import query_of
 from ..model.store import Add, Change
+from .feeds import Heard
 from .line import ENQ, Line, Parts
 from .outbox import Batch, Outbox, Site
 
@@ -134,6 +135,9 @@ class TwoWayLine(Line):
     def _held(self) -> int:
         return self._station.held
 
+    def _noises(self) -> int:
+        return self._station.noise
+
     def _has_room(self, is_there: bool) -> None:
         if not is_there and self._station.is_open:
             self._restart("there was no room for a long text")
@@ -177,16 +181,13 @@ class TwoWayLine(Line):
 
     async def _heard(self, data: bytes, arrived: float) -> None:
         self._note_late(data)
-        for heard in self._feeds.take(data):
-            before = self._station.noise
+        for heard in self._feeds.take(data) if self._feeds else (Heard(data),):
             for place, answer in self._station.hear_placed(heard.data):
-                step = answer.step and self._feeds.restored(heard, answer.step)
-                answer, is_enq = answer._replace(step=step), heard.data[place] == ENQ
-                await self._meant(answer, place + heard.start, arrived, is_enq)
-                await self._take_turns()
-                if self._is_through():
+                if self._feeds and answer.step:
+                    answer = answer._replace(step=self._feeds.restored(heard, answer.step))
+                await self._meant(answer, place + heard.start, arrived, heard.data[place] == ENQ)
+                if await self._is_enough(place + heard.start, data):
                     return
-            self._note_noise(self._station.noise - before)
 
     async def _meant(self, answer: Answer, place: int, arrived: float, is_enq: bool = False) -> None:
         before, self._phase = self._phase, self._station.phase

@@ -28,19 +28,7 @@ class Heard(NamedTuple):
     text: Optional[bytes] = None
 
 
-class AsItComes:
-    """A line on which nothing is changed."""
-
-    def take(self, data: bytes) -> Iterator[Heard]:
-        """What the receiver hears of these bytes."""
-        yield Heard(data)
-
-    def restored(self, heard: Heard, step: Step) -> Step:
-        """What a byte meant, with the text as it came."""
-        return step
-
-
-class LineFeeds(AsItComes):
+class LineFeeds:
     """A line whose frames may hold LF. A frame is heard when all of it has come. STX breaks a frame off, unless it is
     heard carefully: then the frame has it in it, and is rejected."""
 
@@ -50,6 +38,7 @@ class LineFeeds(AsItComes):
         self._frame, self._texts = bytearray(), bytearray()
 
     def take(self, data: bytes) -> Iterator[Heard]:
+        """What the receiver hears of these bytes."""
         at = 0
         while at < len(data):
             if not self._frame:
@@ -76,6 +65,7 @@ class LineFeeds(AsItComes):
         return Heard(data, at - len(data), text)
 
     def restored(self, heard: Heard, step: Step) -> Step:
+        """What a byte meant, with the text as it came."""
         if step.note is Note.ACCEPTED:
             self._texts += heard.text or b""
         if step.text is None:

@@ -16,7 +16,7 @@ from ..model.options import Limits
 from ..model.store import MENDED, WHOLE, Add, Change, End, StoreError
 from .asleep import Asleep
 from .commits import Committer
-from .feeds import AsItComes, LineFeeds
+from .feeds import Heard, LineFeeds
 from .intake import FIRST, Intake, Pool, TooLong
 from .mend import LINE_FEEDS, Ended
 from .mender import Bodies, Mender, is_mended
@@ -37,6 +37,8 @@ _ENDS = {
 }
 _NOISE = "there was noise on the line before its L record"
 _TAKEN = (Note.ACCEPTED, Note.DUPLICATE)
+#: What follows each ENQ or STX that is heard as noise.
+_AFTER_NOISE = frozenset((Note.ENDED, Note.TIMED_OUT, *REJECTED))
 _COUNTED = {
     Note.OPENED: "sessions",
     Note.ACCEPTED: "frames",
@@ -114,8 +116,9 @@ class Line:
         #: Whether the last frame was taken, and when a reply went out last.
         self._is_taken, self._replied = False, 0.0
         self._wire, self._intake, self._committer, self._limits = parts.wire, parts.intake, parts.committer, parts.limits
-        self._counts, self._say, self._share = parts.counts, parts.say, Share(parts.turns)
+        self._counts, self._say, self._share = parts.counts, parts.say, Share(parts.turns, parts.intake.peer)
         self._asleep, self._room, self._tell = parts.asleep, parts.room, parts.observers.tell
+        #: What is between the line and the end that hears it, if something is.
         self._feeds = self._feeds_of(parts.frame)
         self._loop = asyncio.get_running_loop()
         self._begin(parts.frame)
@@ -124,11 +127,14 @@ class Line:
         #: When it was read last, and until when what is read may have come since it was read before a pause.
         self._read_at = self._old_until = self._old = self._loop.time()
         self._due: Optional[float] = None
+        #: What wakes the line when something is due, or earlier.
+        self._alarm: Optional[asyncio.TimerHandle] = None
         #: When bytes came last, by the loop's clock; whether there was a session.
         self.last_byte = self._loop.time()
         self.had_session = False
-        #: Whether a text is kept in parts; how much of the room for texts it has.
-        self._is_long, self._has = False, 0
+        #: Whether a text is kept in parts; how much of the room for texts it has; how many bytes came since a text was
+        #: complete, and how many of all were noise.
+        self._is_long, self._has, self._open, self._noise = False, 0, 0, 0
         self._lost = self._stopping = self._is_cut = False
         #: Why the line is closed, once that is known.
         self._closed = ""
@@ -142,9 +148,9 @@ class Line:
         """Makes the end that hears the line."""
         self._receiver = Receiver(frame_limit=frame, careful=self._is_careful)
 
-    def _feeds_of(self, frame: int) -> AsItComes:
-        """What is between the line and the end that hears it."""
-        return LineFeeds(frame, self._is_careful) if self._mender.names & LINE_FEEDS else AsItComes()
+    def _feeds_of(self, frame: int) -> Optional[LineFeeds]:
+        """What is between the line and the end that hears it, if its frames may hold LF."""
+        return LineFeeds(frame, self._is_careful) if self._mender.names & LINE_FEEDS else None
 
     def _is_busy(self) -> bool:
         """Whether a session goes on."""
@@ -165,6 +171,10 @@ class Line:
         """How many bytes of a text are held that isn't complete."""
         return self._receiver.held
 
+    def _noises(self) -> int:
+        """How many ENQ and STX were heard as noise."""
+        return self._receiver.noise
+
     def _has_room(self, is_there: bool) -> None:
         """Takes no more of a text for which there is no room."""
         self._receiver.set_room(is_there)
@@ -175,15 +185,19 @@ class Line:
         self._look_at_room()
 
     async def _heard(self, data: bytes, arrived: float) -> None:
-        for heard in self._feeds.take(data):
-            before = self._receiver.noise
-            for place, found in self._receiver.hear_placed(heard.data):
-                step = self._feeds.restored(heard, found)
+        for heard in self._feeds.take(data) if self._feeds else (Heard(data),):
+            for place, step in self._receiver.hear_placed(heard.data):
+                if self._feeds:
+                    step = self._feeds.restored(heard, step)
                 await self._step(step, arrived, place + heard.start, heard.data[place] == ENQ)
-                await self._take_turns()
-                if self._is_through():
+                if await self._is_enough(place + heard.start, data):
                     return
-            self._note_noise(self._receiver.noise - before)
+
+    async def _is_enough(self, place: int, data: bytes) -> bool:
+        """Before the bytes after this place are heard: lets others have their turn, and whether they are heard at all."""
+        if place + 1 < len(data):
+            await self._take_turns()
+        return self._is_through()
 
     def _start_at(self) -> Optional[float]:
         """When a session of the host's own may start, if it has something to send."""
@@ -260,7 +274,8 @@ class Line:
                     if self._due is not None and arrived >= self._due:
                         await self._timer(now)
                     await self._hear(data, arrived)
-                    await self._take_turns()
+                    if self._pieces:
+                        await self._take_turns()
                 elif self._due is not None and now >= self._due:
                     await self._timer(now)
                 elif _is_over(self._start_at(), now):
@@ -280,6 +295,8 @@ class Line:
             self._end()
             self._tell(Closed(self._closed or "after a fault"))
             self._wire.close()
+            if self._alarm is not None:
+                self._alarm.cancel()
 
     def _is_through(self) -> bool:
         """Whether the line is to be closed and no session goes on: what came since, as ENQ, is heard by nobody."""
@@ -296,17 +313,31 @@ class Line:
             self._wire.resume()
         if self._lost:
             return True
-        others = [at for at in (self._due, self._start_at()) if at is not None]
-        due = min([self.last_byte + self._limits.idle, *others])
+        self._set_alarm()
+        self._share.rests()
         self._waiter = self._loop.create_future()
-        alarm = self._loop.call_at(due, self._wake)
         try:
             await self._waiter
         finally:
-            alarm.cancel()
             self._waiter = None
         self._share.goes_on()
         return self._is_through() or (self._lost and not self._pieces)
+
+    def _set_alarm(self) -> None:
+        """Has the line woken at the latest when something is due. An alarm that is set already and is earlier stays: as
+        a rule each byte puts off what is due."""
+        due, start = self.last_byte + self._limits.idle, self._start_at()
+        for at in (self._due, start):
+            due = due if at is None or at > due else at
+        if self._alarm is not None:
+            if self._alarm.when() <= due:
+                return
+            self._alarm.cancel()
+        self._alarm = self._loop.call_at(due, self._ring)
+
+    def _ring(self) -> None:
+        self._alarm = None
+        self._wake()
 
     async def _timer(self, now: float) -> None:
         self._tell(TimerOver())
@@ -314,8 +345,10 @@ class Line:
 
     async def _hear(self, data: bytes, arrived: float) -> None:
         self._tell(Came(data))
+        self._open += len(data)
         await self._heard(data, arrived)
-        self._look_at_room()
+        if self._open > FIRST or self._has:
+            self._look_at_room()
 
     def _look_at_room(self) -> None:
         """Takes room for the text that is open. What all lines hold over the first bytes of each is limited."""
@@ -327,27 +360,33 @@ class Line:
         self._has = self._has if has is None else has
 
     async def _take_turns(self) -> None:
-        """Lets the others have their turn, if this line has had more than they."""
+        """Lets the others have their turn, if this line has had more than they. It is read no further if more waits
+        already."""
         if self._share.is_over():
-            self._pause(self._read_at)
+            if self._pieces:
+                self._pause(self._read_at)
             await self._share.wait()
 
-    def _note_noise(self, count: int) -> None:
+    def _note_noise(self) -> None:
         """Notes how many ENQ and STX came inside a session or a frame, where no analyzer sends them."""
-        if count:
-            self._counts["noise"] += count
-            self._tell(Noise(count))
+        before, self._noise = self._noise, self._noises()
+        if self._noise > before:
+            self._counts["noise"] += self._noise - before
+            self._tell(Noise(self._noise - before))
 
     async def _step(self, step: Step, arrived: float, place: int = 0, is_enq: bool = False) -> None:
         self._tell(Meant(place, step, is_enq))
-        self.had_session = self.had_session or step.note is Note.OPENED
-        if step.note in _COUNTED:
-            self._counts[_COUNTED[step.note]] += 1
-        if step.note in _ENDS:
+        note = step.note
+        if note in _COUNTED:
+            self._counts[_COUNTED[note]] += 1
+        if note in _AFTER_NOISE:
+            self._note_noise()
+        if note in _ENDS:
+            self.had_session = self.had_session or note is Note.OPENED
             is_over = self._is_taken and arrived - self._replied < BROKEN * self._limits.scale
-            is_over = is_over and step.note is Note.ENDED and not is_enq
-            self._drop(_NOISE if is_enq and step.note is Note.ENDED else _ENDS[step.note], is_over)
-        self._is_taken = step.note in _TAKEN or (self._is_taken and step.note not in REJECTED)
+            is_over = is_over and note is Note.ENDED and not is_enq
+            self._drop(_NOISE if is_enq and note is Note.ENDED else _ENDS[note], is_over)
+        self._is_taken = note in _TAKEN or (self._is_taken and note not in REJECTED)
         if step.text is not None and not await self._keep(step.text):
             return
         if step.reply and not self._answer(step.reply, arrived):
@@ -363,15 +402,16 @@ class Line:
         if self._is_cut:
             self._restart(self._closed)
             return False
-        age = self._loop.time() - arrived + self._asleep.seconds()
+        now = self._loop.time()
+        age = now - arrived + self._asleep.seconds()
         if age > self._limits.reply * self._limits.scale:
             self._counts["late"] += 1
             self._tell(Late(age))
             self._restart("the reply would have been late")
             return False
-        self._tell(Answered(self._loop.time() - arrived))
+        self._tell(Answered(now - arrived))
         self._send(reply)
-        self._replied = self._loop.time()
+        self._replied = now
         return True
 
     def _send(self, data: bytes) -> None:
@@ -381,6 +421,7 @@ class Line:
     async def _keep(self, text: bytes) -> bool:
         """Keeps a text; if it can't be kept there is no reply, and the receiver begins anew."""
         self._counts["texts"] += 1
+        self._open = 0
         try:
             await self._keep_in_parts(text)
         except (StoreError, TooLong) as error:
@@ -400,36 +441,40 @@ class Line:
         """Keeps a text, one part of its changes after another: however many they are, no other line waits for all."""
         part: List[Change] = []
         for changes in self._intake.take(text):
-            changes = await self._mended(changes)
+            if self._intake.bodies:
+                changes = await self._mended(changes)
+            if part:
+                await self._take_turns()
             if len(part) + len(changes) > self._committer.part:
                 self._is_long = True
                 await self._put(part)
                 part = []
             _join(part, changes)
-            await self._take_turns()
         if part:
             await self._put(part)
         self._is_long = False
-        self._mender.begin_tries(self._tries, self._put_later)
+        if self._tries:
+            self._mender.begin_tries(self._tries, self._put_later)
 
     async def _mended(self, changes: List[Change]) -> List[Change]:
         """The same changes, with what is made of the messages that end and aren't whole."""
-        if self._intake.bodies:
-            bodies, self._intake.bodies = self._intake.bodies, {}
-            changes = await self._mender.of_all(changes, bodies, True, self._tries)
-            self._share.goes_on()
-            self._intake.also(is_mended(changes))
+        bodies, self._intake.bodies = self._intake.bodies, {}
+        changes = await self._mender.of_all(changes, bodies, True, self._tries)
+        self._share.goes_on()
+        self._intake.also(is_mended(changes))
         return changes
 
     async def _put(self, part: Sequence[Change]) -> None:
-        if any(isinstance(one, End) and one.state == WHOLE for one in part):
+        ends = [one for one in part if isinstance(one, End)]
+        if any(one.state == WHOLE for one in ends):
             await self._mender.order.over()  # nothing overtakes what is made of an earlier message
         self._share.rests()
         await self._committer.put(part, self._is_long)
         self._share.goes_on()
         self._intake.kept()
         await self._take_turns()
-        self._note_ends(part)
+        if ends:
+            self._note_ends(part)
 
     def _note_ends(self, changes: Sequence[Change]) -> None:
         """Counts the messages that ended, and says which are not whole."""

@@ -4,7 +4,6 @@ from typing import Any, Iterator, Tuple
 
 from lislink.codes import Note
 from lislink.link import Step
-from .feeds import AsItComes
 from .line import Line, Parts
 
 _STX, _ETX, _EOT, _ENQ = 2, 3, 4, 5
@@ -78,9 +77,8 @@ class PlainLine(Line):
     def _begin(self, frame: int) -> None:
         self._receiver: Any = PlainReceiver()
 
-    def _feeds_of(self, frame: int) -> AsItComes:
+    def _feeds_of(self, frame: int) -> None:
         """A block may hold LF."""
-        return AsItComes()
 
     async def _keep(self, text: bytes) -> bool:
         if text and text == self._last and self._intake.goes_on:

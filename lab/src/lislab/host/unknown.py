@@ -6,7 +6,7 @@ from typing import Callable, Dict, Optional, Tuple
 from lislink.message import Entry
 from lislink.records import MessageError, Reader
 from lislink.rows import Row
-from ..diagnosis.events import Event, MessageEnded
+from ..diagnosis.events import MessageEnded, Sees
 from ..diagnosis.notices import CODES
 from ..model.codes import Codes, field_and_unit
 from ..model.store import WHOLE
@@ -73,14 +73,16 @@ class Unknown:
         more = f", and {len(names) - NAMED} others" if len(names) > NAMED else ""
         return sum(found.values()), ", ".join(names[:NAMED]) + more
 
-    def see(self, counts: "Counter[str]", say: Callable[[str, str], None], event: Event) -> None:
-        """Counts the codes of a message that ended which the table lacks, and says which they are."""
-        if not isinstance(event, MessageEnded):
-            return
-        count, names = self.ended(event.end.key, event.end.state == WHOLE)
-        if count:
-            counts["unknown_codes"] += count
-            say(f"message {event.end.key} has codes that the line's table lacks: {names}", CODES)
+    def sees(self, counts: "Counter[str]", say: Callable[[str, str], None]) -> Sees:
+        """What it does when a message of the line ends: it counts the codes that the table lacks, and says which."""
+
+        def see(ended: MessageEnded) -> None:
+            count, names = self.ended(ended.end.key, ended.end.state == WHOLE)
+            if count:
+                counts["unknown_codes"] += count
+                say(f"message {ended.end.key} has codes that the line's table lacks: {names}", CODES)
+
+        return {MessageEnded: see}
 
     def names(self) -> Dict[str, int]:
         """How many results there were of each code that the table lacks, the most first."""

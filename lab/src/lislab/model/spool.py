@@ -7,8 +7,10 @@ acknowledgement, and moved to its place when its message is whole.
     unfinished/KEY.records    the acknowledged texts of one that never became whole; unreadable/ the same
     digests/DIGEST            which whole message has these bytes first
 """
+import bisect
 import contextlib
 import hashlib
+import itertools
 import json
 import os
 import time
@@ -18,6 +20,7 @@ from typing import Any, Dict, Iterator, List, Optional, Sequence, Set, Tuple
 from .files import Appended, is_locked, sync_folder, take_lock, write_whole
 from .store import (
     LEFT,
+    LISTED,
     MENDED,
     OPEN,
     UNFINISHED,
@@ -27,6 +30,7 @@ from .store import (
     Begin,
     Change,
     End,
+    Head,
     LineCount,
     Store,
     StoreError,
@@ -34,6 +38,8 @@ from .store import (
     Unit,
 )
 
+#: Among how many messages the last ones of a line are looked for: a file is read for each.
+AMONG = 5000
 _FOLDERS = (OPEN, WHOLE, UNFINISHED, UNREADABLE, "digests")
 
 
@@ -72,13 +78,11 @@ class SpoolStore(Store):
 
     def _names(self, state: str) -> List[str]:
         """The messages in a state, without the ends of their files' names; open ones of which something is kept."""
-        end = "" if state == OPEN else ".records"
-        names = [
-            name for name in os.listdir(self._path(state)) if name.endswith(end) and not name.endswith(".about")
-        ]
-        if state == OPEN:
-            names = [name for name in names if _size_of(self._path(OPEN, name))]
-        return sorted(name[: len(name) - len(end)] for name in names if not name.startswith("."))
+        names = os.listdir(self._path(state))
+        if state != OPEN:
+            return sorted([name[: -len(".records")] for name in names if name.endswith(".records") and name[0] != "."])
+        kept = [name for name in names if name[0] != "." and not name.endswith(".about")]
+        return sorted([name for name in kept if _size_of(self._path(OPEN, name))])
 
     def _take_last(self) -> None:
         """Goes on after the last whole message, which a host that died may have left without its mark."""
@@ -229,16 +233,69 @@ class SpoolStore(Store):
             sync_folder(self._path(name))
 
     def messages(self, after: int = 0, limit: Optional[int] = None) -> Iterator[Stored]:
-        names = [name for name in self._listed(WHOLE) if int(name.split("-")[0]) > after]
-        for name in names[:limit]:
+        for name in self._after(after)[:limit]:
             number, key = name.split("-")
             yield self._stored(WHOLE, name, int(number), key)
 
-    def others(self) -> Iterator[Stored]:
+    def _after(self, number: int) -> List[str]:
+        """Whole messages with a number above this one, in order, by their names."""
+        names = self._listed(WHOLE)
+        return names[bisect.bisect(names, f"{number:016}~") :]
+
+    def _others(self) -> List[Tuple[str, str]]:
+        """Messages that aren't whole: the name and the state of each, in the order in which they began."""
         names = [(name, state) for state in (UNFINISHED, UNREADABLE) for name in self._listed(state)]
         left = [] if self.is_held() else [(name, OPEN) for name in self._listed(OPEN)]
-        for name, state in sorted([*names, *left]):
+        return sorted([*names, *left])
+
+    def others(self) -> Iterator[Stored]:
+        for name, state in self._others():
             yield self._left(name) if state == OPEN else self._stored(state, name, None, name)
+
+    def heads(self, after: int, most: int) -> List[Head]:
+        return [self._head(WHOLE, name) for name in self._after(after)[:most]]
+
+    def last_heads(self, line: str, most: int = LISTED) -> List[Head]:
+        found = (self._head(WHOLE, name) for name in self._listed(WHOLE)[: -AMONG - 1 : -1])
+        return list(itertools.islice((one for one in found if one.line == line), most))
+
+    def not_whole(self, line: Optional[str] = None, most: int = LISTED) -> List[Head]:
+        found = (self._head(state, name) for name, state in reversed(self._others()))
+        return list(itertools.islice((one for one in found if line in (None, one.line)), most))
+
+    def message(self, key: str) -> Optional[Stored]:
+        name = next((name for name in self._listed(WHOLE) if name.endswith(f"-{key}")), None)
+        if name is not None:
+            return self._stored(WHOLE, name, int(name.split("-")[0]), key)
+        return next((one for one in self.others() if one.key == key), None)
+
+    def count_after(self, number: int) -> int:
+        return len(self._after(number))
+
+    def number_at(self, at: float) -> int:
+        """Numbers are times, in microseconds."""
+        return max(0, int(at * 1_000_000) - 1)
+
+    def _head(self, state: str, name: str) -> Head:
+        """A message without its bytes, which aren't read."""
+        if state == OPEN:
+            one = self._left(name)
+            return Head(None, one.line, one.began, one.ended, one.state, one.reason, name, len(one.body))
+        path, (number, _, key) = self._path(state, name), name.rpartition("-")
+        about = self._about(path)
+        try:
+            times, size = (float(about["began"]), float(about["ended"])), os.path.getsize(path + ".records")
+            return Head(int(number) if number else None, str(about["line"]), *times, state, about["reason"], key, size)
+        except (OSError, ValueError, KeyError, TypeError) as error:
+            raise _damaged(path, error) from None
+
+    def _about(self, path: str) -> Dict[str, Any]:
+        """What is noted of a message that isn't open. StoreError if that can't be read."""
+        try:
+            with open(path + ".about", encoding="utf-8") as file:
+                return dict(json.load(file))
+        except (OSError, ValueError, TypeError) as error:
+            raise _damaged(path, error) from None
 
     def _listed(self, state: str) -> List[str]:
         try:
@@ -248,17 +305,15 @@ class SpoolStore(Store):
 
     def _stored(self, state: str, name: str, number: Optional[int], key: str) -> Stored:
         path = self._path(state, name)
+        about = self._about(path)
         try:
-            with open(path + ".about", encoding="utf-8") as file:
-                about = json.load(file)
             with open(path + ".records", "rb") as records:
                 body = records.read()
             line, peer, encoding = (str(about[one]) for one in ("line", "peer", "encoding"))
             times = float(about["began"]), float(about["ended"])
             return Stored(number, key, line, peer, encoding, *times, state, about["reason"], about["again_of"], body)
         except (OSError, ValueError, KeyError, TypeError) as error:
-            why = str(error) if isinstance(error, OSError) else f"{path}.about is damaged"
-            raise StoreError(why) from None
+            raise _damaged(path, error) from None
 
     def _left(self, key: str) -> Stored:
         """A message that a host left open that doesn't run."""
@@ -301,6 +356,11 @@ class SpoolStore(Store):
         if self._lock is not None:
             os.close(self._lock)
             self._lock = None
+
+
+def _damaged(path: str, error: Exception) -> StoreError:
+    """Why a message can't be read."""
+    return StoreError(str(error) if isinstance(error, OSError) else f"{path}.about is damaged")
 
 
 def _count(line: str, rows: List[Tuple[str, Dict[str, Any]]]) -> LineCount:

@@ -1,11 +1,13 @@
 """What the stores in databases share: the tables and the statements. A text, or a part of a long one, is one row; a
 message's bytes are those of its texts in order. So nothing is copied when a message becomes whole."""
 import abc
+import functools
 from typing import Any, ContextManager, Dict, Iterator, List, Optional, Sequence, Tuple, TypeVar
 
 from .schema import LATER, ORDERS, SCHEMA, TABLES
 from .store import (
     LEFT,
+    LISTED,
     MENDED,
     OPEN,
     UNFINISHED,
@@ -14,6 +16,7 @@ from .store import (
     Add,
     Begin,
     End,
+    Head,
     LineCount,
     Store,
     StoreError,
@@ -21,27 +24,24 @@ from .store import (
     Unit,
 )
 
-#: How many rows one statement puts.
-ROWS = 100
+#: How many rows one statement puts; among how many messages the last ones of a line are looked for.
+ROWS, AMONG = 100, 100_000
 # In the words of the index of messages that aren't whole.
 _OPEN_HOSTS = f"SELECT DISTINCT host FROM message WHERE state <> '{WHOLE}' AND state = '{OPEN}'"
 T = TypeVar("T")
+_HEADS = "SELECT number, line, began, ended, state, reason, key, size FROM message"
 _COLUMNS = "number, key, line, peer, encoding, began, ended, state, reason, again_of"
 
 
-def _lots(rows: Sequence[T]) -> Iterator[Sequence[T]]:
-    """Rows in lots, each for one statement."""
-    return (rows[start : start + ROWS] for start in range(0, len(rows), ROWS))
+def _lots(values: List[T], width: int) -> Iterator[List[T]]:
+    """The values of rows of this width in lots, each for one statement."""
+    return (values[start : start + ROWS * width] for start in range(0, len(values), ROWS * width))
 
 
-def _marks(rows: Sequence[Any], width: int = 0) -> str:
-    """The signs for the values of rows."""
-    width = width or len(rows[0])
-    return ",".join([f"({','.join('?' * width)})"] * len(rows))
-
-
-def _flat(rows: Sequence[Tuple[Any, ...]]) -> List[Any]:
-    return [value for row in rows for value in row]
+@functools.lru_cache(maxsize=1024)
+def _marks(count: int, width: int) -> str:
+    """The signs for so many values, in rows of this width."""
+    return ",".join([f"({','.join('?' * width)})"] * (count // width))
 
 
 class SqlStore(Store):
@@ -144,62 +144,79 @@ class SqlStore(Store):
     def apply(self, units: Sequence[Unit]) -> None:
         """The changes, inside a transaction. What is there already, since a commit was kept whose answer was lost, stays
         as it is. Numbers come last, so that their lock is short."""
-        changes = [change for unit in units for change in unit]
-        rows: List[Tuple[Any, ...]] = [
-            (one.key, self.host, one.line, one.peer, one.encoding, one.at, OPEN)
-            for one in changes
-            if isinstance(one, Begin)
-        ]
-        self._put("message (key, host, line, peer, encoding, began, state)", rows)
-        rows = [(one.key, one.place, one.at, one.body) for one in changes if isinstance(one, Add)]
-        self._put("text (message, place, at, body)", rows)
-        ends = [one for one in changes if isinstance(one, End)]
-        self._end([(one, None, None) for one in ends if one.state != WHOLE])
-        whole = [one for one in ends if one.state == WHOLE]
-        if whole:
-            self._number(whole)
+        begins: List[Any] = []
+        texts: List[Any] = []
+        ends: List[End] = []
+        for unit in units:
+            for one in unit:
+                if isinstance(one, Add):
+                    texts += one
+                elif isinstance(one, Begin):
+                    begins += (one.key, self.host, one.line, one.peer, one.encoding, one.at, OPEN)
+                else:
+                    ends.append(one)
+        self._put("message (key, host, line, peer, encoding, began, state)", 7, begins)
+        self._put("text (message, place, at, body)", 4, texts)
+        if ends:
+            self._end([(one, None, None) for one in ends if one.state != WHOLE])
+            self._number([one for one in ends if one.state == WHOLE])
 
-    def _put(self, table: str, rows: Sequence[Tuple[Any, ...]]) -> None:
-        """Puts rows into a table: those that aren't there."""
-        for some in _lots(rows):
-            self.run(f"INSERT INTO {table} VALUES {_marks(some)} ON CONFLICT DO NOTHING", _flat(some))
+    def _put(self, table: str, width: int, values: List[Any]) -> None:
+        """Puts rows of so many values into a table: those that aren't there."""
+        for some in _lots(values, width):
+            self.run(f"INSERT INTO {table} VALUES {_marks(len(some), width)} ON CONFLICT DO NOTHING", some)
 
     def _end(self, ends: Sequence[Tuple[End, Optional[str], Optional[int]]]) -> None:
         """Ends messages that are open: each with the first one of its bytes and its number."""
-        rows = [
-            (one.key, one.state, one.reason, one.digest, one.size, one.at, first, number) for one, first, number in ends
-        ]
-        for some in _lots(rows):
+        values: List[Any] = []
+        for one, first, number in ends:
+            values += (one.key, one.state, one.reason, one.digest, one.size, one.at, first, number)
+        for some in _lots(values, 8):
             self.run(
                 "UPDATE message SET state = v.column2, reason = v.column3, digest = v.column4,"
                 " size = CAST(v.column5 AS BIGINT), ended = CAST(v.column6 AS DOUBLE PRECISION),"
                 " again_of = CAST(v.column7 AS TEXT), number = CAST(v.column8 AS BIGINT)"
-                f" FROM (VALUES {_marks(some)}) AS v WHERE key = v.column1 AND state = '{OPEN}'",
-                _flat(some),
+                f" FROM (VALUES {_marks(len(some), 8)}) AS v WHERE key = v.column1 AND state = '{OPEN}'",
+                some,
             )
 
     def _number(self, ends: Sequence[End]) -> None:
+        """Ends whole messages, each with its number and the first one of its bytes. However many they are, few rows are
+        read: after each row this thread waits for its turn, as long as the lines are busy."""
+        if not ends:
+            return
         self.lock_numbers()
         number = int(self.run("SELECT coalesce(max(number), 0) FROM message").fetchone()[0])
-        states: Dict[str, str] = {}
-        first: Dict[Tuple[str, str], str] = {}
-        for some in _lots(ends):
-            words = f"SELECT key, state FROM message WHERE key IN ({','.join('?' * len(some))})"
-            states.update(self.run(words, [one.key for one in some]).fetchall())
-            words = f"SELECT line, digest, key FROM (VALUES {_marks(some, 2)}) AS v CROSS JOIN message"
-            words += f" WHERE line = v.column1 AND digest = v.column2 AND again_of IS NULL AND state = '{WHOLE}'"
-            found = self.run(words, _flat([(one.line, one.digest) for one in some])).fetchall()
-            first.update({(line, digest): key for line, digest, key in found})
+        ends = self._not_kept_yet(ends)
+        first = self._first_of(sorted({(one.line, one.digest) for one in ends}))
         rows = []
-        for end in ends:
-            if states.get(end.key) == WHOLE:  # its commit was kept, and the answer lost
-                continue
-            if states.get(end.key) != OPEN:
-                raise StoreError(f"message {end.key} isn't open")
-            number += 1
+        for number, end in enumerate(ends, number + 1):
             rows.append((end, first.get((end.line, end.digest)), number))
             first.setdefault((end.line, end.digest), end.key)
         self._end(rows)
+
+    def _not_kept_yet(self, ends: Sequence[End]) -> Sequence[End]:
+        """Those of whole messages whose commit wasn't kept before, its answer being lost. StoreError if one isn't open."""
+        lots = [(f"key IN {_marks(len(some), len(some))}", some) for some in _lots([one.key for one in ends], 1)]
+        words = f"SELECT count(*) FROM message WHERE state = '{OPEN}' AND"
+        if sum(int(self.run(f"{words} {which}", keys).fetchone()[0]) for which, keys in lots) == len(ends):
+            return ends
+        states: Dict[str, str] = {}
+        for which, keys in lots:
+            states.update(self.run(f"SELECT key, state FROM message WHERE {which}", keys).fetchall())
+        for one in ends:
+            if states.get(one.key) not in (OPEN, WHOLE):
+                raise StoreError(f"message {one.key} isn't open")
+        return [one for one in ends if states[one.key] == OPEN]
+
+    def _first_of(self, pairs: Sequence[Tuple[str, str]]) -> Dict[Tuple[str, str], str]:
+        """The first message of each line and digest that is kept, by its key."""
+        first: Dict[Tuple[str, str], str] = {}
+        for some in _lots([one for pair in pairs for one in pair], 2):
+            words = f"SELECT line, digest, key FROM (VALUES {_marks(len(some), 2)}) AS v CROSS JOIN message"
+            words += f" WHERE line = v.column1 AND digest = v.column2 AND again_of IS NULL AND state = '{WHOLE}'"
+            first.update({(line, digest): key for line, digest, key in self.run(words, some).fetchall()})
+        return first
 
     def read(self, statement: str, values: Sequence[Any] = ()) -> List[Tuple[Any, ...]]:
         """The rows of a statement that changes nothing."""
@@ -228,6 +245,49 @@ class SqlStore(Store):
         for row in rows:
             one = self._stored(row)
             yield one._replace(state=UNFINISHED, reason=LEFT) if one.state == OPEN else one
+
+    def heads(self, after: int, most: int) -> List[Head]:
+        rows = self.read(f"{_HEADS} WHERE number > ? ORDER BY number LIMIT ?", (after, most))
+        return [Head._make(row) for row in rows]
+
+    def _newest(self) -> int:
+        """The number of the last whole message; 0 if there is none."""
+        return int(self.read("SELECT coalesce(max(number), 0) FROM message")[0][0])
+
+    def last_heads(self, line: str, most: int = LISTED) -> List[Head]:
+        rows = self.read(
+            f"{_HEADS} WHERE number > ? AND line = ? ORDER BY number DESC LIMIT ?", (self._newest() - AMONG, line, most)
+        )
+        return [Head._make(row) for row in rows]
+
+    def not_whole(self, line: Optional[str] = None, most: int = LISTED) -> List[Head]:
+        words, values = ("AND line = ?", [line]) if line is not None else ("", [])
+        rows = self.read(
+            f"{_HEADS} WHERE state <> '{WHOLE}' AND state IN (?, ?) {words} ORDER BY began DESC LIMIT ?",
+            (UNFINISHED, UNREADABLE, *values, most),
+        )
+        return [Head._make(row) for row in rows]
+
+    def message(self, key: str) -> Optional[Stored]:
+        rows = self.read("SELECT number FROM message WHERE key = ?", (key,))
+        if rows and rows[0][0] is not None:
+            return next(iter(self.messages(int(rows[0][0]) - 1, 1)), None)
+        return next((one for one in (self.others() if rows else ()) if one.key == key), None)
+
+    def count_after(self, number: int) -> int:
+        return int(self.read("SELECT count(*) FROM message WHERE number > ?", (number,))[0][0])
+
+    def number_at(self, at: float) -> int:
+        """Numbers rise with the time."""
+        low, high = 0, self._newest()
+        while low < high:
+            middle = (low + high) // 2
+            rows = self.read("SELECT number, ended FROM message WHERE number > ? ORDER BY number LIMIT 1", (middle,))
+            if rows and rows[0][1] < at:
+                low = int(rows[0][0])
+            else:
+                high = middle
+        return low
 
     def _stored(self, row: Tuple[Any, ...]) -> Stored:
         return Stored._make([*row, self.body_of(row[1])])

@@ -9,6 +9,8 @@ OPEN, WHOLE, UNFINISHED, UNREADABLE = "open", "whole", "unfinished", "unreadable
 LEFT = "the host was stopped"
 #: How the reason begins of a message that isn't whole and of which another was made, which is.
 MENDED = "mended: "
+#: How many messages a page lists.
+LISTED = 100
 
 
 class StoreError(Exception):
@@ -68,6 +70,19 @@ class Stored(NamedTuple):
     body: bytes
 
 
+class Head(NamedTuple):
+    """A message without its bytes: how many they are."""
+
+    number: Optional[int]
+    line: str
+    began: float
+    ended: Optional[float]
+    state: str
+    reason: str
+    key: str
+    size: int
+
+
 class LineCount(NamedTuple):
     """What is kept of a line. Of those that aren't whole the ones don't count of which a whole one was made."""
 
@@ -119,6 +134,30 @@ class Store(abc.ABC):
     @abc.abstractmethod
     def counts(self) -> List[LineCount]:
         """What is kept, line by line."""
+
+    @abc.abstractmethod
+    def heads(self, after: int, most: int) -> List[Head]:
+        """Whole messages with a number above `after`, in order, without their bytes."""
+
+    @abc.abstractmethod
+    def last_heads(self, line: str, most: int = LISTED) -> List[Head]:
+        """The last whole messages of a line, among the last ones of all; the newest first."""
+
+    @abc.abstractmethod
+    def not_whole(self, line: Optional[str] = None, most: int = LISTED) -> List[Head]:
+        """The last messages that are unfinished or unreadable, of a line or of all; the newest first."""
+
+    @abc.abstractmethod
+    def message(self, key: str) -> Optional[Stored]:
+        """A message that isn't open, by its key."""
+
+    @abc.abstractmethod
+    def count_after(self, number: int) -> int:
+        """How many whole messages have a number above this one."""
+
+    @abc.abstractmethod
+    def number_at(self, at: float) -> int:
+        """A number such that the messages that were kept at this time or later have one above it."""
 
     @abc.abstractmethod
     def is_held(self, host: str = "") -> bool:

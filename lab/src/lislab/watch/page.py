@@ -11,10 +11,10 @@ from ..diagnosis.faults import words
 from ..diagnosis.pulse import PAST, many
 from ..field.page import rows_of
 from ..model.book import Failed
-from ..model.store import WHOLE, Stored
+from ..model.store import WHOLE, Head, Stored
 from ..out.export import time_text
 from . import plot
-from .tally import DAY, HOUR, Head, Tally, share
+from .tally import DAY, HOUR, Tally, share
 
 #: The most characters that are shown of a value; the most bytes of a message whose records are shown.
 VALUE, RECORDS = 2000, 1 << 20

@@ -105,7 +105,7 @@ class Pages:
         def work(store: Any) -> page.LineData:
             with reading_book(store) as book:
                 failed = book.failed(LISTED).get(name)
-            kept = (tally.last_heads(store, name, LISTED), tally.not_whole(store, name, LISTED))
+            kept = (store.last_heads(name, LISTED), store.not_whole(name, LISTED))
             return page.LineData(*kept, failed, self._ladder(name))
 
         more = tally.each(self.host.store, work)
@@ -130,11 +130,11 @@ class Pages:
         return made
 
     def _trouble(self, _: Dict[str, str]) -> Answer:
-        found = tally.each(self.host.store, lambda store: tally.not_whole(store, None))
+        found = tally.each(self.host.store, lambda store: store.not_whole(None))
         return Answer(200, HTML, page.trouble_page(found))
 
     def _message(self, given: Dict[str, str]) -> Answer:
-        found = tally.each(self.host.store, lambda store: tally.message(store, given.get("key", "")))
+        found = tally.each(self.host.store, lambda store: store.message(given.get("key", "")))
         if found is None:
             return Answer(404, HTML, page.page("There is no such message", ""))
         return Answer(200, HTML, page.message_page(found))

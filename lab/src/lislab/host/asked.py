@@ -1,0 +1,93 @@
+"""What a host is asked to do, and what its parts need of it."""
+import asyncio
+from typing import Callable, Dict, Iterable, List, Mapping, NamedTuple, Optional, Protocol, Sequence
+
+from ..diagnosis.notices import Notices
+from ..model.codes import Codes
+from ..model.options import Connect, Limits, Listen, Network, Place, Serial
+from ..model.said import say
+from .line import Line, Ticks, Wire
+from .outbox import Outbox
+
+
+class Asked(NamedTuple):
+    """What a host is to do."""
+
+    listens: Sequence[Listen]
+    serials: Sequence[Serial]
+    networks: Sequence[Network]
+    limits: Limits
+    capture: Optional[str]
+    status: Optional[str]
+    name: str = ""
+    #: What makes the orders that are sent, if any line sends some.
+    outbox: Optional[Callable[[Callable[[str], None]], Outbox]] = None
+    connects: Sequence[Connect] = ()
+    #: What reads the file of lines again, if there is one: the same with its lines. OptionError if it has faults.
+    again: Optional[Callable[[], "Asked"]] = None
+    #: The socket through which `lislab watch` looks.
+    watch: Optional[str] = None
+    #: The tables of codes, by the names of lines.
+    tables: Mapping[str, Codes] = {}
+
+    @property
+    def places(self) -> List[Place]:
+        """All lines."""
+        return [*self.listens, *self.serials, *self.connects]
+
+
+class SaidOnce:
+    """What was said last of a device, an address or a file, so that it is said once."""
+
+    def __init__(self) -> None:
+        self.texts: Dict[str, str] = {}
+
+    def say(self, name: str, why: str) -> None:
+        """Says why something can't be had, unless that was said of it last."""
+        if self.texts.get(name) != why:
+            self.texts[name] = why
+            say(f"{name}: {why}")
+
+    def forget(self, name: str) -> None:
+        """It can be had."""
+        self.texts.pop(name, None)
+
+
+class Room(Protocol):
+    """Who has room for lines."""
+
+    def has_room(self, name: str, peer: str) -> bool:
+        """Whether an address may have another line of this name."""
+
+
+class Hub(Protocol):
+    """What ports, calls and serial lines need of their host."""
+
+    asked: Asked
+    limits: Limits
+    notices: Notices
+    ticks: Ticks
+    said: SaidOnce
+    #: The lines that are connected, with their tasks.
+    lines: "Dict[Line, asyncio.Task[None]]"
+    #: Whether it takes no new line; how many connections were refused.
+    stopping: bool
+    refused: int
+
+    @property
+    def room(self) -> Room:
+        """Who has room for lines."""
+
+    def add(self, wire: Wire, place: Place, peer: str) -> Line:
+        """A line that is connected, heard from now on."""
+
+
+def warn(places: Iterable[Place]) -> None:
+    """Says of which lines the link isn't the proved one, or a reply that is late could be taken for another one."""
+    for place in places:
+        if place.link:
+            what = "no number and no checksum, so damage isn't noticed; and a receiver that isn't proved"
+            say(f"{place.name}: link={place.link} has {what}")
+        if place.orders and not isinstance(place, Serial) and not place.waits:
+            what = "after NAK or ENQ the host asks again on the same connection, where a late reply could answer it"
+            say(f"{place.name}: {what}: waits=new-line has the line connected anew first")

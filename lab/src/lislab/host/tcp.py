@@ -1,0 +1,117 @@
+"""A line over TCP: a connection of somebody who connected, or that the host made."""
+import asyncio
+import os
+import socket
+from typing import Optional, Protocol, Union
+
+from ..model.options import Connect, Listen, plain_address
+from .asked import Hub
+from .line import Line, Wire
+from .telnet import Telnet
+
+#: So many bytes of a connection are heard before it is asked whose turn it is.
+PIECE = 4096
+
+
+class End(Protocol):
+    """Where connections come from: a port, or a call."""
+
+    @property
+    def place(self) -> Union[Listen, Connect]:
+        """The line of those who connect from now on."""
+
+    def lets_in(self, host: Hub, peer: str) -> bool:
+        """Whether an address may connect now."""
+
+
+class TcpWire(asyncio.BufferedProtocol, Wire):
+    """A TCP connection. All read into one buffer, which is emptied at once, so that reading fragments no memory."""
+
+    is_tcp, _buffer = True, bytearray(1 << 16)
+
+    def __init__(self, host: Hub, end: End) -> None:
+        self._host, self._end = host, end
+        self._transport: Optional[asyncio.Transport] = None
+        self.line: Optional[Line] = None
+        self._why = ""
+        self._telnet: Optional[Telnet] = None
+
+    def connection_made(self, transport: asyncio.BaseTransport) -> None:
+        """An analyzer is connected, or somebody who may not be."""
+        assert isinstance(transport, asyncio.Transport)
+        host, name = self._host, transport.get_extra_info("peername")
+        if name is None:  # it is gone already
+            transport.abort()
+            return
+        peer = plain_address(name[0])
+        # If nobody listens at the port that the host calls, the system may choose that port, and the call reach itself.
+        if name == transport.get_extra_info("sockname") or not self._end.lets_in(host, peer):
+            transport.abort()
+            return
+        one: socket.socket = transport.get_extra_info("socket")
+        one.setsockopt(socket.IPPROTO_TCP, socket.TCP_NODELAY, 1)
+        one.setsockopt(socket.SOL_SOCKET, socket.SO_KEEPALIVE, 1)
+        for option, seconds in (("TCP_KEEPIDLE", 60), ("TCP_KEEPINTVL", 10), ("TCP_KEEPCNT", 6)):
+            if hasattr(socket, option):
+                one.setsockopt(socket.IPPROTO_TCP, getattr(socket, option), seconds)
+        transport.set_write_buffer_limits(high=1024)
+        self._transport = transport
+        self._telnet = Telnet() if self._end.place.telnet else None
+        self.line = host.add(self, self._end.place, peer)
+
+    def get_buffer(self, sizehint: int) -> bytearray:
+        """Where bytes are read to."""
+        return self._buffer
+
+    def buffer_updated(self, nbytes: int) -> None:
+        """Bytes came."""
+        if self.line is None:
+            return
+        came = memoryview(self._buffer)[:nbytes]
+        for start in range(0, nbytes, PIECE):
+            data = bytes(came[start : start + PIECE])
+            if self._telnet is not None:
+                data, answer = self._telnet.heard(data)
+                self._put(answer)
+            if data:
+                self.line.data(data, self._host.ticks.before)
+
+    def eof_received(self) -> bool:
+        """The peer sends no more: the connection is closed."""
+        return False
+
+    def connection_lost(self, exc: Optional[Exception]) -> None:
+        """The connection is gone, by whatever end."""
+        if self.line is not None:
+            self.line.lost(self._why or ("by the other end" if exc is None else f"by a fault ({why(exc)})"))
+
+    def pause_writing(self) -> None:
+        """A peer that doesn't read its replies is no analyzer."""
+        self._why = "since its replies aren't read"
+        if self._transport is not None:
+            self._transport.abort()
+
+    def write(self, data: bytes) -> None:
+        self._put(data if self._telnet is None else self._telnet.written(data))
+
+    def _put(self, data: bytes) -> None:
+        if data and self._transport is not None and not self._transport.is_closing():
+            self._transport.write(data)
+
+    def close(self) -> None:
+        if self._transport is not None:
+            self._transport.close()
+
+    def pause(self) -> None:
+        if self._transport is not None and not self._transport.is_closing():
+            self._transport.pause_reading()
+
+    def resume(self) -> None:
+        if self._transport is not None and not self._transport.is_closing():
+            self._transport.resume_reading()
+
+
+def why(error: Exception) -> str:
+    """What is wrong, in the system's words if it has some."""
+    number = getattr(error, "errno", None) or 0
+    return os.strerror(number) if number > 0 else str(error)
