@@ -19,6 +19,8 @@ from tests.host.hosts import NEVER, Found, Host, HostTest, lislab, sending, wait
 
 #: The timers of tests in which they run out while a frame is answered in time: 15 seconds are 0.75.
 LATE = 0.05
+#: The same where a host is stopped: a busy machine that stalls it for two seconds makes its replies late too.
+STALLED = 0.2
 ENQ, ACK, NAK, EOT = b"\x05", b"\x06", b"\x15", b"\x04"
 TEXTS = [b"H|\\^&|||A\r", b"P|1\r", b"O|1|S7\r", b"R|1|^^^GLU|5.4\r", b"L|1|N\r"]
 
@@ -91,7 +93,7 @@ def late_reply(host, client, frame, place):
     time.sleep(place * 0.003)
     os.kill(host.process.pid, signal.SIGSTOP)
     client.send(frame)
-    time.sleep(15 * LATE * 1.3)
+    time.sleep(15 * STALLED * 1.3)
     os.kill(host.process.pid, signal.SIGCONT)
     return client.heard(1, 0.2)
 
@@ -203,8 +205,8 @@ class Lines(HostTest):
     def test_late(self):
         """A host that was stopped for longer than the sender's timer sends no reply to what came before."""
         for fault in (None, "late"):
-            host, replies, good = Host(self.path(f"late{fault}.db"), fault=fault, scale=LATE), [], True
-            for place in range(1, 5):
+            host, replies, good = Host(self.path(f"late{fault}.db"), fault=fault, scale=STALLED), [], True
+            for place in range(1, 4):
                 texts = [b"H|\\^&|||A%d\r" % place, *TEXTS[1:]]
                 with Client(host.port) as client:
                     good = (
@@ -213,21 +215,21 @@ class Lines(HostTest):
                         and good
                     )
                     replies.append(late_reply(host, client, frames(texts)[2], place))
-                    good = client.whole(texts) and good
+                    good = bool(fault) or (client.whole(texts) and good)
             host.stop()
             said = host.errors[-1].count("a reply is late and isn't sent: byte ")
-            self.same(f"{fault}: late replies that are said", said, 0 if fault else 4)
+            self.same(f"{fault}: late replies that are said", said, 0 if fault else 3)
             if fault:
                 self.true("a host that replies late is noticed", ACK in replies, repr(replies))
                 continue
-            self.same("no reply", replies, [b""] * 4)
+            self.same("no reply", replies, [b""] * 3)
             self.true("the lines go on", good)
             found = Found(host.store)
-            self.same("each message is kept once, whole", (len(found.whole), found.again()), (4, 0))
-            front = [b"".join([b"H|\\^&|||A%d\r" % place, *TEXTS[1:]]) for place in range(1, 5)]
+            self.same("each message is kept once, whole", (len(found.whole), found.again()), (3, 0))
+            front = [b"".join([b"H|\\^&|||A%d\r" % place, *TEXTS[1:]]) for place in range(1, 4)]
             self.true(
                 "what was acknowledged before is kept",
-                len(found.others) == 4
+                len(found.others) == 3
                 and all(
                     whole.startswith(one.body) and one.body.count(b"\r") >= 2
                     for whole, one in zip(front, found.others)

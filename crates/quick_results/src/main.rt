@@ -1,4 +1,4 @@
-//! Counts the results in the messages on standard input; docs/rattle.md quotes it.
+//! Counts the results in the messages on standard input; docs/rattle.md names it.
 #![tactic(auto)]
 
 use lis_message::{Message, MessageFault, MessageReader};
