@@ -189,6 +189,7 @@ FAULTS = {
     "test_lines.Lines.test_enq_behind_eot": Edit(
         "host/line.py", "_turns()\n        return self._is_through()\n", "_turns()\n        return False\n"
     ),
+    "test_lines.Lines.test_calls_of_a_text": Edit("host/line.py", "if self._open > FIRST or self._has:", "if self._open:"),
     "test_lines.Lines.test_who_listens": Edit(
         "diagnosis/events.py", "self._those.get(type(event), ())", "sum(self._those.values(), [])"
     ),
