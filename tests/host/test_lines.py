@@ -449,7 +449,8 @@ class Lines(HostTest):
             mender.order.over, committer = unittest.mock.AsyncMock(), unittest.mock.Mock(part=60)
             committer.put.side_effect = lambda *_: loop.create_task(asyncio.sleep(0))
             intake = Intake("fire", "x", "latin-1", 1 << 20, time.time)
-            one = line.Line(line.Parts(wire, intake, observers, print, Counter(), mender, committer, line.Turns(lambda: 0.0)))
+            turns = line.Turns(lambda: 0.0)
+            one = line.Line(line.Parts(wire, intake, observers, print, Counter(), mender, committer, turns))
             task = asyncio.ensure_future(one.run())
             for number, unit in enumerate([ENQ, *frames(TEXTS)]):
                 calls.append([])
