@@ -150,7 +150,9 @@ FAULTS = {
     "test_late.Late.test_a_new_line": Edit(
         "host/duplex.py", "if self._site.is_anew and waits and self", "if False and waits and self"
     ),
-    "test_late.Late.test_the_same_line": Edit("host/asked.py", "Serial) and not place.waits:", "Serial) and place.waits:"),
+    "test_late.Late.test_the_same_line": Edit(
+        "host/asked.py", "Serial) and not place.waits:", "Serial) and place.waits:"
+    ),
     "test_late.Late.test_a_serial_line": Edit("host/duplex.py", "return max(float(seconds), QUIET - since)", "return seconds"),
     "test_late.Suspended.test_lines_are_taken_anew": Edit(
         "host/line.py", "(self._is_cut or not self._is_busy())", "not self._is_busy()"
@@ -189,6 +191,7 @@ FAULTS = {
     "test_lines.Lines.test_enq_behind_eot": Edit(
         "host/line.py", "_turns()\n        return self._is_through()\n", "_turns()\n        return False\n"
     ),
+    "test_lines.Lines.test_calls_of_a_text": Edit("host/line.py", "if note in _AFTER_NOISE:", "if note:"),
     "test_lines.Lines.test_who_listens": Edit(
         "diagnosis/events.py", "self._those.get(type(event), ())", "sum(self._those.values(), [])"
     ),
@@ -259,7 +262,9 @@ FAULTS = {
         "model/options.py", "tuple(one for one in NAMES if one in given)", "tuple(given)"
     ),
     "test_noise.Noise.test_one_byte": Edit("host/serve.py", 'place.careful != "no"', "False"),
-    "test_noise.Careful.test_enq_and_stx": Edit("host/line.py", "            self._tell(Noise(self._noise - before))\n", ""),
+    "test_noise.Careful.test_enq_and_stx": Edit(
+        "host/line.py", "            self._tell(Noise(self._noise - before))\n", ""
+    ),
     "test_noise.Careful.test_anew": Edit("host/serve.py", 'place.careful != "no"', "True"),
     "test_noise.Careful.test_mends": Edit("host/feeds.py", "_ENDS if is_careful else _BREAKS", "_BREAKS"),
     "test_notices.Said.test_a_bad_line": Edit(
@@ -303,7 +308,9 @@ FAULTS = {
     "test_out.OutOfSpool.test_delivery_to_a_command": Edit(
         "model/spool.py", 'name[0] != "."])\n        kept', 'name[0] != "."])[::-1]\n        kept'
     ),
-    "test_out.OutOfSpool.test_delivery_to_a_directory": Edit("model/spool.py", "self._after(after)[:limit]", "self._after(after)[-1:]"),
+    "test_out.OutOfSpool.test_delivery_to_a_directory": Edit(
+        "model/spool.py", "self._after(after)[:limit]", "self._after(after)[-1:]"
+    ),
     "test_out.OutOfSpool.test_export": Edit("model/spool.py", 'about["again_of"], body)', "None, body)"),
     "test_out.OutOfSpool.test_one_host": Edit(
         "model/spool.py", "take_lock(self._path(\"host\"))", "take_lock(self._path(f'host{os.getpid()}'))"
@@ -480,7 +487,9 @@ FAULTS = {
         "        if self._share.is_over():\n            if self",
         "        if not self._share:\n            if self",
     ),
-    "test_turns.Turns.test_who_works_now_and_then": Edit("host/turns.py", "min(now - self._since, MOST)", "now - self._since"),
+    "test_turns.Turns.test_who_works_now_and_then": Edit(
+        "host/turns.py", "min(now - self._since, MOST)", "now - self._since"
+    ),
     "test_turns.Turns.test_many_connections_of_a_peer": Edit(
         "host/turns.py", "turns.account(peer), turns", "Account(turns.had), turns"
     ),

@@ -11,9 +11,10 @@ from collections import Counter
 from typing import get_args
 
 from lislink import FrameFault, frame_bytes
-from lislink.link import LONG_FRAME_TEXT
+from lislink.link import LONG_FRAME_TEXT, Owner
 from lislab.diagnosis.events import Came, Closed, Event, Kept, Observers, Sent
 from lislab.host import line, ports, tcp
+from lislab.host.intake import Intake
 from lislab.model import options
 from tests.host.hosts import NEVER, Found, Host, HostTest, lislab, sending, wait_for
 
@@ -439,6 +440,40 @@ class Lines(HostTest):
         for event in events:
             observers.tell(event)
         self.same("calls", heard, [events[1], events[1], events[2]])
+
+    def test_calls_of_a_text(self):
+        """A text of one frame takes six calls of the library, sets no timer of the loop, and reading goes on."""
+        calls, alarms = [], []
+
+        async def runs():
+            loop = asyncio.get_running_loop()
+            wire, observers, mender = (unittest.mock.Mock(names=frozenset()) for _ in range(3))
+            mender.order.over, committer = unittest.mock.AsyncMock(), unittest.mock.Mock(part=60)
+            committer.put.side_effect = lambda *_: loop.create_task(asyncio.sleep(0))
+            intake = Intake("fire", "x", "latin-1", 1 << 20, time.time)
+            turns = line.Turns(lambda: 0.0)
+            one = line.Line(line.Parts(wire, intake, observers, print, Counter(), mender, committer, turns))
+            task = asyncio.ensure_future(one.run())
+            for number, unit in enumerate([ENQ, *frames(TEXTS)]):
+                calls.append([])
+                alarms.append([])
+                one.data(unit, loop.time())
+                while wire.write.call_count <= number and not task.done():
+                    await asyncio.sleep(0)
+                await asyncio.sleep(0)
+            one.cut("by the test")
+            await asyncio.wait_for(task, 60)
+            return wire.pause.call_count
+
+        call, call_at = Owner._call, asyncio.BaseEventLoop.call_at
+        noted = lambda owner, name, *words: (calls and calls[-1].append(name), call(owner, name, *words))[1]
+        timed = lambda loop, at, *words, **how: (alarms and alarms[-1].append(at), call_at(loop, at, *words, **how))[1]
+        with unittest.mock.patch.object(Owner, "_call", noted):
+            with unittest.mock.patch.object(asyncio.BaseEventLoop, "call_at", timed):
+                paused = asyncio.run(runs())
+        self.same("calls of a text", calls[2], ["hear", "text_len", "text", "read", "read", "is_open"])
+        self.same("timers", [len(some) for some in alarms[2:-1]], [0] * (len(alarms) - 3))
+        self.same("pauses", paused, 0)
 
     def test_capture(self):
         """What went over a line is a capture that replays without a difference."""

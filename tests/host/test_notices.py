@@ -7,13 +7,14 @@ import select
 import time
 
 from lislink import FrameFault
+from lislab.diagnosis.events import Came, Meant
 from lislab.diagnosis.notices import CONNECTION, FRAME, LETTERS, Notices
 from lislab.diagnosis.reports import Watch
 from lislink.letters import NOT_LATIN, UTF_8, Letters, looks_like
 from lislink.link import Note, Step
 from lislab.model.books import open_book
 from lislink.order import Order
-from tests.host.hosts import Found, Host, HostTest, lislab, trouble, wait_for
+from tests.host.hosts import Found, Host, HostTest, lislab, see, trouble, wait_for
 from tests.host.test_lines import ACK, ENQ, EOT, NAK, Client, frames, session
 
 #: A patient's name, which no line may have.
@@ -154,8 +155,8 @@ class Said(HostTest):
         good, again = (Step(ACK, None, note, 0, 0) for note in (Note.ACCEPTED, Note.DUPLICATE))
         opened, ended = Step(ACK, None, Note.OPENED, 0, 0), Step(b"", None, Note.ENDED, 0, 0)
         for step in (opened, bad, bad, good, again, turn, bad, good, ended, opened, good, bad, ended):
-            watch.hears(bytes(10))
-            watch.step(9, step)
+            see(watch, Came(bytes(10)))
+            see(watch, Meant(9, step))
         self.same("bad sums have this code", FrameFault(5), FrameFault.SUM)
         wanted = [
             (1, 19, "SUM"),

@@ -11,8 +11,8 @@ from lislink.link import Step
 from ..model.book import Failed
 from ..model.store import MENDED, WHOLE, StoreError
 from .events import (
-    Answered, Came, Closed, Kept, Late, Looked, Meant, MessageEnded, Noise, NotKept, OwnAnswered, OwnFailed, Restarted, Sees,
-    Sent,
+    Answered, Came, Closed, Kept, Late, Looked, Meant, MessageEnded, Noise, NotKept, OwnAnswered, OwnFailed, Restarted,
+    Sees, Sent,
 )
 from .faults import Cause, cause_of_frame
 from .protocols import has_bare_frames, is_hl7, parity_of, telnet_in

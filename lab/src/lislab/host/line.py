@@ -194,7 +194,7 @@ class Line:
                     return
 
     async def _is_enough(self, place: int, data: bytes) -> bool:
-        """Before the bytes after this place are heard: lets others have their turn, and whether they are heard at all."""
+        """Before the bytes after this place are heard: lets others have their turn, and whether they are heard."""
         if place + 1 < len(data):
             await self._take_turns()
         return self._is_through()

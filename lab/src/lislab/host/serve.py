@@ -301,6 +301,7 @@ async def serve(asked: Asked, store: Store, left: Left = Left([], [])) -> None:
     host = Host(asked, store, left)
     try:
         await host.start()
+        gc.collect()
         gc.freeze()  # what is there for good: no line waits until all of it was looked at for garbage
         host.reads_again(again)
         await stop.wait()

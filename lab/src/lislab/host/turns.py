@@ -7,8 +7,8 @@ import time
 from typing import Callable, List, Optional, Tuple
 from weakref import WeakValueDictionary
 
-#: A line goes on without a wait until its peer had so many seconds more than the others, or, unless it had as many less,
-#: until all had so many in this turn of the loop; so many that wait go on in a turn, besides those that had less.
+#: A line goes on without a wait until its peer had so many seconds more than the others, or, unless it had as many
+#: less, until all had so many in this turn of the loop; so many that wait go on in a turn, besides those that had less.
 HEARS, ALL, AT_ONCE = 0.002, 0.002, 2
 #: What a peer had less counts up to so many seconds; and what it did without a pause: what took longer was not its work
 #: alone, as when the interpreter collects garbage.

@@ -196,7 +196,7 @@ class SqlStore(Store):
         self._end(rows)
 
     def _not_kept_yet(self, ends: Sequence[End]) -> Sequence[End]:
-        """Those of whole messages whose commit wasn't kept before, its answer being lost. StoreError if one isn't open."""
+        """Those whose commit wasn't kept before, its answer being lost. StoreError if one isn't open."""
         lots = [(f"key IN {_marks(len(some), len(some))}", some) for some in _lots([one.key for one in ends], 1)]
         words = f"SELECT count(*) FROM message WHERE state = '{OPEN}' AND"
         if sum(int(self.run(f"{words} {which}", keys).fetchone()[0]) for which, keys in lots) == len(ends):
