@@ -8,7 +8,7 @@ import os
 from tests import ROOT, kit
 
 #: From below; none of those on one row imports another one of it.
-FLOORS = (("model",), ("diagnosis",), ("field",), ("host",), ("out",), ("watch", "play", "analyzer"), ("cli",))
+FLOORS = (("model",), ("diagnosis",), ("field",), ("host",), ("outbound",), ("watch", "play", "analyzer"), ("cli",))
 LEVELS = {name: level for level, names in enumerate(FLOORS) for name in names}
 #: What a function may import: what a machine may not have.
 OPTIONAL = ("psycopg", "psycopg2", "serial", "hl7")

@@ -23,7 +23,7 @@ import time
 
 from lislab.cli import main as cli
 from lislab.host import asleep, intake, line
-from lislab.out import deliver
+from lislab.outbound import deliver
 from lislab.model import sql, sqlite, store
 
 

@@ -299,7 +299,7 @@ FAULTS = {
         "os.fchmod(descriptor, 0o644)\n            yield",
     ),
     "test_out.Files.test_restored": Edit(
-        "out/deliver.py",
+        "outbound/deliver.py",
         "if found is None or (found.number == self.number and found.key != self.key):",
         "if found is None:",
     ),
@@ -323,12 +323,12 @@ FAULTS = {
     ),
     "test_out.OutOfSpool.test_wanted": Edit("model/spool.py", 'f"{number:016}~"', 'f"{number:016}"'),
     "test_out.OutOfSqlite.test_delivery_to_a_command": Edit(
-        "out/deliver.py", "        if status:\n", "        if status < 0:\n"
+        "outbound/deliver.py", "        if status:\n", "        if status < 0:\n"
     ),
     "test_out.OutOfSqlite.test_delivery_to_a_directory": Edit(
-        "out/deliver.py", 'take_lock(path + ".lock")', 'take_lock(f"{path}.{os.getpid()}.lock")'
+        "outbound/deliver.py", 'take_lock(path + ".lock")', 'take_lock(f"{path}.{os.getpid()}.lock")'
     ),
-    "test_out.OutOfSqlite.test_export": Edit("out/export.py", "([*own, *row[:-1]", "([*row[:-1], *own"),
+    "test_out.OutOfSqlite.test_export": Edit("outbound/export.py", "([*own, *row[:-1]", "([*row[:-1], *own"),
     "test_out.OutOfSqlite.test_one_host": Edit(
         "model/files.py", "fcntl.LOCK_EX | fcntl.LOCK_NB", "fcntl.LOCK_SH | fcntl.LOCK_NB"
     ),
@@ -336,7 +336,7 @@ FAULTS = {
         "cli/host.py", "return WRONG if bad or summary.failed", "return WRONG if summary.failed"
     ),
     "test_out.OutOfSqlite.test_status": Edit("watch/status.py", "if store.is_held(", "if state or store.is_held("),
-    "test_out.OutOfSqlite.test_wanted": Edit("out/export.py", "at < wanted.since", "at > wanted.since"),
+    "test_out.OutOfSqlite.test_wanted": Edit("outbound/export.py", "at < wanted.since", "at > wanted.since"),
     "test_plainlink.PlainLink.test_keeping": Edit(
         "host/plainlink.py", "return await super()._keep(text)", "return await super()._keep(text) or True"
     ),
@@ -351,7 +351,7 @@ FAULTS = {
     ),
     "test_plainlink.PlainLink.test_words": Edit("model/options.py", "if place.link and place.orders:", "if not place:"),
     "test_postgres.OutOfPostgres.test_delivery_to_a_command": Edit(
-        "out/deliver.py", '"LISLAB_NUMBER": str(one.number)', '"LISLAB_NUMBER": str(one.number + 1)'
+        "outbound/deliver.py", '"LISLAB_NUMBER": str(one.number)', '"LISLAB_NUMBER": str(one.number + 1)'
     ),
     "test_postgres.OutOfPostgres.test_delivery_to_a_directory": Edit(
         "model/sql.py", "WHERE message = ? ORDER BY place", "WHERE message = ? ORDER BY place DESC"
@@ -364,7 +364,7 @@ FAULTS = {
     ),
     "test_postgres.OutOfPostgres.test_status": Edit("model/sql.py", '"again_of IS NOT NULL", ', '"again_of IS NULL", '),
     "test_postgres.OutOfPostgres.test_wanted": Edit(
-        "out/export.py", "one.line == wanted.line", "one.line != wanted.line"
+        "outbound/export.py", "one.line == wanted.line", "one.line != wanted.line"
     ),
     "test_postgres.Postgres.test_keeping": Edit(
         "model/postgresql.py", "yield\n            self._committed()", "yield"
@@ -569,7 +569,7 @@ FAULTS = {
     "test_watch_page.Looks.test_a_token_that_is_made": Edit(
         "watch/web.py", "secrets.token_urlsafe(24).encode() + b", "secrets.token_urlsafe(9).encode() + b"
     ),
-    "test_watch_page.Looks.test_delivered": Edit("out/deliver.py", '"key": key, "took": took}', '"key": key}'),
+    "test_watch_page.Looks.test_delivered": Edit("outbound/deliver.py", '"key": key, "took": took}', '"key": key}'),
     "test_watch_page.Looks.test_words": Edit("cli/watch.py", "not (ask.allow and token)", "not (ask.allow or token)"),
 }
 for one in (planted_delivery, planted_orders, planted_watch):
@@ -618,17 +618,17 @@ HARMLESS = (
         "        if not ends:\n            return\n        self.lock",
         "        if len(ends) == 0:\n            return\n        self.lock",
     ),
-    Edit("out/deliver.py", "        elif not found:\n", "        elif found == 0:\n"),
-    Edit("out/aside.py", "sorted([*others, row])", "sorted([row, *others])"),
+    Edit("outbound/deliver.py", "        elif not found:\n", "        elif found == 0:\n"),
+    Edit("outbound/aside.py", "sorted([*others, row])", "sorted([row, *others])"),
     Edit(
         "model/numbers.py",
         'turned.get(one.comparator, "") if factor < 0 else one.comparator',
         'one.comparator if factor > 0 else turned.get(one.comparator, "")',
     ),
-    Edit("out/mllp.py", "if len(self._left) > _MOST:", "if _MOST < len(self._left):"),
-    Edit("out/fhir.py", "for name, one in data.items()) +", "for name, one in [*data.items()]) +"),
+    Edit("outbound/mllp.py", "if len(self._left) > _MOST:", "if _MOST < len(self._left):"),
+    Edit("outbound/fhir.py", "for name, one in data.items()) +", "for name, one in [*data.items()]) +"),
     Edit(
-        "out/export.py",
+        "outbound/export.py",
         "        if one is None:\n            return line(None)",
         "        if one is None:  # the heading\n            return line(None)",
     ),
@@ -657,7 +657,7 @@ HARMLESS = (
     Edit("host/plainlink.py", "        self._last = text\n", "        self._last = bytes(text)\n"),
     Edit("host/feeds.py", "    count = body.count(_LF)\n", "    count = len(body.split(_LF)) - 1\n"),
     Edit("model/lines.py", "for key in _WHERE if key in given]", "for key in _WHERE if given.get(key) is not None]"),
-    Edit("out/tables.py", "            if paths == self._paths:\n", "            if self._paths == paths:\n"),
+    Edit("outbound/tables.py", "            if paths == self._paths:\n", "            if self._paths == paths:\n"),
     Edit("host/unknown.py", "if pair in found or len(found) < MOST else", "if len(found) < MOST or pair in found else"),
     Edit("field/compare.py", "    rest = iter(seen)\n", "    rest = iter(list(seen))\n"),
 )

@@ -2,46 +2,46 @@
 
 FAULTS = {
     "test_aside.Asides.test_aside": (
-        "out/aside.py", "or self._tries < self.most:", "or self._tries <= self.most:"
+        "outbound/aside.py", "or self._tries < self.most:", "or self._tries <= self.most:"
     ),
     "test_aside.Asides.test_aside_of_a_spool": (
-        "out/deliver.py", "self._to.store.messages(held.number - 1, 1)", "self._to.store.messages(held.number, 1)"
+        "outbound/deliver.py", "self._to.store.messages(held.number - 1, 1)", "self._to.store.messages(held.number, 1)"
     ),
     "test_aside.Asides.test_again_of_one_that_runs": (
-        "out/deliver.py", "            grant(self._cursor.path, key)\n", ""
+        "outbound/deliver.py", "            grant(self._cursor.path, key)\n", ""
     ),
     "test_aside.Asides.test_each_write": (
-        "out/deliver.py",
+        "outbound/deliver.py",
         "            if self._to.wants(one) and (self._aside is None or not self._aside.takes(one)):\n"
         "                self._next(one)\n            self._note(one)\n",
         "            self._note(one)\n            if self._aside is None or not self._aside.takes(one):\n"
         "                self._next(one)\n",
     ),
     "test_aside.Asides.test_random": (
-        "out/deliver.py",
+        "outbound/deliver.py",
         "                blocked |= set(held.samples)\n                continue\n            try",
         "                continue\n            try",
     ),
     "test_aside.Asides.test_what_is_not_counted": (
-        "out/deliver.py",
+        "outbound/deliver.py",
         "raise Unreachable(str(error)) from None\n    try:",
         "raise Refused(str(error)) from None\n    try:",
     ),
     "test_aside.Cursors.test_aside_that_cannot_be_written": (
-        "out/deliver.py", "                if held.key not in self._sent:\n    ", "                if held:\n    "
+        "outbound/deliver.py", "                if held.key not in self._sent:\n    ", "                if held:\n    "
     ),
     "test_aside.Cursors.test_damaged": (
-        "out/aside.py",
+        "outbound/aside.py",
         "    except (OSError, ValueError) as error:\n        raise StoreError(f\"{path}: {error}\") from None",
         "    except (OSError, ValueError):\n        return {}",
     ),
     "test_aside.Cursors.test_once": (
-        "out/deliver.py",
+        "outbound/deliver.py",
         "            if once:\n                raise\n            failed = str(error)",
         "            failed = str(error)",
     ),
     "test_aside.Cursors.test_service": (
-        "out/deliver.py",
+        "outbound/deliver.py",
         "        if self._unnoted is not None:\n            self._note(self._unnoted)\n",
         "",
     ),
@@ -52,7 +52,7 @@ FAULTS = {
     "test_codes.Codes.test_command": (
         "model/codes.py", "found[name] = found.get(name, 0) + 1", "found[name] = 1"
     ),
-    "test_codes.Codes.test_forms": ("out/export.py", "lambda where: mark_of(where[3])", 'lambda where: ""'),
+    "test_codes.Codes.test_forms": ("outbound/export.py", "lambda where: mark_of(where[3])", 'lambda where: ""'),
     "test_codes.Table.test_encoding": (
         "model/codes.py", "escape + names[data] + escape if data in names else data", "data"
     ),
@@ -73,7 +73,7 @@ FAULTS = {
         'for where in (line, "") if line',
         'for where in ("", line) if line',
     ),
-    "test_fhir.Fhir.test_fields": ("out/fhir.py", 'return f"{data:f}"', "return str(float(data))"),
+    "test_fhir.Fhir.test_fields": ("outbound/fhir.py", 'return f"{data:f}"', "return str(float(data))"),
     "test_dialects.Dialects.test_links": (
         "host/mend.py", "if not names & _AT_THE_END or _messages", "if names & _AT_THE_END or _messages"
     ),
@@ -81,24 +81,24 @@ FAULTS = {
         "host/mend.py", "are_comments or not normalize(body, set(names))[0]", "are_comments"
     ),
     "test_fhir.Fhir.test_structure": (
-        "out/fhir.py", '_STATUS.get(result.status, "unknown")', "_STATUS.get(result.status, result.status)"
+        "outbound/fhir.py", '_STATUS.get(result.status, "unknown")', "_STATUS.get(result.status, result.status)"
     ),
-    "test_fhir.Https.test_answers": ("out/https.py", "422, 500)", "422, 500, 503)"),
+    "test_fhir.Https.test_answers": ("outbound/https.py", "422, 500)", "422, 500, 503)"),
     "test_fhir.Https.test_certificate": (
-        "out/https.py",
+        "outbound/https.py",
         "return ssl.create_default_context(cafile=authority)",
         "return ssl._create_unverified_context()",
     ),
     "test_fhir.Https.test_mllps": (
-        "out/mllp.py", "            if self._context is not None:\n", "            if self._context is None:\n"
+        "outbound/mllp.py", "            if self._context is not None:\n", "            if self._context is None:\n"
     ),
-    "test_fhir.Https.test_posts": ("out/https.py", '"X-Request-ID": key', '"X-Request-ID": kind'),
-    "test_fhir.Https.test_words": ("out/https.py", "or parts.username or", "or"),
+    "test_fhir.Https.test_posts": ("outbound/https.py", '"X-Request-ID": key', '"X-Request-ID": kind'),
+    "test_fhir.Https.test_words": ("outbound/https.py", "or parts.username or", "or"),
     "test_line_codes.LineCodes.test_a_delivery": (
         "cli/out.py", "form_asked(ask, form, say)", "form_asked(ask, form)"
     ),
     "test_line_codes.LineCodes.test_applied": (
-        "out/tables.py",
+        "outbound/tables.py",
         "self._read.lines.get(one.line, self._read.others)",
         "self._read.others or self._read.lines.get(one.line)",
     ),
@@ -114,7 +114,7 @@ FAULTS = {
         "host/unknown.py", "pair if pair in found or len(found) < MOST else _OTHERS", "pair"
     ),
     "test_line_codes.LineCodes.test_read_again": (
-        "out/tables.py", "            if paths == self._paths:\n                break\n", "            break\n"
+        "outbound/tables.py", "            if paths == self._paths:\n                break\n", "            break\n"
     ),
     "test_line_codes.LineCodes.test_said": (
         "host/serve.py",
@@ -132,22 +132,22 @@ FAULTS = {
     "test_mends.Mends.test_long_random": (
         "field/normalize.py", 'is_of_one or letter == b"R"', 'is_of_one or letter in (b"R", b"C", b"M", b"S")'
     ),
-    "test_mllp.Oru.test_fields": ("out/oru.py", "10: control_id(one.key, place),", "10: one.line,"),
-    "test_mllp.Oru.test_page": ("out/oru.py", "25: _report(order, results)}", "24: _report(order, results)}"),
-    "test_mllp.Oru.test_random": ("out/oru.py", 'r"[|^~\\\\&', 'r"[|^~\\\\'),
+    "test_mllp.Oru.test_fields": ("outbound/oru.py", "10: control_id(one.key, place),", "10: one.line,"),
+    "test_mllp.Oru.test_page": ("outbound/oru.py", "25: _report(order, results)}", "24: _report(order, results)}"),
+    "test_mllp.Oru.test_random": ("outbound/oru.py", 'r"[|^~\\\\&', 'r"[|^~\\\\'),
     "test_mllp.Oru.test_values": (
-        "out/oru.py", 'return "SN", [number.comparator,', 'return "NM", [number.comparator,'
+        "outbound/oru.py", 'return "SN", [number.comparator,', 'return "NM", [number.comparator,'
     ),
     "test_mllp.Receivers.test_answers": (
-        "out/mllp.py", "            if control != key:\n", "            if not control:\n"
+        "outbound/mllp.py", "            if control != key:\n", "            if not control:\n"
     ),
     "test_mllp.Receivers.test_closed_between": (
-        "out/mllp.py", "            if fresh:\n", "            if key:\n"
+        "outbound/mllp.py", "            if fresh:\n", "            if key:\n"
     ),
     "test_mllp.Receivers.test_kills": (
-        "out/mllp.py", "            if fresh:\n", "            return\n            if fresh:\n"
+        "outbound/mllp.py", "            if fresh:\n", "            return\n            if fresh:\n"
     ),
-    "test_mllp.Receivers.test_rejected": ("out/mllp.py", '("AA", "CA"), ("AE",', '("AA", "CA", "AR"), ("AE",'),
+    "test_mllp.Receivers.test_rejected": ("outbound/mllp.py", '("AA", "CA"), ("AE",', '("AA", "CA", "AR"), ("AE",'),
     "test_codes.Table.test_patterns": (
         "model/codes.py", "(-len(one.named()), not one.sent)", "(len(one.named()), not one.sent)"
     ),
@@ -162,88 +162,88 @@ FAULTS = {
         "one.value.quantize(decimal.Decimal(1).scaleb(-digits), decimal.ROUND_HALF_UP)",
     ),
     "test_fhir.Fhir.test_names": (
-        "out/fhir.py", 'f"identifier={_OF_TEST}|{test}" if is_correction else name.search', "name.search"
+        "outbound/fhir.py", 'f"identifier={_OF_TEST}|{test}" if is_correction else name.search', "name.search"
     ),
     "test_fhir.Fhir.test_without_times": (
-        "out/fhir.py", "if not any(map(_has_clock, times)):", "if any(map(_has_clock, times)):"
+        "outbound/fhir.py", "if not any(map(_has_clock, times)):", "if any(map(_has_clock, times)):"
     ),
     "test_fhir.Fhir.test_reports": (
-        "out/fhir.py", "is_correction and not self._turn(of)", "False"
+        "outbound/fhir.py", "is_correction and not self._turn(of)", "False"
     ),
-    "test_fhir.Fhir.test_resources": ("out/fhir.py", '_REPORT = {"X": "cancelled"', '_REPORT = {"X": "final"'),
+    "test_fhir.Fhir.test_resources": ("outbound/fhir.py", '_REPORT = {"X": "cancelled"', '_REPORT = {"X": "final"'),
     "test_fhir.Fhir.test_wrong_structure": (
-        "out/fhir.py", '"intent": "order",', '"intent": "ordered",'
+        "outbound/fhir.py", '"intent": "order",', '"intent": "ordered",'
     ),
-    "test_fhir.Fhir.test_marks": ("out/fhir.py", "taken or told.iso(result.at)", "told.iso(result.at) or taken"),
+    "test_fhir.Fhir.test_marks": ("outbound/fhir.py", "taken or told.iso(result.at)", "told.iso(result.at) or taken"),
     "test_fhir.Fhir.test_nobody": (
-        "out/fhir.py", "        if subject is None:\n", "        if not case.orders:\n"
+        "outbound/fhir.py", "        if subject is None:\n", "        if not case.orders:\n"
     ),
     "test_fhir.Fhir.test_samples": (
-        "out/fhir.py", '"Q" if order.control else "", record.text(8)', "record.text(8)"
+        "outbound/fhir.py", '"Q" if order.control else "", record.text(8)', "record.text(8)"
     ),
     "test_fhir.Fhir.test_identities": (
-        "out/fhir.py", "authority = one.authority or authority", "authority = authority or one.authority"
+        "outbound/fhir.py", "authority = one.authority or authority", "authority = authority or one.authority"
     ),
     "test_mllp.Oru.test_identities": (
         "model/results.py", " and not (check or scheme or any(others))", ""
     ),
-    "test_mllp.Oru.test_obr": ("out/oru.py", "if number != 5)", "if number < 5)"),
+    "test_mllp.Oru.test_obr": ("outbound/oru.py", "if number != 5)", "if number < 5)"),
     "test_mllp.Oru.test_tables": (
-        "out/oru.py", '10: result.nature if result.nature in _NATURES else "",', "10: result.nature,"
+        "outbound/oru.py", '10: result.nature if result.nature in _NATURES else "",', "10: result.nature,"
     ),
     "test_mllp.Oru.test_numbers": (
-        "out/oru.py", "order.sample if placer == \"sample\" else \"\"", "order.sample"
+        "outbound/oru.py", "order.sample if placer == \"sample\" else \"\"", "order.sample"
     ),
     "test_mllp.Oru.test_specimens": (
-        "out/oru.py", "return _SPECIMENS.get(text.upper(), \"\"), text", "return _SPECIMENS.get(text, \"\"), text"
+        "outbound/oru.py", "return _SPECIMENS.get(text.upper(), \"\"), text", "return _SPECIMENS.get(text, \"\"), text"
     ),
-    "test_mllp.Oru.test_ids": ("out/oru.py", "* 128 + place - 1", "* 64 + place - 1"),
+    "test_mllp.Oru.test_ids": ("outbound/oru.py", "* 128 + place - 1", "* 64 + place - 1"),
     "test_mllp.Oru.test_codes": (
-        "out/oru.py", '[result.ucum, result.unit, "UCUM"] if result.ucum', "[result.unit] if result.ucum"
+        "outbound/oru.py", '[result.ucum, result.unit, "UCUM"] if result.ucum', "[result.unit] if result.ucum"
     ),
-    "test_mllp.Oru.test_times": ("out/oru.py", "7: taken or told.at(first)}", "7: taken}"),
+    "test_mllp.Oru.test_times": ("outbound/oru.py", "7: taken or told.at(first)}", "7: taken}"),
     "test_mllp.Oru.test_wishes": (
-        "out/oru.py", "one.authority or authority, one.kind or kind]", "one.authority, one.kind]"
+        "outbound/oru.py", "one.authority or authority, one.kind or kind]", "one.authority, one.kind]"
     ),
     "test_mllp.Receivers.test_died_silently": (
-        "out/mllp.py", 'raise _Closed(f"no answer', 'raise Refused(f"no answer'
+        "outbound/mllp.py", 'raise _Closed(f"no answer', 'raise Refused(f"no answer'
     ),
-    "test_mllp.Receivers.test_each_patient": ("out/mllp.py", "if data not in accepted:", "if data:"),
+    "test_mllp.Receivers.test_each_patient": ("outbound/mllp.py", "if data not in accepted:", "if data:"),
     "test_told.AsTold.test_oru": (
-        "out/oru.py",
+        "outbound/oru.py",
         '    yield segment("MSH", _header(told, place, wishes))\n',
         '    if place == 1:\n        yield segment("MSH", _header(told, place, wishes))\n',
     ),
     "test_told.AsTold.test_fhir": ("model/results.py", "yield Case(None, controls", "yield Case(above, controls"),
     "test_told.AsTold.test_csv": ("model/results.py", "int(component or 1) - 1", "0"),
-    "test_makers.Makers.test_oru": ("out/oru.py", "19: told.at(result.at),", "19: result.at,"),
+    "test_makers.Makers.test_oru": ("outbound/oru.py", "19: told.at(result.at),", "19: result.at,"),
     "test_makers.Makers.test_codes": ("cli/out.py", "lines.reading(line).test", '""'),
     "test_makers.Makers.test_csv": ("model/results.py", "    if len(filled) == 1:\n", "    if not filled:\n"),
     "test_makers.Makers.test_fhir": ("model/results.py", "len(text) < 12 or not self", "len(text) < 12 or self"),
     "test_deliver.Deliver.test_quarantine": (
-        "out/deliver.py", "isinstance(error, Quarantined) or kept.failed", "kept.failed"
+        "outbound/deliver.py", "isinstance(error, Quarantined) or kept.failed", "kept.failed"
     ),
     "test_deliver.Deliver.test_reasons": ("model/results.py", "            if not code:\n", "            if 0:\n"),
     "test_deliver.Deliver.test_letters": ("model/results.py", "self.marks += [why] if why else []", "del why"),
-    "test_deliver.Deliver.test_left_out": ("out/deliver.py", "self.empty += not is_handed", "self.empty += 0"),
-    "test_deliver.Deliver.test_filters": ("out/export.py", "line(_harmless(row) if form.safe else row)", "line(row)"),
-    "test_deliver.Deliver.test_ends_the_process": ("out/aside.py", "self._count(one.key, tries + 1)", "pass"),
+    "test_deliver.Deliver.test_left_out": ("outbound/deliver.py", "self.empty += not is_handed", "self.empty += 0"),
+    "test_deliver.Deliver.test_filters": ("outbound/export.py", "line(_harmless(row) if form.safe else row)", "line(row)"),
+    "test_deliver.Deliver.test_ends_the_process": ("outbound/aside.py", "self._count(one.key, tries + 1)", "pass"),
     "test_deliver.Deliver.test_a_stop_is_no_try": (
-        "out/deliver.py", "except (Unreachable, Stopped):", "except Unreachable:"
+        "outbound/deliver.py", "except (Unreachable, Stopped):", "except Unreachable:"
     ),
-    "test_deliver.Deliver.test_killed": ("out/deliver.py", "() if lock is None else (lock,)", "()"),
+    "test_deliver.Deliver.test_killed": ("outbound/deliver.py", "() if lock is None else (lock,)", "()"),
     "test_deliver.Deliver.test_ahead": (
-        "out/deliver.py", 'tuple(data["after"]) == disk and disk[0] > 0', "bool(data)"
+        "outbound/deliver.py", 'tuple(data["after"]) == disk and disk[0] > 0', "bool(data)"
     ),
-    "test_deliver.Deliver.test_too_long": ("out/deliver.py", "os.killpg(child.pid, signal.SIGKILL)", "child.kill()"),
+    "test_deliver.Deliver.test_too_long": ("outbound/deliver.py", "os.killpg(child.pid, signal.SIGKILL)", "child.kill()"),
     "test_deliver.Deliver.test_memory": ("model/results.py", "250_000", "99_000"),
     "test_deliver.Killed.test_mllp": (
-        "out/deliver.py", 'data = {"number": number,', 'data = {"number": number + 1,'
+        "outbound/deliver.py", 'data = {"number": number,', 'data = {"number": number + 1,'
     ),
-    "test_deliver.Killed.test_https": ("out/https.py", '"X-Request-ID": key}', '"X-Request-ID": str(id(data))}'),
-    "test_deliver.Answers.test_breaks_off": ("out/https.py", "self.fp = _Head(whole)", "self.fp = whole"),
-    "test_deliver.Answers.test_drips": ("out/https.py", "        timer.start()\n", ""),
+    "test_deliver.Killed.test_https": ("outbound/https.py", '"X-Request-ID": key}', '"X-Request-ID": str(id(data))}'),
+    "test_deliver.Answers.test_breaks_off": ("outbound/https.py", "self.fp = _Head(whole)", "self.fp = whole"),
+    "test_deliver.Answers.test_drips": ("outbound/https.py", "        timer.start()\n", ""),
     "test_deliver.Answers.test_again": (
-        "out/https.py", '(_wait_of(answer.getheader("Retry-After") or "")', "(0.0"
+        "outbound/https.py", '(_wait_of(answer.getheader("Retry-After") or "")', "(0.0"
     ),
 }

@@ -1,7 +1,7 @@
 """Faults in what shows how a host does (`planted.py`): in this file of lislink, this text becomes that."""
 
 FAULTS = {
-    "test_deliveries.Deliveries.test_rows": ("out/deliver.py", "            notes.failed(failed)\n", ""),
+    "test_deliveries.Deliveries.test_rows": ("outbound/deliver.py", "            notes.failed(failed)\n", ""),
     "test_deliveries.Deliveries.test_shown": ("watch/client.py", '*data["deliveries"].values()]\n    return', "]\n    return"),
     "test_deliveries.Deliveries.test_plot": (
         "watch/plot.py", "is_last = place + 1 == len(shown)", "is_last = place + every >= len(shown)"

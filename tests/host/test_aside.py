@@ -8,12 +8,12 @@ import sys
 import time
 import unittest.mock
 
-from lislab.out import deliver
+from lislab.outbound import deliver
 from lislab.model import files
 from lislab.watch import status
 from lislab.model.store import WHOLE, Add, Begin, End, StoreError
 from lislab.model.stores import open_store
-from lislab.out import aside
+from lislab.outbound import aside
 from tests.host.hosts import HostTest, lislab, process, wait_for
 
 

@@ -10,11 +10,11 @@ import re
 import sys
 
 from lislab.model import codes
-from lislab.out import fhir, oru
+from lislab.outbound import fhir, oru
 from lislab.model.failures import Quarantined
 from lislab.model.results import Coded, Reading, Told, report_of
-from lislab.out.tables import tables_of
-from lislab.out import deliver, export
+from lislab.outbound.tables import tables_of
+from lislab.outbound import deliver, export
 from lislab.model.options import OptionError
 from lislink.message import Found, read_all
 from tests.host import fhir_r4

@@ -16,9 +16,9 @@ import threading
 import time
 import unittest.mock
 
-from lislab.out import aside, https, oru
+from lislab.outbound import aside, https, oru
 from lislab.model.failures import Refused, Unreachable
-from lislab.out import deliver
+from lislab.outbound import deliver
 from lislab.model.store import WHOLE, Add, Begin, End
 from lislab.model.stores import open_store
 from tests.host import hosts

@@ -14,9 +14,9 @@ import threading
 import time
 import urllib.parse
 
-from lislab.out import deliver
+from lislab.outbound import deliver
 from lislab.model.options import OptionError
-from lislab.out import aside, fhir, https, mllp, oru
+from lislab.outbound import aside, fhir, https, mllp, oru
 from lislab.model.results import Coded, Reading, Told
 from tests.host import fhir_r4
 from tests.host.hosts import HostTest, lislab

@@ -5,7 +5,7 @@ import os
 import unittest.mock
 
 from lislab.cli import main as cli
-from lislab.out import deliver, export
+from lislab.outbound import deliver, export
 from lislab.host import state
 from lislab.watch import status
 from lislab.diagnosis import tape

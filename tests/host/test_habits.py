@@ -3,11 +3,11 @@ memory and not compared with the manuals: what goes out of each as ORU, FHIR and
 import decimal
 from typing import NamedTuple, Tuple
 
-from lislab.out import fhir, oru
+from lislab.outbound import fhir, oru
 from lislab.model.codes import LEAVE_OUT, Code, Codes
 from lislab.model.failures import Quarantined
 from lislab.model.results import Reading, Told
-from lislab.out import export
+from lislab.outbound import export
 from tests.host import told
 from tests.host.hosts import HostTest
 from tests.host.test_told import message, stored

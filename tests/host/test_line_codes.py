@@ -11,7 +11,7 @@ import unittest.mock
 
 from lislab.cli import main as cli
 from lislab.model import codes
-from lislab.out.tables import Tables
+from lislab.outbound.tables import Tables
 from lislab.model import lines, options
 from lislab.host.intake import Held, Intake
 from lislab.model.options import OptionError

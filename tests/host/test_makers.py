@@ -5,10 +5,10 @@ import json
 import os
 import re
 
-from lislab.out import export
+from lislab.outbound import export
 from lislab.model import lines, options
-from lislab.out import oru
-from lislab.out.tables import Tables
+from lislab.outbound import oru
+from lislab.outbound.tables import Tables
 from tests import kit
 from tests.host import fhir_r4, told
 from tests.host.hosts import Host, HostTest, lislab

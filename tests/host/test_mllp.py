@@ -12,10 +12,10 @@ import threading
 import time
 import unittest
 
-from lislab.out import deliver, export
+from lislab.outbound import deliver, export
 from lislab.model.options import OptionError
 from lislab.model.store import UNFINISHED
-from lislab.out import mllp, oru
+from lislab.outbound import mllp, oru
 from lislab.model.codes import Code, Codes
 from lislab.model.failures import Quarantined
 from lislab.model.results import Coded, Reading, Told

@@ -1,10 +1,10 @@
 """What is handed on, as a receiver reads it: each result under its patient, its sample and its test, or not at all."""
 import random
 
-from lislab.out import fhir, oru
+from lislab.outbound import fhir, oru
 from lislab.model.failures import Quarantined
 from lislab.model.results import Coded, Reading, Told
-from lislab.out import export
+from lislab.outbound import export
 from lislab.model.store import WHOLE, Stored
 from tests.host import told
 from tests.host.hosts import HostTest

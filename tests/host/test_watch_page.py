@@ -15,8 +15,8 @@ import threading
 import time
 import unittest.mock
 
-from lislab.out.deliver import read_took
-from lislab.out.export import time_text
+from lislab.outbound.deliver import read_took
+from lislab.outbound.export import time_text
 from lislab.model.store import UNREADABLE, WHOLE, Add, Begin, End
 from lislab.model.spool import SpoolStore
 from lislab.model.stores import open_store

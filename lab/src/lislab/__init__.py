@@ -1,2 +1,2 @@
 """lislab, a host and tools for a laboratory's line, over the binding `lislink`. Its floors, from below: `model`, `diagnosis`,
-`field`, `host`, `out`, then `watch`, `play` and `analyzer`, and `cli`. Each imports only what is below it."""
+`field`, `host`, `outbound`, then `watch`, `play` and `analyzer`, and `cli`. Each imports only what is below it."""

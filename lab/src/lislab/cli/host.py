@@ -29,9 +29,9 @@ from ..model.said import say
 from ..model.store import UNFINISHED, UNREADABLE, WHOLE
 from ..model.stores import open_store
 from ..model.unix import shown, socket_of
-from ..out import export
-from ..out.oru import wishes_of
-from ..out.tables import tables_of
+from ..outbound import export
+from ..outbound.oru import wishes_of
+from ..outbound.tables import tables_of
 from ..watch import status
 from .common import Renamed
 

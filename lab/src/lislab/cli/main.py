@@ -12,7 +12,7 @@ from ..model.failures import Refused
 from ..model.options import OptionError
 from ..model.store import StoreError
 from ..model.unix import WatchError
-from ..out.deliver import WrongStore
+from ..outbound.deliver import WrongStore
 from . import field, host, order, out, play, store, watch
 from .common import STOPPED, USAGE, say
 

@@ -15,9 +15,9 @@ from ..model.options import OptionError, split_peer
 from ..model.said import say
 from ..model.store import StoreError, Stored
 from ..model.stores import open_store
-from ..out import aside, https, mllp
-from ..out import deliver, export
-from ..out.tables import tables_of
+from ..outbound import aside, https, mllp
+from ..outbound import deliver, export
+from ..outbound.tables import tables_of
 from .common import Renamed
 from .host import _COUNT, _FACTOR, _store, add_forms, form_asked
 

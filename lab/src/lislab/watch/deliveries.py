@@ -7,8 +7,8 @@ from typing import Any, Dict, Sequence
 from ..diagnosis.pulse import clock, many
 from ..model.files import is_locked
 from ..model.store import Store, StoreError
-from ..out.aside import held_of
-from ..out.deliver import read_cursor, read_state
+from ..outbound.aside import held_of
+from ..outbound.deliver import read_cursor, read_state
 from .tally import undelivered
 
 #: So many seconds a message may wait for a delivery that isn't running, before this is bad.

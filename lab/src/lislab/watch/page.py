@@ -12,7 +12,7 @@ from ..diagnosis.pulse import PAST, many
 from ..field.page import rows_of
 from ..model.book import Failed
 from ..model.store import WHOLE, Head, Stored
-from ..out.export import time_text
+from ..outbound.export import time_text
 from . import plot
 from .tally import DAY, HOUR, Tally, share
 

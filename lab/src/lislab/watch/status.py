@@ -7,9 +7,9 @@ from ..model.book import Failed
 from ..model.books import reading_book
 from ..model.said import shown
 from ..model.store import Store
-from ..out.aside import held_of
-from ..out.deliver import read_cursor
-from ..out.export import time_text
+from ..outbound.aside import held_of
+from ..outbound.deliver import read_cursor
+from ..outbound.export import time_text
 
 #: A state that was written longer ago than this, in seconds, is old; so many failed orders of a line are named.
 OLD, NAMED = 10.0, 20

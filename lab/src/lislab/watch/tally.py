@@ -7,7 +7,7 @@ from typing import Any, Callable, Deque, Dict, List, Optional, Sequence, Tuple
 
 from ..model.store import Head, Store, StoreError
 from ..model.stores import open_store
-from ..out.deliver import read_cursor
+from ..outbound.deliver import read_cursor
 
 #: What is counted: the messages of so many days; how many are read at once; how often new ones are looked for, in
 #: seconds; how many of the last ones say how long they take.

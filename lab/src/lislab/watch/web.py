@@ -22,7 +22,7 @@ from ..model.options import Network, is_allowed, is_loopback
 from ..model.said import say
 from ..model.store import StoreError
 from ..model.unix import WatchError
-from ..out.deliver import read_took
+from ..outbound.deliver import read_took
 from . import metrics, page, tally
 from .client import Host
 
