@@ -254,6 +254,7 @@ FAULTS = {
     "test_mends.Mends.test_repeats": Edit("cli/host.py", "place.name: place.mend for", "place.name: () for"),
     "test_mends.Mends.test_left": Edit("host/left.py", 'one.body.endswith((b"\\r", b"\\n"))', "False"),
     "test_mends.Mends.test_order": Edit("host/line.py", "            await self._mender.order.over()", "            pass"),
+    "test_mends.Mends.test_a_stop_starts_nothing": Edit("host/mender.py", "        self._is_stopped = True\n", ""),
     "test_mends.Mends.test_tries_delay_nobody": Edit("host/mender.py", 'self._run("tries", ', 'self._run("short", '),
     "test_mends.Mends.test_streams": Edit(
         "host/mend.py", "data[one.start : one.ends[-1]]", "data[one.start : one.ends[-1] - 1]"

@@ -11,6 +11,7 @@ import threading
 import time
 from collections import Counter
 from concurrent.futures import ThreadPoolExecutor
+from concurrent.futures.process import BrokenProcessPool
 from typing import NamedTuple
 from unittest import mock
 
@@ -456,6 +457,23 @@ class Mends(HostTest):
             is_mended.set()
             await asyncio.wait([work, tried])
         workers.stop()
+
+    def test_a_stop_starts_nothing(self):
+        """A process that ends because the host stops isn't started again."""
+        made = []
+
+        def pool():
+            made.append(mock.Mock(**{"submit.side_effect": ends}))
+            return made[-1]
+
+        def ends(*_):
+            workers.stop()
+            raise BrokenProcessPool
+
+        workers = Workers(pool)
+        with self.assertRaises(asyncio.CancelledError):
+            asyncio.run(workers.mended(b"L|1\r", frozenset()))
+        self.same("processes", len(made), 1)
 
     def test_query(self):
         """A query that is mended is answered."""

@@ -58,7 +58,7 @@ class Workers:
     def __init__(self, pool: Callable[[], Executor] = _pool) -> None:
         self._make = pool
         self._pools: Dict[str, Executor] = {}
-        self._tried = 0
+        self._tried, self._is_stopped = 0, False
 
     async def mended(self, body: bytes, names: FrozenSet[str]) -> Optional[Mended]:
         """As `mend.mended`."""
@@ -78,6 +78,8 @@ class Workers:
 
     async def _run(self, kind: str, work: Callable[..., T], *words: Any) -> T:
         for is_last in (False, True):
+            if self._is_stopped:  # a process that the stop ended isn't started again
+                raise asyncio.CancelledError
             if kind not in self._pools:
                 self._pools[kind] = self._make()
             pool = self._pools[kind]
@@ -91,7 +93,8 @@ class Workers:
         raise AssertionError("the last try returned")
 
     def stop(self) -> None:
-        """Ends the processes, with what they do."""
+        """Ends the processes, with what they do. None is started after that."""
+        self._is_stopped = True
         for pool in self._pools.values():
             pool.shutdown(wait=False, cancel_futures=True)
         for process in multiprocessing.active_children():
