@@ -5,13 +5,15 @@
 // A loop that receives; `store` is yours. It stores each text before the reply goes out:
 //
 //     lislink::receiver receiver;
+//     receiver.set_careful(true);    // one damaged byte acknowledges nothing
 //     auto keep = [&](std::string_view text) { return store(text); };
 //     auto send = [&](std::uint8_t reply) { return write(line, &reply, 1) == 1; };
 //     while ((got = read(line, bytes, sizeof bytes)) > 0)
 //         if (!receiver.hear({bytes, static_cast<std::size_t>(got)}, keep, send))
 //             std::fputs("no reply was sent: the analyzer sends this session again\n", stderr);
 //
-// hear_since does the same and sends no reply that could be late; docs/first-program.md has the whole program.
+// A program also calls timer() when a line is open and no note but quiet came for LIS_SECONDS_RECEIVER. hear_since does
+// the same as hear and sends no reply that could be late; docs/first-program.md has the whole program.
 //
 //   - A call that may fail throws lislink::error, or std::bad_alloc if there is no memory. Next to it, try_X returns
 //     the lis_status instead and throws nothing of its own. Without exceptions (-fno-exceptions) only try_X is there.
