@@ -44,7 +44,7 @@ int main(int count, char **words) {
         auto send = [&](std::uint8_t reply) { return put(line, {reinterpret_cast<const char *>(&reply), 1}); };
         auto each = [&](const lis_step &) { meant = clock_type::now(); };    // any note but quiet
         auto keep = [&](std::string_view text) { return store.keep(text); };
-        if (!receiver.hear_since(empty, {bytes, static_cast<std::size_t>(got)}, keep, send, each))    // keep, then reply
+        if (!receiver.hear_since(empty, {bytes, static_cast<std::size_t>(got)}, keep, send, each))    // keep, reply
             std::fputs("no reply was sent: the analyzer sends this session again\n", stderr);
         if (got < static_cast<ssize_t>(sizeof bytes))    // a full buffer may have left some
             empty = before;
