@@ -81,7 +81,7 @@ static void of_longest(bool is_reserved) {
     for (std::size_t text : {1048576, 1048576, 1048576})
         for (std::size_t left = text, part; left > 0; left -= part, number++) {
             bool is_begun = left + 127 < text;
-            part = is_begun ? std::min<std::size_t>(left, 240) : left == text ? 127 : 128;    // room doubles: 255, 510, ..
+            part = is_begun ? std::min<std::size_t>(left, 240) : left == text ? 127 : 128;    // doubled: 255, 510
             bytes += frame(number, part == left, part);
         }
     lislink::receiver receiver;

@@ -3,12 +3,13 @@ undefined behavior; one without a C library; two in C++; those of examples/pytho
 import os
 import re
 import shutil
+import socket
 import subprocess
 import sys
 
 from tests import ROOT, kit
 from tests.ffi.c import BARE, C11, IN_PYTHON, RESULTS, SANITIZERS, compilers, python_over, shared, source
-from tests.ffi.test_samples import CPP
+from tests.ffi.test_samples import ACK, CPP, ENQ, ask, frame
 from tests.install.test_build import dist_of
 
 VALUES = "".join(" ".join(line.split(" ")[:2]) + " \n" for line in RESULTS.splitlines())
@@ -129,6 +130,21 @@ class Programs(kit.Test):
             self.names_one([f"{work}/results"], f"{work}/broken", "".join(RESULTS.splitlines(True)[:2]) + RESULTS, 0)
         if self.runs([*CPP, f"{ROOT}/tests/ffi/room.cpp", names, self.archive, "-o", f"{work}/room"]):
             self.runs([f"{work}/room"], re.compile(ROOM))
+
+    def test_no_reply(self):
+        """quick_receive.cpp reports a text that it can't store."""
+        if not shutil.which("g++"):
+            self.skipTest("g++: 3 checks: what quick_receive.cpp reports")
+        program = f"{kit.folder_of(self)}/quick_receive"
+        library = os.path.join(kit.built("build"), "liblislink.a")
+        if not self.runs([*CPP, f"{ROOT}/examples/cpp/quick_receive.cpp", library, "-o", program]):
+            return
+        pipes = {"stdout": subprocess.PIPE, "stderr": subprocess.PIPE}
+        with subprocess.Popen([program, "0", "/dev/full"], text=True, **pipes) as ran:
+            with socket.create_connection(("127.0.0.1", int(ran.stdout.readline().split()[1]))) as line:
+                self.check(ask(line, ENQ, ACK) and ask(line, frame(1, b"H|\\^&\r"), b""), "no reply is sent")
+            self.same("what it reports", ran.communicate(timeout=300)[1],
+                      "no reply was sent: the analyzer sends this session again\n")
 
     def test_bare(self):
         """The assembler and no C library; without one of the three copies it doesn't link."""
