@@ -5,6 +5,7 @@
  *
  *     lis_receiver receiver = {malloc(lis_receiver_size())};
  *     lis_receiver_init(receiver.at);
+ *     lis_receiver_set_careful(&receiver, true);
  *     while ((got = read(line, bytes, sizeof bytes)) > 0)
  *         for (size_t heard = 0; heard < (size_t)got;) {
  *             heard += lis_receiver_hear(&receiver, bytes + heard, (size_t)got - heard, &step);
@@ -17,6 +18,7 @@
  *         }
  *     lis_receiver_end(receiver);
  *
+ * A program also calls lis_receiver_timer when a line is open and no note but quiet came for LIS_SECONDS_RECEIVER.
  * docs/first-program.md has the same with a clock, so that no reply is late, and in C++, Rust and Python.
  *
  * Link with liblislink, which has its heap in it. A program without malloc links with the archive of the proved crate

@@ -5,13 +5,15 @@
 // A loop that receives; `store` is yours. It stores each text before the reply goes out:
 //
 //     lislink::receiver receiver;
+//     receiver.set_careful(true);    // one damaged byte acknowledges nothing
 //     auto keep = [&](std::string_view text) { return store(text); };
 //     auto send = [&](std::uint8_t reply) { return write(line, &reply, 1) == 1; };
 //     while ((got = read(line, bytes, sizeof bytes)) > 0)
 //         if (!receiver.hear({bytes, static_cast<std::size_t>(got)}, keep, send))
 //             std::fputs("no reply was sent: the analyzer sends this session again\n", stderr);
 //
-// hear_since does the same and sends no reply that could be late; docs/first-program.md has the whole program.
+// A program also calls timer() when a line is open and no note but quiet came for LIS_SECONDS_RECEIVER. hear_since does
+// the same as hear and sends no reply that could be late; docs/first-program.md has the whole program.
 //
 //   - A call that may fail throws lislink::error, or std::bad_alloc if there is no memory. Next to it, try_X returns
 //     the lis_status instead and throws nothing of its own. Without exceptions (-fno-exceptions) only try_X is there.
@@ -190,6 +192,24 @@ template <class Bytes> using if_dies = std::enable_if_t<
 struct nothing {
     void operator()(const lis_step &) const noexcept {}
 };
+
+// Makes room for a text in the place of the one before it; false if there is no memory. The room stays, and is no
+// larger than it has to be.
+inline bool has_room(std::string &text, std::size_t bytes) {
+    if (bytes <= text.capacity())
+        return true;
+    std::string().swap(text);
+#if defined(__cpp_exceptions)
+    try {
+        text.reserve(bytes);
+    } catch (const std::bad_alloc &) {
+        return false;
+    }
+#else
+    text.reserve(bytes);
+#endif
+    return true;
+}
 
 } // namespace detail
 
@@ -407,15 +427,9 @@ class receiver {
     // The text that is complete, in `text_`; false if there is no memory for it.
     bool copy_text() {
         std::size_t len = lis_receiver_text_len(get());
-#if defined(__cpp_exceptions)
-        try {
-            text_.resize(len);
-        } catch (const std::bad_alloc &) {
+        if (!detail::has_room(text_, len))
             return false;
-        }
-#else
         text_.resize(len);
-#endif
         return lis_receiver_text(get(), detail::at(text_), len) == LIS_STATUS_OK;
     }
 
@@ -542,9 +556,13 @@ public:
     std::uint64_t noise() const noexcept { return lis_receiver_noise(get()); }
     // Says how ENQ is answered from now on.
     void set_ready(lis_ready readiness) noexcept { (void)lis_receiver_set_ready(get(), readiness); }
-    // Makes room for so many more bytes of text, and as much for the text after it: so once no text is longer, none
-    // takes memory of the library.
-    [[nodiscard]] lis_status try_reserve(std::uint64_t bytes) noexcept { return lis_receiver_reserve(get(), bytes); }
+    // Makes room for so many more bytes of text, as much for the text after it, and as much for the copy that keep
+    // gets: so while no text is longer, none takes memory.
+    [[nodiscard]] lis_status try_reserve(std::uint64_t bytes) noexcept {
+        lis_status status = lis_receiver_reserve(get(), bytes);
+        auto most = std::min<std::uint64_t>(held() + bytes, LIS_LIMIT_TEXT_BYTES);
+        return status == LIS_STATUS_OK && !detail::has_room(text_, most) ? LIS_STATUS_OUT_OF_MEMORY : status;
+    }
     // Sets how many bytes a text may have. A frame with which its text would have more is answered NAK and not taken.
     [[nodiscard]] lis_status try_set_text_limit(std::size_t bytes) noexcept {
         return lis_receiver_set_text_limit(get(), bytes);

@@ -24,15 +24,9 @@ class station {
     // The text that is complete, in `text_`; false if there is no memory for it.
     bool copy_text() {
         std::size_t len = lis_station_text_len(get());
-#if defined(__cpp_exceptions)
-        try {
-            text_.resize(len);
-        } catch (const std::bad_alloc &) {
+        if (!detail::has_room(text_, len))
             return false;
-        }
-#else
         text_.resize(len);
-#endif
         return lis_station_text(get(), detail::at(text_), len) == LIS_STATUS_OK;
     }
 
@@ -212,8 +206,12 @@ public:
     // Says whether it hears carefully from now on what is for its receiver, as receiver::set_careful.
     void set_careful(bool careful) noexcept { lis_station_set_careful(get(), careful); }
     std::uint64_t noise() const noexcept { return lis_station_noise(get()); }    // as receiver::noise
-    // Makes room for so many more bytes of text, and as much for the text after it.
-    [[nodiscard]] lis_status try_reserve(std::uint64_t bytes) noexcept { return lis_station_reserve(get(), bytes); }
+    // As receiver::try_reserve.
+    [[nodiscard]] lis_status try_reserve(std::uint64_t bytes) noexcept {
+        lis_status status = lis_station_reserve(get(), bytes);
+        auto most = std::min<std::uint64_t>(held() + bytes, LIS_LIMIT_TEXT_BYTES);
+        return status == LIS_STATUS_OK && !detail::has_room(text_, most) ? LIS_STATUS_OUT_OF_MEMORY : status;
+    }
 
     bool awaits_reply() const noexcept { return lis_station_awaits_reply(get()); }    // the next byte is a reply
     lis_phase phase() const noexcept { return lis_station_phase(get()); }             // what its sender waits for

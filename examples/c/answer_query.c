@@ -174,22 +174,22 @@ static int run(computer *its, int line) {
     lis_answer answer;
     for (long long since = now(); turn(its, line);) {
         long long before = now(), wait = its->due < 0 || its->due - before > 1000 ? 1000 : its->due - before;
-        if (poll(&ready, 1, wait < 0 ? 0 : (int)wait) == 0) {             /* bytes first, then timers */
-            since = before;
-            if (its->due >= 0 && now() >= its->due) {
-                lis_station_timer(&its->station, &answer);
-                if (!take(its, &answer, since, line))
-                    return 1;
-            }
-            continue;
+        size_t got = 0;
+        if (poll(&ready, 1, wait < 0 ? 0 : (int)wait) != 0) {
+            ssize_t came = read(line, bytes, sizeof bytes);
+            if (came <= 0)
+                return came == 0 ? 0 : 1;
+            got = (size_t)came;
         }
-        ssize_t got = read(line, bytes, sizeof bytes);
-        if (got <= 0)
-            return got == 0 ? 0 : 1;
-        if (!hear(its, bytes, (size_t)got, since, line))
+        if (!hear(its, bytes, got, since, line))                          /* bytes first, then the timer */
             return 1;
-        if (got < (ssize_t)sizeof bytes)
+        if (got < sizeof bytes)
             since = before;                                               /* a full buffer may have left some */
+        if (its->due >= 0 && now() >= its->due) {
+            lis_station_timer(&its->station, &answer);
+            if (!take(its, &answer, since, line))
+                return 1;
+        }
     }
     return 1;
 }

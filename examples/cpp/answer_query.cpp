@@ -145,7 +145,7 @@ public:
                 return;
             if (got < static_cast<ssize_t>(sizeof room))
                 seen_empty = before;    // else the read may have left some
-            if (got < 0 && due_ && clock_type::now() >= *due_ && !take(station_.timer(), seen_empty))
+            if (due_ && clock_type::now() >= *due_ && !take(station_.timer(), seen_empty))
                 return;
         }
     }

@@ -99,19 +99,16 @@ class Computer:
         while self.settle():
             self.start()
             before, data = now(), self.read()
-            if data is None:
-                seen_empty = before
-                if self.due is not None and now() >= self.due:
-                    self.take(self.station.timer())
-            elif not data:
+            if data == b"":
                 return
-            else:
-                for answer in self.station.hear(data):
-                    if now() - seen_empty > LATE:
-                        return
-                    self.take(answer)
-                if len(data) < 4096:
-                    seen_empty = before
+            for answer in self.station.hear(data or b""):
+                if now() - seen_empty > LATE:
+                    return
+                self.take(answer)
+            if data is None or len(data) < 4096:
+                seen_empty = before
+            if self.due is not None and now() >= self.due:
+                self.take(self.station.timer())
 
 
 def main() -> None:

@@ -1,12 +1,15 @@
 """Programs over the library: those of examples/c and of this folder in C, with the sanitizers of addresses and of
-undefined behavior; one without a C library; those of examples/python over the package."""
+undefined behavior; one without a C library; two in C++; those of examples/python over the package."""
 import os
 import re
+import shutil
+import socket
 import subprocess
 import sys
 
 from tests import ROOT, kit
 from tests.ffi.c import BARE, C11, IN_PYTHON, RESULTS, SANITIZERS, compilers, python_over, shared, source
+from tests.ffi.test_samples import ACK, CPP, ENQ, ask, frame
 from tests.install.test_build import dist_of
 
 VALUES = "".join(" ".join(line.split(" ")[:2]) + " \n" for line in RESULTS.splitlines())
@@ -38,6 +41,10 @@ PROGRAMS = {"values": (["values.c", "names.c", "pieces.c", "heap.c"], re.escape(
             "records": (["records.c"], r"\d+ calls refused in turn\n"),
             "refused": (["refused.c"], r"\d+ calls refused in turn\n"),
             "results": (["results.c", "heap.c"], re.escape(RESULTS))}
+
+#: What room.cpp prints: 1,048,577 bytes more than C takes, which are those of a text and its end in a string.
+ROOM = (r"a receiver: 499 texts, 0 calls\na station: 499 texts, 0 calls\nreserved: 3145729 bytes\n"
+        r"the most: 6270977 bytes\n")
 
 
 def session(texts):
@@ -104,6 +111,40 @@ class Programs(kit.Test):
         if wanted is not None:
             self.same(f"{words[-1]}: what it prints", ran.stdout, wanted)
         self.check(re.fullmatch(r"record \d+: .*\n", ran.stderr), f"{words[-1]}: what it names", ran.stderr)
+
+    def test_cpp(self):
+        if not shutil.which("g++"):
+            self.skipTest("g++: 10 checks: results.cpp and room.cpp")
+        work = kit.folder_of(self)
+        with open(self.panel, "rb") as file:
+            panel = file.read()
+        with open(f"{work}/broken", "wb") as file:
+            file.write(panel[:panel.index(b"R|3")] + panel)
+        pieces, names, heap = (f"{work}/{name}.o" for name in ("pieces", "names", "heap"))
+        for name in (pieces, names, heap):
+            self.runs([*C11, "-c", source(f"{os.path.basename(name)[:-2]}.c"), "-o", name])
+        ours = [pieces, names, heap, self.archive]
+        if self.runs([*CPP, f"{ROOT}/examples/cpp/results.cpp", *ours, "-o", f"{work}/results"]):
+            with open(self.panel) as given:
+                self.runs([f"{work}/results"], RESULTS, stdin=given)
+            self.names_one([f"{work}/results"], f"{work}/broken", "".join(RESULTS.splitlines(True)[:2]) + RESULTS, 0)
+        if self.runs([*CPP, f"{ROOT}/tests/ffi/room.cpp", names, self.archive, "-o", f"{work}/room"]):
+            self.runs([f"{work}/room"], re.compile(ROOM))
+
+    def test_no_reply(self):
+        """quick_receive.cpp reports a text that it can't store."""
+        if not shutil.which("g++"):
+            self.skipTest("g++: 3 checks: what quick_receive.cpp reports")
+        program = f"{kit.folder_of(self)}/quick_receive"
+        library = os.path.join(kit.built("build"), "liblislink.a")
+        if not self.runs([*CPP, f"{ROOT}/examples/cpp/quick_receive.cpp", library, "-o", program]):
+            return
+        pipes = {"stdout": subprocess.PIPE, "stderr": subprocess.PIPE}
+        with subprocess.Popen([program, "0", "/dev/full"], text=True, **pipes) as ran:
+            with socket.create_connection(("127.0.0.1", int(ran.stdout.readline().split()[1]))) as line:
+                self.check(ask(line, ENQ, ACK) and ask(line, frame(1, b"H|\\^&\r"), b""), "no reply is sent")
+            self.same("what it reports", ran.communicate(timeout=300)[1],
+                      "no reply was sent: the analyzer sends this session again\n")
 
     def test_bare(self):
         """The assembler and no C library; without one of the three copies it doesn't link."""

@@ -136,23 +136,17 @@ impl Computer {
         while self.settle(station) {
             self.start(station)?;
             let before = Instant::now();
-            match self.read(&mut room)? {
-                Some(0) => return Ok(()),
-                Some(got) => {
-                    if !self.hear(station, &room[..got], seen_empty)? {
-                        return Ok(());
-                    }
-                    if got < room.len() {
-                        seen_empty = before;
-                    }
-                }
-                None => {
-                    seen_empty = before;
-                    if self.due.is_some_and(|due| Instant::now() >= due) {
-                        self.take(station.timer())?;
-                        self.run_timer(station);
-                    }
-                }
+            let came = self.read(&mut room)?;
+            let got = came.unwrap_or(0);
+            if came == Some(0) || !self.hear(station, &room[..got], seen_empty)? {
+                return Ok(());
+            }
+            if got < room.len() {
+                seen_empty = before;
+            }
+            if self.due.is_some_and(|due| Instant::now() >= due) {
+                self.take(station.timer())?;
+                self.run_timer(station);
             }
         }
         Ok(())

@@ -18,6 +18,7 @@
 //!
 //! fn receive(mut line: impl Read + Write, mut store: impl Write) -> std::io::Result<()> {
 //!     let mut receiver = Receiver::new();
+//!     receiver.set_careful(true); // one damaged byte acknowledges nothing
 //!     let mut bytes = [0; 512];
 //!     loop {
 //!         let got = line.read(&mut bytes)?;
@@ -33,7 +34,8 @@
 //! }
 //! ```
 //!
-//! [`Receiver::hear_since`] does the same and sends no reply that could be late.
+//! [`Receiver::hear_since`] does the same and sends no reply that could be late. A program also calls
+//! [`Receiver::timer`] when the line is open and no note but quiet came for 30 seconds.
 #![deny(missing_docs)]
 #![warn(missing_debug_implementations)]
 #![warn(clippy::missing_errors_doc, clippy::must_use_candidate)]

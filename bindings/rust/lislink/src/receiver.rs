@@ -212,8 +212,7 @@ impl Receiver {
     fn copy_text(&mut self) -> bool {
         let receiver = self.block.get();
         let len = unsafe { sys::lis_receiver_text_len(receiver) };
-        self.text.clear();
-        if self.text.try_reserve(len).is_err() {
+        if !has_room(&mut self.text, len) {
             return false;
         }
         self.text.resize(len, 0);
@@ -260,15 +259,17 @@ impl Receiver {
         Error::of(status)
     }
 
-    /// Makes room for so many more bytes of text, and as much for the text after it: so once no text is longer, none
-    /// takes memory of the library.
+    /// Makes room for so many more bytes of text, as much for the text after it, and as much for the copy that is kept:
+    /// so while no text is longer, none takes memory.
     ///
     /// # Errors
     ///
     /// No text may have so many bytes, or there is no memory.
     pub fn reserve(&mut self, bytes: u64) -> Result<(), Error> {
         let status = unsafe { sys::lis_receiver_reserve(self.block.get(), bytes) };
-        Error::of(status)
+        Error::of(status)?;
+        let most = self.held() + bytes;
+        reserved(&mut self.text, most)
     }
 
     /// Sets how many bytes a text may have, at most 1,048,576 as it is at first. A frame with which its text would
@@ -299,6 +300,21 @@ impl Receiver {
     pub fn held(&self) -> u64 {
         unsafe { sys::lis_receiver_held(&self.block.handle()) }
     }
+}
+
+/// Makes room for a text in the place of the one before it; whether there is memory for it. The room stays.
+pub(crate) fn has_room(text: &mut Vec<u8>, len: usize) -> bool {
+    text.clear();
+    if text.capacity() < len {
+        *text = Vec::new();
+    }
+    text.try_reserve_exact(len).is_ok()
+}
+
+/// The same for a text of at most so many bytes.
+pub(crate) fn reserved(text: &mut Vec<u8>, bytes: u64) -> Result<(), Error> {
+    let has_room = has_room(text, bytes.min(sys::LIS_LIMIT_TEXT_BYTES) as usize);
+    Error::of(if has_room { sys::LIS_STATUS_OK } else { sys::LIS_STATUS_OUT_OF_MEMORY })
 }
 
 pub(crate) fn no_step() -> sys::lis_step {

@@ -1,5 +1,5 @@
 //! The station: both ways of one line.
-use crate::receiver::{no_step, step_of};
+use crate::receiver::{has_room, no_step, reserved, step_of};
 use crate::{block::Block, Bytes, Error, FrameLimit, Note, Outcome, Phase, Role, Step, Text};
 use lislink_sys as sys;
 use std::time::Duration;
@@ -202,8 +202,7 @@ impl Station {
     fn copy_text(&mut self) -> bool {
         let station = self.block.get();
         let len = unsafe { sys::lis_station_text_len(station) };
-        self.text.clear();
-        if self.text.try_reserve(len).is_err() {
+        if !has_room(&mut self.text, len) {
             return false;
         }
         self.text.resize(len, 0);
@@ -272,14 +271,16 @@ impl Station {
         unsafe { sys::lis_station_noise(&self.block.handle()) }
     }
 
-    /// Makes room for so many more bytes of text, and as much for the text after it.
+    /// As [`Receiver::reserve`](crate::Receiver::reserve).
     ///
     /// # Errors
     ///
     /// No text may have so many bytes, or there is no memory.
     pub fn reserve(&mut self, bytes: u64) -> Result<(), Error> {
         let status = unsafe { sys::lis_station_reserve(self.block.get(), bytes) };
-        Error::of(status)
+        Error::of(status)?;
+        let most = self.held() + bytes;
+        reserved(&mut self.text, most)
     }
 
     /// Whether the next byte is a reply to its own ENQ or frame.

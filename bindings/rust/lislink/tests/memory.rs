@@ -1,5 +1,5 @@
-//! A text that there is no memory for: no reply is due, and the receiver restarts.
-use lislink::{Note, Receiver};
+//! A text that there is no memory for: no reply is due, and the receiver restarts. With room reserved it takes none.
+use lislink::{Note, Receiver, Status};
 use std::alloc::{GlobalAlloc, Layout, System};
 use std::cell::Cell;
 
@@ -45,4 +45,21 @@ fn no_reply_is_due_for_a_text_that_there_is_no_memory_for() {
         assert_eq!(receiver.is_open(), !refuses);
         receiver.restart();
     }
+}
+
+#[test]
+fn room_that_was_reserved_needs_no_memory() {
+    let bytes: &[u8] = b"\x05\x021H|\\^&\r\x03E5\r\n\x04";
+    let mut receiver = Receiver::new();
+    receiver.reserve(6).unwrap();
+    let (mut texts, mut rest) = (0, bytes);
+    REFUSES.set(true);
+    while !rest.is_empty() {
+        let answer = receiver.next_step(&mut rest);
+        texts += usize::from(answer.text().is_some());
+        answer.sent();
+    }
+    let refused = receiver.reserve(1_000_000).err().map(|it| it.status);
+    REFUSES.set(false);
+    assert_eq!((texts, refused), (1, Some(Status::OutOfMemory)));
 }
