@@ -296,9 +296,9 @@ void lis_sender_end(lis_sender s);
  * a session goes on, LIS_STATUS_BAD_NUMBER for another limit: then nothing has changed. With the long limit a frame may
  * have more bytes than a lis_bytes has room for, and the calls need a stack of 720 kB: see lis_sender_frame. */
 lis_status lis_sender_set_limit(lis_sender *s, size_t limit);
-/* Adds a copy of a text to the next session, also while one goes on. LIS_STATUS_TOO_LONG if it has over
- * LIS_LIMIT_TEXT_BYTES, LIS_STATUS_FULL, LIS_STATUS_OUT_OF_MEMORY: then nothing has changed. What the text holds is
- * looked at by lis_sender_start. */
+/* Adds a copy of a text to the next session, also while one goes on. A text is a record with its CR, or several: without
+ * it the other side reads two records as one. LIS_STATUS_TOO_LONG if it has over LIS_LIMIT_TEXT_BYTES, LIS_STATUS_FULL,
+ * LIS_STATUS_OUT_OF_MEMORY: then nothing has changed. What the text holds is looked at by lis_sender_start. */
 lis_status lis_sender_add_text(lis_sender *s, const uint8_t *text, size_t text_len);
 /* Drops the texts of the next session. */
 void lis_sender_clear(lis_sender *s);

@@ -1,7 +1,7 @@
 /* Without a C library: a scanner hears a frame that lis_frame_write wrote, a sender and a receiver talk over a
  * pool of 8 KiB, and a sender sends texts from read-only memory. It takes the proved code as assembler and no more:
  *
- *     cc -nostdlib -static -ffreestanding -Iinclude bare.c dist/x86_64-linux/lis_c.s
+ *     cc -nostdlib -static -ffreestanding -Iinclude examples/c/bare.c dist/x86_64-linux/lis_c.s
  *
  * Only its start and its end are Linux's: the exit status is 0 where all went well, else the number of what did not. */
 #include "lislink.h"
@@ -38,7 +38,8 @@ static bool same(const uint8_t *a, const uint8_t *b, size_t n) {
     return n == 0;
 }
 
-/* A pool: blocks are taken from the front, and all of them come back once none is in use. */
+/* A pool: blocks are taken from the front, and all of them come back once none is in use. A receiver that lives on
+ * keeps its blocks, so reserve its room first, and take what comes and goes from another pool. */
 static _Alignas(16) uint8_t pool[8192];
 static size_t top, in_use, asked;
 

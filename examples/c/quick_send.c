@@ -10,13 +10,24 @@
 #include <time.h>
 #include <unistd.h>
 
+#ifndef CLOCK_BOOTTIME
+#define CLOCK_BOOTTIME CLOCK_MONOTONIC
+#endif
+
 enum { MOST_TRIES = 3 };    /* how often ENQ is sent to a host that is busy */
 
+/* The time in milliseconds. */
+static int64_t now(void) {
+    struct timespec it;
+    clock_gettime(CLOCK_BOOTTIME, &it);    /* it runs on while the machine is suspended */
+    return (int64_t)it.tv_sec * 1000 + it.tv_nsec / 1000000;
+}
+
 /* Waits for a byte until this time: 1 if one came, 0 if none did, -1 if the line is closed. */
-static int byte_until(int line, time_t due, uint8_t *byte) {
+static int byte_until(int line, int64_t due, uint8_t *byte) {
     struct pollfd ready = {line, POLLIN, 0};
-    time_t left = due - time(NULL);
-    if (left <= 0 || poll(&ready, 1, (int)left * 1000) == 0)
+    int64_t left = due - now();
+    if (left <= 0 || poll(&ready, 1, (int)left) == 0)
         return 0;
     return read(line, byte, 1) == 1 ? 1 : -1;
 }
@@ -29,7 +40,7 @@ static void run(int line, lis_sender *sender, lis_bytes *out) {
     while (write(line, out->bytes, out->len) == (ssize_t)out->len) {
         if ((phase = lis_sender_phase(sender)) == LIS_PHASE_NEUTRAL)
             return;
-        time_t due = time(NULL) + seconds[phase];
+        int64_t due = now() + 1000 * seconds[phase];
         do {
             int came = byte_until(line, due, &byte);
             if (came < 0 || (came == 0 && phase == LIS_PHASE_BUSY && ++tries > MOST_TRIES))
