@@ -2,6 +2,9 @@
 
 FAULTS = {
     "test_deliveries.Deliveries.test_rows": ("outbound/deliver.py", "            notes.failed(failed)\n", ""),
+    "test_deliveries.Deliveries.test_another_store": (
+        "watch/deliveries.py", "(StoreError, WrongStore, OSError)", "(StoreError, OSError)"
+    ),
     "test_deliveries.Deliveries.test_shown": ("watch/client.py", '*data["deliveries"].values()]\n    return', "]\n    return"),
     "test_deliveries.Deliveries.test_plot": (
         "watch/plot.py", "is_last = place + 1 == len(shown)", "is_last = place + every >= len(shown)"
