@@ -9,6 +9,7 @@ FAULTS = {
     "test_deliveries.Deliveries.test_plot": (
         "watch/plot.py", "is_last = place + 1 == len(shown)", "is_last = place + every >= len(shown)"
     ),
+    "test_watch.Watch.test_begun": ("diagnosis/board.py", "            one.begun = self._begun", "            pass"),
     "test_queries.Queries.test_nothing_found": (
         "diagnosis/pulse.py", '            pulse.right("queries")\n', "            pass\n"
     ),

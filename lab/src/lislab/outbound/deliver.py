@@ -10,6 +10,7 @@ from typing import Any, Callable, Dict, List, NamedTuple, Optional, Set
 
 from ..model.failures import Quarantined, Refused, Unreachable
 from ..model.files import Unsynced, take_lock, write_synced
+from ..model.said import many
 from ..model.store import Store, StoreError, Stored
 from .aside import Aside, Held, grant, wishes
 from .export import Writer
@@ -433,5 +434,5 @@ def run_again(delivery: Delivery, key: str) -> bool:
         done = one.again(key)
     except (Refused, StoreError) as error:
         delivery.say(str(error))
-    delivery.say(f"{one.delivered} messages delivered")
+    delivery.say(f"{many(one.delivered, 'message')} delivered")
     return done

@@ -4,8 +4,9 @@ import os
 import time
 from typing import Any, Dict, Sequence
 
-from ..diagnosis.pulse import clock, many
+from ..diagnosis.pulse import clock
 from ..model.files import is_locked
+from ..model.said import many
 from ..model.store import Store, StoreError
 from ..outbound.aside import held_of
 from ..outbound.deliver import WrongStore, read_cursor, read_state

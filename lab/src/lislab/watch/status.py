@@ -5,7 +5,7 @@ from typing import Any, Dict, Iterator, List, NamedTuple, Optional
 
 from ..model.book import Failed
 from ..model.books import reading_book
-from ..model.said import shown
+from ..model.said import many, shown
 from ..model.store import Store
 from ..outbound.aside import held_of
 from ..outbound.deliver import WrongStore, checked_number
@@ -161,8 +161,8 @@ def text_of(data: Dict[str, Any]) -> str:
     """The same for a reader."""
     if data["running"]:
         head = (
-            f"the host is running since {data['since']}, process {data['process']}: {data['commits']} commits, "
-            f"{data['failed_commits']} failed; {data['refused_connections']} connections turned away"
+            f"the host is running since {data['since']}, process {data['process']}: {many(data['commits'], 'commit')}, "
+            f"{data['failed_commits']} failed; {many(data['refused_connections'], 'connection')} turned away"
         )
         head = head if is_fresh(data["state_age"]) else f"the host is running{_old(data['state_age'])}"
     else:
@@ -173,11 +173,11 @@ def text_of(data: Dict[str, Any]) -> str:
     for one in data["undelivered"]:
         oldest = f", the oldest of {one['oldest']}" if one["messages"] else ""
         aside = f"; {len(one['aside'])} set aside" if one["aside"] else ""
-        rows.append(one["why"] or f"{one['cursor']}: {one['messages']} messages not delivered{oldest}{aside}")
+        rows.append(one["why"] or f"{one['cursor']}: {many(one['messages'], 'message')} not delivered{oldest}{aside}")
         for held in one["aside"]:
-            rows += [f"  {held['key']} failed {held['tries']} times: {held['why']}"] if held["tries"] else []
+            rows += [f"  {held['key']} failed {many(held['tries'], 'time')}: {held['why']}"] if held["tries"] else []
     for name, settings in sorted(data["would"].items()):
-        rows += [f"{name}: {setting} would deliver {count} messages" for setting, count in sorted(settings.items())]
+        rows += [f"{name}: {setting} would deliver {many(count, 'message')}" for setting, count in sorted(settings.items())]
     for name, codes in sorted(data["unknown_codes"].items()):
         rows.append(f"{name}: codes that its table lacks: " + ", ".join(f"{code} {codes[code]}" for code in codes))
     for name, kinds in sorted(data["not_said"].items()):
