@@ -17,7 +17,7 @@ PAGES = ("start", "operate", "orders", "deliver", "troubleshoot", "validate", "l
 #: Where a line is, and its name.
 PLACES = {"listen", "connect", "serial", "name"}
 #: What is in the place of an option, and an option of Python that a page names.
-OTHERS = {"--NAME", "--system-site-packages"}
+OTHERS = {"--NAME", "--no-build-isolation", "--system-site-packages"}
 #: What a page may not say, and what it may: the page, its text, other text, and whether a fault is found.
 CHANGED = (
     ("lislab", "| `careful` |", "| `careless` |", True),

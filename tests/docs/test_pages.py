@@ -5,11 +5,12 @@ each command of a page prints what the page says.
 
 A line '$ COMMAND' of a block is a command, and the lines up to the next one are their output, which also has what went
 to standard error. A line '..' is any lines, '..' at the end of a line any characters. The commands of a page run in
-turn in one folder with samples/, tools/ and build/, with a free port in the place of 4000. What they leave running ends
-with the page. A block of a shell that can't run here, since it takes minutes or needs a device, is marked by a comment,
+turn in one folder with samples/, tools/ and build/, with a free port in the place of 4000, and one for each port up to
+4099. What they leave running ends with the page. A block of a shell that can't run here, since it takes minutes or needs a device, is marked by a comment,
 <!-- norun -->, at the end of the last line before it. It is counted. Code that is no quotation is marked by
 <!-- sketch -->, and counted too.
 """
+import collections
 import glob
 import os
 import re
@@ -41,8 +42,8 @@ FOLDERS = "docs|tests|tools|examples|crates|conformance|samples|include|bench|py
 PATH = re.compile(rf"`((?:{FOLDERS})/[\w./+-]+)`")
 SHELL = {"sh", "console"}
 MARK = re.compile(r"<!-- (norun|sketch) -->\s*$")
-# The port of the pages' examples.
-PORT = re.compile(r"(?<=--listen )4000\b|(?<=receive )4000\b|(?<=\.py )4000\b|(?<=listen = )4000\b|(?<=:)4000\b")
+# The ports of the pages' examples.
+PORT = re.compile(r"(?<=--listen )40\d\d\b|(?<=receive )4000\b|(?<=\.py )4000\b|(?<=listen = )40\d\d\b|(?<=:)40\d\d\b")
 
 
 def blocks(text):
@@ -199,7 +200,7 @@ def end_all(groups):
 
 def run_page(test, page, text, program, build):
     """Runs the commands of a page in turn and compares what they print."""
-    port, groups = free_port(), []
+    groups, ports = [], collections.defaultdict(free_port)
     with tempfile.TemporaryDirectory() as folder:
         make_folder(folder, program, build)
         environment = {**os.environ, "PATH": f"{folder}/bin:{os.environ['PATH']}",
@@ -211,7 +212,7 @@ def run_page(test, page, text, program, build):
                 print(f"skipped: socat: {len(list(commands(lines)))} checks: a host of the pages")
                 continue
             for command, wanted in commands(lines):
-                got = output_of(PORT.sub(port, command), folder, environment, groups)
+                got = output_of(PORT.sub(lambda found: ports[found[0]], command), folder, environment, groups)
                 test.check(fits(got, wanted), f"{page}:{line}: {command}\n  wanted {wanted}\n  printed {got}")
         end_all(groups)
 

@@ -301,7 +301,7 @@ FAULTS = {
     ),
     "test_out.Files.test_restored": Edit(
         "outbound/deliver.py",
-        "if found is None or (found.number == self.number and found.key != self.key):",
+        "if found is None or (found.number == number and found.key != key):",
         "if found is None:",
     ),
     "test_out.Files.test_no_library": Edit("cli/host.py", "    calls()  # without", "    # without"),

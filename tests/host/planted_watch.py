@@ -2,10 +2,14 @@
 
 FAULTS = {
     "test_deliveries.Deliveries.test_rows": ("outbound/deliver.py", "            notes.failed(failed)\n", ""),
+    "test_deliveries.Deliveries.test_another_store": (
+        "watch/deliveries.py", "(StoreError, WrongStore, OSError)", "(StoreError, OSError)"
+    ),
     "test_deliveries.Deliveries.test_shown": ("watch/client.py", '*data["deliveries"].values()]\n    return', "]\n    return"),
     "test_deliveries.Deliveries.test_plot": (
         "watch/plot.py", "is_last = place + 1 == len(shown)", "is_last = place + every >= len(shown)"
     ),
+    "test_watch.Watch.test_begun": ("diagnosis/board.py", "            one.begun = self._begun", "            pass"),
     "test_queries.Queries.test_nothing_found": (
         "diagnosis/pulse.py", '            pulse.right("queries")\n', "            pass\n"
     ),

@@ -68,6 +68,9 @@ class Copies(HostTest):
             (["restore", "--store", new, copy], 3, "say by --cursor where its delivery has it"),
             (["restore", "--store", new, store], 3, "is no copy that"),
             (["restore", "--store", new, self.path("no copy")], 3, "there is no such copy"),
+            (["backup", "--store", store, "--cursor", self.path("nosuch"), self.path("new")], 3, "nosuch: there is no"),
+            (["restore", "--store", new, "--cursor", self.path("new/few.cursor"), "--cursor", self.path("no"), copy], 3,
+             "has no cursor no\n"),
         ):
             done = lislab("store", *words)
             self.same(f"{words}: status", done.returncode, status)

@@ -129,7 +129,7 @@ class Deliver(HostTest):
         done, files, _ = self.deliver("left", [query, order], "--format", "oru")
         self.same("one file", (done.returncode, len(files)), (0, 1))
         self.same("what is said", done.stderr.replace("lislab: ", ""),
-                  "1 messages delivered\n1 messages had nothing to deliver\n1 orders left out, without a result\n")
+                  "1 message delivered\n1 message had nothing to deliver\n1 orders left out, without a result\n")
 
     def test_filters(self):
         """One line, no repeats, controls, columns, cells that are no formulas."""
@@ -261,7 +261,7 @@ class Deliver(HostTest):
         done = subprocess.run(
             [sys.executable, "-m", "lislab", *words, "--to", self.path("memory.d")], env=ENV, capture_output=True,
             text=True, check=False, preexec_fn=lambda: resource.setrlimit(resource.RLIMIT_AS, (1 << 30, 1 << 30)))
-        self.same("it is delivered", (done.returncode, done.stderr), (0, "lislab: 1 messages delivered\n"))
+        self.same("it is delivered", (done.returncode, done.stderr), (0, "lislab: 1 message delivered\n"))
         (name,) = os.listdir(self.path("memory.d"))
         with open(os.path.join(self.path("memory.d"), name), "rb") as file:
             self.same("all of it", file.read().count(b"\rOBX|"), 100000)

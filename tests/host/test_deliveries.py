@@ -1,4 +1,5 @@
 """How deliveries do, as `lislab watch`, the pages, the metrics and `--notify` say it."""
+import json
 import os
 import re
 import signal
@@ -8,7 +9,8 @@ from lislab.model.stores import open_store
 from lislab.watch import client, metrics, notify, page, plot
 from lislab.watch.deliveries import deliveries_of
 from lislab.watch.tally import Tally
-from tests.host.hosts import HostTest, lislab, process, wait_for
+from lislab.watch.web import Pages
+from tests.host.hosts import Host, HostTest, lislab, process, wait_for
 from tests.host.test_aside import TAKER, keep, records
 from tests.host.test_deliver import RACK
 from tests.host.test_told import message
@@ -58,6 +60,44 @@ class Deliveries(HostTest):
         self.same("stopped with nothing left to do", self.rows(store, cursor)[name][0], "quiet")
         done = lislab("watch", "--store", store, "--once", "--cursor", cursor)
         self.has("watch", done.stdout, f"{name}: aside  bad    1 message set aside")
+
+    def test_another_store(self):
+        """A cursor that is ahead of the store, or of another one, is bad: in deliver's own words, of all who show it."""
+        ahead, other = (9_999_999_999_999_999, f"{7:016x}"), (1, "f" * 16)
+        for kind, store, (number, key) in (
+            ("SQLite, ahead", self.path("ahead.db"), ahead),
+            ("SQLite, another", self.path("other.db"), other),
+            ("spool, ahead", "spool:" + self.path("ahead.spool"), ahead),
+        ):
+            with self.subTest(kind):
+                self.another_store(store, number, key)
+
+    def another_store(self, store, number, key):
+        """A cursor with this message, which the store hasn't."""
+        keep(store, [records(["A"]), RACK])
+        cursor, good = self.path("wrong.cursor"), self.path("good.cursor")
+        with open(cursor, "w", encoding="ascii") as file:
+            json.dump({"number": number, "key": key}, file)
+        why = f"{cursor}: the store hasn't message {number} {key}: was it restored, or is it another store's cursor?"
+        words = ["--store", store, "--cursor", cursor]
+        done = lislab("deliver", *words, "--once", "--directory", self.path("wrong"))
+        self.same("deliver", (done.returncode, done.stderr), (3, f"lislab: {why}\n"))
+        self.same("its row", self.rows(store, cursor), {"delivery wrong.cursor": ("bad", "delivery-fails", why)})
+        host = Host(store)
+        done = lislab("watch", *words, "--once")
+        self.same("watch", (done.returncode, done.stdout.split("\n")[-2]), (1, f"delivery wrong.cursor  bad    {why}"))
+        for one, status in ((cursor, 1), (good, 0)):
+            done = lislab("status", "--store", store, "--cursor", one)
+            self.same(f"status of {one}", (done.returncode, why in done.stdout.split("\n")), (status, status == 1))
+        done = lislab("status", *words, "--json")
+        self.same("as data", [one["why"] for one in json.loads(done.stdout)["undelivered"]], [why])
+        pages = Pages(client.Host(store, None, [cursor, good]), [cursor, good])
+        found = pages.answer("/metrics", {}).text
+        self.has("metrics", found, 'lislab_delivery_bad{delivery="delivery wrong.cursor"} 1\n')
+        self.true("it isn't known how many wait", f'cursor="{cursor}"' not in found, found)
+        self.has("of the other it is", found, f'lislab_undelivered_messages{{cursor="{good}"}} 2\n')
+        self.has("the page", pages.answer("/", {}).text, page.safe(why))
+        self.same("the host's status", host.stop(), 0)
 
     def test_shown(self):
         """Pages, metrics and notices have them."""

@@ -18,7 +18,7 @@ from tests.host.test_orders import SLOW, states
 
 FRAME = frame(1, b"H|\\^&\r")
 #: What is said of a line on which a late reply could be taken for another one.
-SAID = "after NAK or ENQ the host asks again on the same connection, where a late reply could answer it"
+SAID = "without waits=new-line, a late reply could be taken for the one to the next ENQ"
 
 
 def ports_of(host):
@@ -72,7 +72,7 @@ class Late(HostTest):
         """Without the setting ENQ goes out again on the same connection, which is said at the start; a line that sends
         no order can't have it."""
         host = self.started("--listen", "0,name=asks,orders=send")
-        self.has("said", host.says(), f"asks: {SAID}: waits=new-line")
+        self.has("said", host.says(), f"note: asks: {SAID}")
         one = Plain(ports_of(host)["asks"], SLOW)
         self.same("asks", one.byte(60), ENQ)
         one.put(NAK)

@@ -235,7 +235,7 @@ class Mends(HostTest):
             if case.is_taken:
                 self.same(f"{name}: what would", data["would"][f"{name} bare"], {f"mend={case.mend}": 1})
         shown = lislab("status", "--store", store).stdout
-        self.has("for a reader", shown, "\nbytes bare: mend=bytes would deliver 1 messages\n")
+        self.has("for a reader", shown, "\nbytes bare: mend=bytes would deliver 1 message\n")
         exported = [json.loads(row) for row in lislab("export", "--store", store).stdout.splitlines()]
         self.same("marks of an export", [one["mended"] for one in exported], [one.reason for one in found.whole])
         table = list(csv.reader(io.StringIO(lislab("export", "--store", store, "--format", "csv").stdout)))

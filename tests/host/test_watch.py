@@ -10,14 +10,17 @@ import stat
 import subprocess
 import threading
 import time
+import unittest.mock
 from collections import Counter
 from typing import Callable, NamedTuple
 
 from lislink.capture import Capture, Line, read_capture
 from lislab.field.ladder import Ladder
+from lislab.model.options import Listen
 from lislab.model.stores import open_store
 from lislink.link import Receiver
 from lislab.diagnosis import ring
+from lislab.diagnosis.board import Board
 from lislab.watch.live import LiveLadder
 from lislab.diagnosis.events import Came, Closed, Meant
 from lislab.diagnosis.pulse import Probe, Pulse
@@ -287,6 +290,16 @@ class Watch(HostTest):
             self.same("its rejected frames are counted", seen(host)["causes"], {"sum": 1})
             client.asks(ENQ + EOT)
             self.true("five polls are too many", wait_for(lambda: seen(host)["verdict"] == "no-frame", WAIT))
+
+    def test_begun(self):
+        """A line to which nothing came says so since the host's start, not since somebody looked first."""
+        with unittest.mock.patch("time.time", lambda: 1000.0):
+            board = Board(1.0)
+        place = Listen("127.0.0.1", 0, "quiet")
+        with unittest.mock.patch("time.time", lambda: 1090.0):
+            found = board.data([place], {}, {"lines": {}, "unknown_codes": {}})["lines"]["quiet"]
+        self.same("since when", (found["since"], found["says"]), (
+            1000.0, "no message since the host started, 90 s ago, and nobody is connected"))
 
     def test_rows(self):
         """A row for each line; the status says whether one is bad; without a host the store has what is known."""

@@ -355,14 +355,16 @@ def _add_status(one: argparse.ArgumentParser) -> None:
 
 
 def run_status(ask: argparse.Namespace) -> int:
-    """Shows a host and its store; status 1 if the host isn't running, or its state is old."""
+    """Shows a host and its store; status 1 if the host isn't running, its state is old, or a cursor is of another
+    store."""
     store = open_store(ask.store)
     try:
         data = status.data_of(store, status.read_state(state_file(ask.store, ask.status)), ask.cursor)
     finally:
         store.close()
     sys.stdout.write(json.dumps(data) + "\n" if ask.json else status.text_of(data))
-    return GOOD if data["running"] and status.is_fresh(data["state_age"]) else WRONG
+    is_wrong = any(one["why"] for one in data["undelivered"])
+    return GOOD if data["running"] and status.is_fresh(data["state_age"]) and not is_wrong else WRONG
 
 
 def _add_export(one: argparse.ArgumentParser) -> None:

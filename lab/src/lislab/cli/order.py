@@ -57,12 +57,15 @@ def _add_change(one: argparse.ArgumentParser, run: Any) -> None:
     one.set_defaults(run=run)
 
 
-def told(placed: Placed) -> str:
-    """An order in a line: its number, sample, line and tests; then its state, if it isn't new."""
+def _words(placed: Placed) -> str:
+    """An order in a line: its number, sample, line and tests."""
     order = placed.order
-    words = f"order {placed.number} {order.sample} {order.line or '-'} {','.join(order.tests)}"
-    if placed.state == "waiting" and not placed.reason:
-        return words
+    return f"order {placed.number} {order.sample} {order.line or '-'} {','.join(order.tests)}"
+
+
+def told(placed: Placed) -> str:
+    """The same, then its state."""
+    order, words = placed.order, _words(placed)
     at = time.strftime("%Y-%m-%d %H:%M:%S", time.localtime(placed.changed))
     where = f" on {placed.asked}:" if placed.state == FAILED and placed.asked not in ("", order.line) else ""
     why = f"{where} {placed.reason}" if placed.reason else ""
@@ -93,7 +96,7 @@ def run_add(ask: argparse.Namespace) -> int:
         book = open_book(ask.store)
         try:
             for placed in book.add(good):
-                print(shown(told(placed)))
+                print(shown(_words(placed)))
         finally:
             book.close()
     else:

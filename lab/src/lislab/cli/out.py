@@ -12,7 +12,7 @@ from ..model import codes
 from ..model.failures import Refused
 from ..model.files import is_locked
 from ..model.options import OptionError, split_peer
-from ..model.said import say
+from ..model.said import many, say
 from ..model.store import StoreError, Stored
 from ..model.stores import open_store
 from ..outbound import aside, https, mllp
@@ -127,13 +127,13 @@ def run_deliver(ask: argparse.Namespace) -> int:
         )
         signal.signal(signal.SIGTERM, _stop)
         count = deliver.run(one, ask.once)
-        say(f"{count.delivered} messages delivered")
-        for text in [f"{count.empty} messages had nothing to deliver"] if count.empty else []:
+        say(f"{many(count.delivered, 'message')} delivered")
+        for text in [f"{many(count.empty, 'message')} had nothing to deliver"] if count.empty else []:
             say(text)
         for text in export.counted_texts(form):
             say(text)
         if kept.held:
-            say(f"{len(kept.held)} messages are set aside")
+            say(f"{many(len(kept.held), 'message is', 'messages are')} set aside")
         return WRONG if kept.held else GOOD
     except Refused:
         return WRONG
@@ -172,7 +172,7 @@ def _run_again(ask: argparse.Namespace) -> int:
         return WRONG
     if _is_taken(ask.cursor):
         aside.wish(ask.cursor, ask.resend)
-        say(f"{len(named)} messages are sent by the delivery that has {ask.cursor}")
+        say(f"{many(len(named), 'message is', 'messages are')} sent by the delivery that has {ask.cursor}")
         return GOOD
     form = _form_of(ask)
     store = open_store(ask.store)

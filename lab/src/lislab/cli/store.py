@@ -121,6 +121,9 @@ def backup(store: str, cursors: Dict[str, str], copy: str) -> None:
     if not os.path.exists(store):
         raise StoreError(f"{store}: there is no such store")
     files = [(name + end, _read(path + end)) for name, path in cursors.items() for end in _ENDS]
+    for name, data in files:
+        if data is None and name in cursors:
+            raise StoreError(f"{cursors[name]}: there is no such cursor")
     with _made(copy) as db:
         _copied(store, db)
         db.execute(f"CREATE TABLE {_FILES} (name TEXT PRIMARY KEY, data BLOB)")
@@ -129,7 +132,7 @@ def backup(store: str, cursors: Dict[str, str], copy: str) -> None:
 
 def restore(copy: str, store: str, cursors: Dict[str, str]) -> None:
     """Makes a store of a copy, and the files of its cursors. StoreError if a file of one is there already, or the copy
-    has a cursor that isn't named."""
+    has a cursor that isn't named, or hasn't one that is."""
     if not os.path.exists(copy):
         raise StoreError(f"{copy}: there is no such copy")
     targets = [store + end for end in _BESIDE] + [path + end for path in cursors.values() for end in _ENDS]
@@ -146,6 +149,8 @@ def restore(copy: str, store: str, cursors: Dict[str, str]) -> None:
         unnamed = [name for name, _ in files if name not in kept]
         if unnamed:
             raise StoreError(f"the copy has {', '.join(unnamed)}: say by --cursor where its delivery has it")
+        for name in set(cursors) - {name for name, _ in files}:
+            raise StoreError(f"{copy} has no cursor {name}")
         db.execute(f"DROP TABLE {_FILES}")
         for name, data in files:
             write_synced(kept[name], data)

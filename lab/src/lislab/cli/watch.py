@@ -15,7 +15,7 @@ from ..field.looks import looks_of
 from ..field.show import row_text, text_of
 from ..model.files import write_whole
 from ..model.options import OptionError, is_loopback, networks_of, split_address
-from ..model.said import announce, say
+from ..model.said import announce, many, say
 from ..model.store import StoreError
 from ..model.unix import WatchError, shown, socket_of
 from ..watch import client
@@ -179,7 +179,7 @@ def _save(host: Host, line: str, path: str) -> int:
     rows = [*head, *(time_text(at) for at in capture.times)]
     write_whole(path, write_lines(row for _, row in capture.lines).encode())
     write_whole(path + ".times", "".join(row + "\n" for row in rows).encode())
-    say(f"capture: {path}, {len(capture.lines)} lines; times: {path}.times")
+    say(f"capture: {path}, {many(len(capture.lines), 'line')}; times: {path}.times")
     return GOOD
 
 

@@ -5,16 +5,17 @@ from typing import Any, Callable, Dict, Iterable, List, Mapping, Optional
 
 from ..model.book import Failed
 from ..model.options import Connect, Place, no_line
+from ..model.said import many
 from ..model.unix import Door
 from .events import Sees
-from .pulse import Probe, Pulse, Says, many
+from .pulse import Probe, Pulse, Says
 
 
 class Board:
     """The pulses of a host's lines, by the lines' names. `scale` is that of the host's timers."""
 
     def __init__(self, scale: float) -> None:
-        self._scale = scale
+        self._scale, self._begun = scale, time.time()
         self._pulses: Dict[str, Pulse] = {}
         self._failed: Dict[str, Failed] = {}
         self._door: Optional[Door] = None
@@ -28,8 +29,9 @@ class Board:
 
     def _pulse(self, place: Place) -> Pulse:
         if place.name not in self._pulses:
-            self._pulses[place.name] = Pulse(place.frame, self._scale)
-            self._pulses[place.name].take_failed(self._failed.get(place.name))
+            one = self._pulses[place.name] = Pulse(place.frame, self._scale)
+            one.begun = self._begun  # also if nobody looked so far
+            one.take_failed(self._failed.get(place.name))
         return self._pulses[place.name]
 
     def take_failed(self, failed: Dict[str, Failed]) -> None:

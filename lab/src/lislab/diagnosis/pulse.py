@@ -9,6 +9,7 @@ from typing import Any, Callable, Deque, Dict, List, NamedTuple, Optional, Tuple
 from lislink.codes import FrameFault, Note
 from lislink.link import Step
 from ..model.book import Failed
+from ..model.said import many
 from ..model.store import MENDED, WHOLE, StoreError
 from .events import (
     Answered, Came, Closed, Kept, Late, Looked, Meant, MessageEnded, Noise, NotKept, OwnAnswered, OwnFailed, Restarted,
@@ -109,11 +110,6 @@ def span(seconds: float) -> str:
         if seconds < most:
             return f"{max(0, int(seconds / unit))} {name}"
     return f"{int(seconds / 86400)} days"
-
-
-def many(count: int, name: str) -> str:
-    """So many of something."""
-    return f"{count} {name}" if count == 1 else f"{count} {name}s"
 
 
 def says(verdict: Verdict, since: float, count: int = 0, **values: Any) -> Says:

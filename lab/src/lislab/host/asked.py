@@ -89,5 +89,4 @@ def warn(places: Iterable[Place]) -> None:
             what = "no number and no checksum, so damage isn't noticed; and a receiver that isn't proved"
             say(f"{place.name}: link={place.link} has {what}")
         if place.orders and not isinstance(place, Serial) and not place.waits:
-            what = "after NAK or ENQ the host asks again on the same connection, where a late reply could answer it"
-            say(f"{place.name}: {what}: waits=new-line has the line connected anew first")
+            say(f"note: {place.name}: without waits=new-line, a late reply could be taken for the one to the next ENQ")

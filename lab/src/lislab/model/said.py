@@ -33,6 +33,11 @@ def shown(text: str) -> str:
     return "".join(one if one.isprintable() else _number(ord(one)) for one in text)
 
 
+def many(count: int, name: str, names: str = "") -> str:
+    """So many of something: of a `name`, or of `names`, where these aren't just one with an s."""
+    return f"{count} {name}" if count == 1 else f"{count} {names or name + 's'}"
+
+
 def _number(code: int) -> str:
     return f"\\x{code:02x}" if code < 256 else f"\\u{code:04x}"
 

@@ -10,6 +10,7 @@ from typing import Any, Callable, Dict, List, NamedTuple, Optional, Set
 
 from ..model.failures import Quarantined, Refused, Unreachable
 from ..model.files import Unsynced, take_lock, write_synced
+from ..model.said import many
 from ..model.store import Store, StoreError, Stored
 from .aside import Aside, Held, grant, wishes
 from .export import Writer
@@ -52,13 +53,8 @@ class Cursor:
             self._ahead.remove()
 
     def check(self, store: Store) -> None:
-        """Whether the store has the message that was delivered last: else it isn't the same store any more."""
-        if self.number:
-            found = next(iter(store.messages(self.number - 1, 1)), None)
-            if found is None or (found.number == self.number and found.key != self.key):
-                raise WrongStore(
-                    f"{self.path}: the store hasn't message {self.number} {self.key}: was it restored?"
-                )
+        """WrongStore if the store hasn't the message that was delivered last."""
+        _check(store, self.path, self.number, self.key)
 
     def move(self, one: Stored) -> None:
         """This message is delivered."""
@@ -133,6 +129,22 @@ def read_cursor(path: str) -> "tuple[int, str]":
         return (int(data["number"]), str(data["key"])) if is_after else disk
     except (OSError, ValueError, KeyError, TypeError):
         return disk
+
+
+def checked_number(store: Store, path: str) -> int:
+    """The number of the message that was delivered last out of this store; WrongStore if the cursor isn't its."""
+    number, key = read_cursor(path)
+    _check(store, path, number, key)
+    return number
+
+
+def _check(store: Store, path: str, number: int, key: str) -> None:
+    """Whether the store has the message that was delivered last: else it isn't the same store any more."""
+    if number:
+        found = next(iter(store.messages(number - 1, 1)), None)
+        if found is None or (found.number == number and found.key != key):
+            why = "was it restored, or is it another store's cursor?"
+            raise WrongStore(f"{path}: the store hasn't message {number} {key}: {why}")
 
 
 def _read_number(path: str) -> "tuple[int, str]":
@@ -422,5 +434,5 @@ def run_again(delivery: Delivery, key: str) -> bool:
         done = one.again(key)
     except (Refused, StoreError) as error:
         delivery.say(str(error))
-    delivery.say(f"{one.delivered} messages delivered")
+    delivery.say(f"{many(one.delivered, 'message')} delivered")
     return done

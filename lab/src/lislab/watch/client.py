@@ -3,10 +3,11 @@ import contextlib
 import time
 from typing import Any, Dict, List, Optional, Sequence, Tuple
 
-from ..diagnosis.pulse import clock, many, says, says_failed
+from ..diagnosis.pulse import clock, says, says_failed
 from ..diagnosis.ring import Piece, pieces_of
 from ..diagnosis.verdicts import Verdict
 from ..model.books import reading_book
+from ..model.said import many
 from ..model.store import LineCount, StoreError
 from ..model.stores import open_store
 from ..model.unix import WatchError, ask, shown

@@ -4,11 +4,12 @@ import os
 import time
 from typing import Any, Dict, Sequence
 
-from ..diagnosis.pulse import clock, many
+from ..diagnosis.pulse import clock
 from ..model.files import is_locked
+from ..model.said import many
 from ..model.store import Store, StoreError
 from ..outbound.aside import held_of
-from ..outbound.deliver import read_cursor, read_state
+from ..outbound.deliver import WrongStore, read_cursor, read_state
 from .tally import undelivered
 
 #: So many seconds a message may wait for a delivery that isn't running, before this is bad.
@@ -25,7 +26,7 @@ def deliveries_of(store: Store, cursors: Sequence[str]) -> Dict[str, Dict[str, A
         try:
             rows[name] = _delivery(store, path)
             held = held_of(path)
-        except (StoreError, OSError) as error:
+        except (StoreError, WrongStore, OSError) as error:
             rows[name] = _row("bad", FAILS, time.time(), str(error), 0)
             continue
         if held:

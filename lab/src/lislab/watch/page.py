@@ -8,9 +8,10 @@ from urllib.parse import urlencode
 
 from lislink.message import KINDS, NAMES, Fault, Found, read_all
 from ..diagnosis.faults import words
-from ..diagnosis.pulse import PAST, many
+from ..diagnosis.pulse import PAST
 from ..field.page import rows_of
 from ..model.book import Failed
+from ..model.said import many
 from ..model.store import WHOLE, Head, Stored
 from ..outbound.export import time_text
 from . import plot

@@ -5,10 +5,10 @@ from typing import Any, Dict, Iterator, List, NamedTuple, Optional
 
 from ..model.book import Failed
 from ..model.books import reading_book
-from ..model.said import shown
+from ..model.said import many, shown
 from ..model.store import Store
 from ..outbound.aside import held_of
-from ..outbound.deliver import read_cursor
+from ..outbound.deliver import WrongStore, checked_number
 from ..outbound.export import time_text
 
 #: A state that was written longer ago than this, in seconds, is old; so many failed orders of a line are named.
@@ -37,6 +37,8 @@ class Waiting(NamedTuple):
     messages: int
     oldest: Optional[float]
     aside: List[Dict[str, Any]]
+    #: Why nothing can go, if that is so: the cursor is of another store.
+    why: str = ""
 
 
 def read_state(path: Optional[str]) -> Dict[str, Any]:
@@ -68,13 +70,15 @@ def runs(store: Store, state: Dict[str, Any]) -> bool:
 
 def waiting_of(store: Store, path: str, most: int = 1000) -> Waiting:
     """How much a delivery with this cursor has still to do; it counts up to a limit."""
-    after = read_cursor(path)[0]
-    oldest, count = None, 0
-    for one in store.messages(after, most):
-        oldest = one.ended if count == 0 else oldest
-        count += 1
+    oldest, count, why = None, 0, ""
+    try:
+        for one in store.messages(checked_number(store, path), most):
+            oldest = one.ended if count == 0 else oldest
+            count += 1
+    except WrongStore as error:
+        why = str(error)
     aside = [{"key": held.key, "number": held.number, "tries": held.tries, "why": held.why} for held in held_of(path)]
-    return Waiting(path, count, oldest, aside)
+    return Waiting(path, count, oldest, aside, why)
 
 
 def rows_of(store: Store, state: Dict[str, Any]) -> List[Dict[str, Any]]:
@@ -157,8 +161,8 @@ def text_of(data: Dict[str, Any]) -> str:
     """The same for a reader."""
     if data["running"]:
         head = (
-            f"the host is running since {data['since']}, process {data['process']}: {data['commits']} commits, "
-            f"{data['failed_commits']} failed; {data['refused_connections']} connections turned away"
+            f"the host is running since {data['since']}, process {data['process']}: {many(data['commits'], 'commit')}, "
+            f"{data['failed_commits']} failed; {many(data['refused_connections'], 'connection')} turned away"
         )
         head = head if is_fresh(data["state_age"]) else f"the host is running{_old(data['state_age'])}"
     else:
@@ -169,11 +173,11 @@ def text_of(data: Dict[str, Any]) -> str:
     for one in data["undelivered"]:
         oldest = f", the oldest of {one['oldest']}" if one["messages"] else ""
         aside = f"; {len(one['aside'])} set aside" if one["aside"] else ""
-        rows.append(f"{one['cursor']}: {one['messages']} messages not delivered{oldest}{aside}")
+        rows.append(one["why"] or f"{one['cursor']}: {many(one['messages'], 'message')} not delivered{oldest}{aside}")
         for held in one["aside"]:
-            rows += [f"  {held['key']} failed {held['tries']} times: {held['why']}"] if held["tries"] else []
+            rows += [f"  {held['key']} failed {many(held['tries'], 'time')}: {held['why']}"] if held["tries"] else []
     for name, settings in sorted(data["would"].items()):
-        rows += [f"{name}: {setting} would deliver {count} messages" for setting, count in sorted(settings.items())]
+        rows += [f"{name}: {setting} would deliver {many(count, 'message')}" for setting, count in sorted(settings.items())]
     for name, codes in sorted(data["unknown_codes"].items()):
         rows.append(f"{name}: codes that its table lacks: " + ", ".join(f"{code} {codes[code]}" for code in codes))
     for name, kinds in sorted(data["not_said"].items()):

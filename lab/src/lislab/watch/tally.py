@@ -7,7 +7,7 @@ from typing import Any, Callable, Deque, Dict, List, Optional, Sequence, Tuple
 
 from ..model.store import Head, Store, StoreError
 from ..model.stores import open_store
-from ..outbound.deliver import read_cursor
+from ..outbound.deliver import checked_number
 
 #: What is counted: the messages of so many days; how many are read at once; how often new ones are looked for, in
 #: seconds; how many of the last ones say how long they take.
@@ -16,8 +16,8 @@ HOUR, DAY = 3600, 86400
 
 
 def undelivered(store: Store, cursor: str) -> int:
-    """How many messages a delivery with this cursor has still to do."""
-    return store.count_after(read_cursor(cursor)[0])
+    """How many messages a delivery with this cursor has still to do; WrongStore if it is of another store."""
+    return store.count_after(checked_number(store, cursor))
 
 
 class Tally:

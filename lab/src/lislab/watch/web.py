@@ -22,7 +22,7 @@ from ..model.options import Network, is_allowed, is_loopback
 from ..model.said import say
 from ..model.store import StoreError
 from ..model.unix import WatchError
-from ..outbound.deliver import read_took
+from ..outbound.deliver import WrongStore, read_took
 from . import metrics, page, tally
 from .client import Host
 
@@ -141,7 +141,10 @@ class Pages:
 
     def _metrics(self, _: Dict[str, str]) -> Answer:
         def work(store: Any) -> Tuple[Dict[str, int], Dict[str, int]]:
-            left = {cursor: tally.undelivered(store, cursor) for cursor in self._cursors}
+            left: Dict[str, int] = {}
+            for cursor in self._cursors:  # what a cursor of another store has still to do isn't known
+                with contextlib.suppress(WrongStore, StoreError):
+                    left[cursor] = tally.undelivered(store, cursor)
             with reading_book(store) as book:
                 return left, {**dict.fromkeys(STATES, 0), **book.counts()}
 
