@@ -17,7 +17,6 @@ from tests.install.test_build import dist_of, says_so, write
 from tests.install.test_install import files, version
 
 PARTS = ("setuptools", "wheel", "pip")
-PYTHON = os.path.join(ROOT, "python")
 #: What is needed next to python/ to build the library.
 USED = ("crates.txt", "crates", "tools", "src", "include")
 
@@ -77,9 +76,10 @@ class Wheel(kit.Test):
 
     def test_wheel(self):
         name = f"lislink-{version()}-{tag()}.whl"
+        here = sorted(os.listdir(f"{self.copy}/python"))
         said, wheels = pip_wheel(builder(), f"{self.copy}/python", f"{self.work}/wheel")
         self.same("the wheel of the folder", [os.path.basename(it) for it in wheels], [name])
-        self.same("what is left in the folder", sorted(os.listdir(f"{self.copy}/python")), sorted(os.listdir(PYTHON)))
+        self.same("what is left in the folder", sorted(os.listdir(f"{self.copy}/python")), here)
         there = files(f"{self.copy}/lab")
         said, lab = pip_wheel(builder(), f"{self.copy}/lab", f"{self.work}/lab")
         self.same("that of lislab", [os.path.basename(it) for it in lab], [f"lislab-{version()}-py3-none-any.whl"])

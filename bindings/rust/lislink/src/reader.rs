@@ -120,7 +120,8 @@ impl Record {
         self.parts.iter().map(|part| self.part_of(part))
     }
 
-    /// The bytes that a component means; none if there is no such part.
+    /// The bytes that a component means; none if there is no such part. Fields are counted as the standard does: the
+    /// first after the letter is 2, after a header's delimiters 3; repeats and components from 0.
     #[must_use]
     pub fn part(&self, field: usize, repeat: usize, component: usize) -> Option<Cow<'_, [u8]>> {
         let wanted = (field, repeat, component);
