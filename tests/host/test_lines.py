@@ -279,19 +279,19 @@ class Lines(HostTest):
 
     def test_limits(self):
         """Limits on lines, on the size of a message, on silence and on the receiver's timer."""
-        words = ["--max-lines", "2", "--message-bytes", "1000", "--idle", "4"]
-        host = Host(self.path("limits.db"), *words, scale=LATE)
+        words = ["--max-lines", "2", "--message-bytes", "1000", "--idle", "9"]
+        host = Host(self.path("limits.db"), *words, scale=STALLED)
         with Client(host.port) as one, Client(host.port) as two:
             self.same("two are heard", (one.asks(ENQ), two.asks(ENQ)), (ACK, ACK))
             with Client(host.port) as three:
                 self.true("a line too many is closed", three.is_closed())
             long = [TEXTS[0], *[b"C|1|I|" + b"x" * 190 + b"\r"] * 6]
-            replies = [one.asks(frame, 1, 0.5) for frame in frames(long)]
+            replies = [one.asks(frame, 1, 2.0) for frame in frames(long)]
             self.same("a message too long gets no reply", replies, [ACK] * 6 + [b""])
             self.true("its line goes on", one.whole(TEXTS))
-            time.sleep(30 * LATE + 0.2)
+            time.sleep(30 * STALLED + 0.2)
             self.same("the receiver's timer", two.asks(frames(TEXTS)[0], 1, 0.2), b"")
-            self.true("a silent line is closed", two.is_closed(8))
+            self.true("a silent line is closed", two.is_closed(30))
         host.stop()
         found = Found(host.store)
         self.same("the short message is kept", [one.body for one in found.whole], [b"".join(TEXTS)])

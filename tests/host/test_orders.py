@@ -395,8 +395,8 @@ class Answers(HostTest):
     def test_query(self):
         """What waits for a sample is answered, and sent once it is acknowledged; for a sample without orders the
         answer says so."""
-        host, port = self.started()
-        one = Plain(port, SLOW)
+        host, port = self.started(scale=1.0)
+        one = Plain(port, 1.0)
         one.send(query("S7"))
         rows = one.take()
         self.same("records", [row[:1] for row in rows], [b"H", b"P", b"O", b"L"])
