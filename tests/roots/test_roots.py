@@ -98,7 +98,7 @@ class Released(Roots):
         made = self.bare("bare")
         made.put(released("lislink_*_amd64.deb"), "/tmp/lislink.deb")
         self.ran("apt-get installs it", made, "apt-get -q -y --no-install-recommends install /tmp/lislink.deb")
-        self.same("commands of the tour", self.tours_in(made), 6)
+        self.same("commands of the tour", self.tours_in(made), 7)
         self.ran("the library for C is there", made, "ldconfig -p | grep -q liblislink.so.1")
         self.ran("dpkg removes it", made, "dpkg --remove lislink && ! command -v lislab && ! command -v lislink")
 
@@ -109,7 +109,7 @@ class Released(Roots):
             made.put(wheel, f"/tmp/{os.path.basename(wheel)}")
         self.ran("pip installs it", made, "python3 -m venv /venv && /venv/bin/pip install -q --no-index /tmp/*.whl")
         path = f"/venv/bin:{root.PATH}"
-        self.same("commands of the tour", self.tours_in(made, path=path, leave="build/lislink"), 3)
+        self.same("commands of the tour", self.tours_in(made, path=path, leave="build/lislink"), 4)
         said = self.ran("a ladder", made, "lislab ladder session.capture", "/tour", path)
         self.has("its library", said, "differences 0")
 
@@ -120,12 +120,12 @@ class Released(Roots):
         name = os.path.basename(archive)[:-len(".tar.gz")]
         self.ran("unpacked", made, "tar -xzf /tmp/source.tar.gz")
         self.has("make says of what it is", self.ran("make", made, "make", f"/{name}"), HERE)
-        self.same("commands of the tour", self.tours_in(made, f"/{name}", others=()), 6)
+        self.same("commands of the tour", self.tours_in(made, f"/{name}", others=()), 7)
         self.ran("the references are there", made, f"ls /{name}/docs/reference/{{index,c/index,python/index}}.html "
                  f"/{name}/docs/reference/rust/lislink/index.html")
         self.ran("make install", made, "make install && ldconfig", f"/{name}")
         self.ran("without the archive", made, f"rm -r /{name}")
-        self.same("commands of the tour", self.tours_in(made), 6)
+        self.same("commands of the tour", self.tours_in(made), 7)
 
 
 class Arm64(Roots):
@@ -159,13 +159,13 @@ class Arm64(Roots):
     def test_package(self):
         root.done("dpkg-deb", "--extract", released("lislink_*_arm64.deb"), self.path)
         self.program("lislink", f"{self.path}/usr/bin/lislink")
-        self.same("commands of the tour", self.tours_by_qemu(f"{self.path}/usr/lib/python3/dist-packages"), 6)
+        self.same("commands of the tour", self.tours_by_qemu(f"{self.path}/usr/lib/python3/dist-packages"), 7)
 
     def test_wheel(self):
         shutil.unpack_archive(released("lislink-*aarch64.whl"), f"{self.folder}/wheel", "zip")
         shutil.unpack_archive(released("lislab-*.whl"), f"{self.folder}/lislab", "zip")
         packages = f"{self.folder}/wheel/lislink-{kit.read('VERSION').strip()}.data/purelib:{self.folder}/lislab"
-        self.same("commands of the tour", self.tours_by_qemu(packages, "build/lislink"), 3)
+        self.same("commands of the tour", self.tours_by_qemu(packages, "build/lislink"), 4)
 
 
 class Clone(Roots):
