@@ -8,7 +8,7 @@ import measured
 import programs
 
 DOCUMENT = os.path.join(programs.ROOT, "build/docs/speed.md")
-PLOT = os.path.join(programs.ROOT, "docs/pictures/speed.svg")
+PLOT = os.path.join(programs.ROOT, "build/docs/speed.svg")
 HEAD = """# Speed and memory
 
 `bench/run` measures `lislink` and the peer, a second program in safe Rust over the standard library (`bench/peer`),
@@ -114,7 +114,7 @@ def of_sizes(found):
            "start and end of the process included.")
     largest = max(size for points in found.curves.values() for size, _ in points)
     yield f"MB/s by the size of the input, 1 KB to {largest / 1e6:,.0f} MB, start and end of the process included:"
-    yield from ["", "![MB/s by the size of the input](../../docs/pictures/speed.svg)", ""]
+    yield from ["", "![MB/s by the size of the input](speed.svg)", ""]
 
 
 def of_trees(found):
@@ -183,7 +183,7 @@ def written(found):
 
 
 def write(lines, drawing):
-    """Writes the page, and the plot of docs/design.md."""
+    """Writes the page, and its plot."""
     os.makedirs(os.path.dirname(DOCUMENT), exist_ok=True)
     with open(DOCUMENT, "w", encoding="utf-8") as file:
         file.write(HEAD + "\n".join(lines).rstrip("\n") + "\n")
