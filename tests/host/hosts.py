@@ -122,6 +122,10 @@ def process(words, **how):
     return one
 
 
+#: How often a host is started whose port another test's connection has.
+PORT_TRIES = 120
+
+
 class Host:
     """`lislab serve` as a process; with a fault, a wrong one. What it says goes to a file, or, where its files may not
     grow, through a pipe."""
@@ -136,7 +140,16 @@ class Host:
         self.start()
 
     def start(self):
-        """Starts it, on the same port as before."""
+        """Starts it, on the same port as before: if a connection of another test has that now, once it is free."""
+        for _ in range(PORT_TRIES):
+            if self._is_started():
+                return
+            if "address already in use" not in self.errors[-1]:
+                break
+            time.sleep(0.5)
+        raise RuntimeError(f"the host didn't start: {self.errors[-1]}")
+
+    def _is_started(self):
         program = [FAULTY, self.fault] if self.fault else ["-m", "lislab"]
         words = [*program, "serve", "--store", self.store, "--scale", str(self.scale)]
         if self.listen:
@@ -152,10 +165,10 @@ class Host:
             if row.startswith("listening") and row.endswith(" fire\n"):
                 self.port = int(row.split()[1].rsplit(":", 1)[1])
             if row == "ready\n":
-                return
+                return True
         self.process.wait()
         self._close()
-        raise RuntimeError(f"the host didn't start: {self.errors[-1]}")
+        return False
 
     @staticmethod
     def _hear(errors, said):
