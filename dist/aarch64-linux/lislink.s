@@ -24619,7 +24619,7 @@
 .LBB58_98:                              // %after.2.i.i.i
                                         //   in Loop: Header=BB58_58 Depth=4
 	strb	wzr, [x23, #48]
-.LBB58_99:                              // %"lis_link::receiver::ReceiverOf::front::<=63993>.exit.i"
+.LBB58_99:                              // %"lis_link::receiver::ReceiverOf::hear_front::<=63993>.exit.i"
                                         //   in Loop: Header=BB58_58 Depth=4
 	ldrb	w9, [x21, #120]
 	ldrb	w20, [x21, #88]
@@ -24852,7 +24852,7 @@
 	mov	x2, xzr
 	mov	x19, xzr
 	csel	x22, x11, x10, eq
-.LBB58_134:                             // %"lis_link::receiver::ReceiverOf::front::<=63993>.exit.thread.i"
+.LBB58_134:                             // %"lis_link::receiver::ReceiverOf::hear_front::<=63993>.exit.thread.i"
                                         //   in Loop: Header=BB58_54 Depth=3
 	add	x25, x8, x25
 	cmp	w9, #11
@@ -25975,11 +25975,11 @@
 .LBB58_307:                             // %after.2.i.i.i.i
                                         //   in Loop: Header=BB58_292 Depth=2
 	strb	wzr, [x21, #128]
-.LBB58_308:                             // %"lis_link::receiver::ReceiverOf::front::<=63993>.exit.i.i"
+.LBB58_308:                             // %"lis_link::receiver::ReceiverOf::hear_front::<=63993>.exit.i.i"
                                         //   in Loop: Header=BB58_292 Depth=2
 	add	x19, sp, #74, lsl #12           // =303104
 	add	x19, x19, #3008
-.LBB58_309:                             // %"lis_link::receiver::ReceiverOf::front::<=63993>.exit.i.i"
+.LBB58_309:                             // %"lis_link::receiver::ReceiverOf::hear_front::<=63993>.exit.i.i"
                                         //   in Loop: Header=BB58_292 Depth=2
 	add	x9, sp, #74, lsl #12            // =303104
 	ldrb	w8, [x19, #152]
@@ -26157,7 +26157,7 @@
 	mov	x2, xzr
 	mov	x19, xzr
 	csel	x26, x11, x10, eq
-.LBB58_337:                             // %"lis_link::receiver::ReceiverOf::front::<=63993>.exit.thread.i.i"
+.LBB58_337:                             // %"lis_link::receiver::ReceiverOf::hear_front::<=63993>.exit.thread.i.i"
                                         //   in Loop: Header=BB58_288 Depth=1
 	add	x22, x9, x22
 	cmp	w8, #11
@@ -26264,7 +26264,7 @@
 	mov	x19, xzr
 	mov	w8, #4                          // =0x4
 	mov	w26, #1537                      // =0x601
-.LBB58_351:                             // %"lis_link::receiver::ReceiverOf::front::<=63993>.exit.thread.i.i"
+.LBB58_351:                             // %"lis_link::receiver::ReceiverOf::hear_front::<=63993>.exit.thread.i.i"
                                         //   in Loop: Header=BB58_288 Depth=1
 	ldr	x9, [sp, #88]                   // 8-byte Reload
 	add	x21, sp, #55, lsl #12           // =225280
@@ -31970,7 +31970,7 @@
 .LBB69_126:                             // %after.2.i.i.i
                                         //   in Loop: Header=BB69_86 Depth=4
 	strb	wzr, [x22, #48]
-.LBB69_127:                             // %"lis_link::receiver::ReceiverOf::front::<=240>.exit.i"
+.LBB69_127:                             // %"lis_link::receiver::ReceiverOf::hear_front::<=240>.exit.i"
                                         //   in Loop: Header=BB69_86 Depth=4
 	ldrb	w9, [x24, #120]
 	ldrb	w21, [x24, #88]
@@ -32202,7 +32202,7 @@
 	mov	x2, xzr
 	mov	x19, xzr
 	csel	x22, x11, x10, eq
-.LBB69_163:                             // %"lis_link::receiver::ReceiverOf::front::<=240>.exit.thread.i"
+.LBB69_163:                             // %"lis_link::receiver::ReceiverOf::hear_front::<=240>.exit.thread.i"
                                         //   in Loop: Header=BB69_82 Depth=3
 	add	x23, x8, x23
 	cmp	w9, #11
@@ -33408,7 +33408,7 @@
 	mov	x2, xzr
 	mov	x25, xzr
 	csel	x28, x11, x10, eq
-.LBB69_336:                             // %"lis_link::receiver::ReceiverOf::front::<=240>.exit.thread.i.i"
+.LBB69_336:                             // %"lis_link::receiver::ReceiverOf::hear_front::<=240>.exit.thread.i.i"
                                         //   in Loop: Header=BB69_288 Depth=1
 	add	x23, x9, x23
 	cmp	w8, #11
@@ -33514,7 +33514,7 @@
 	mov	x25, xzr
 	mov	w8, #4                          // =0x4
 	mov	w28, #1537                      // =0x601
-.LBB69_350:                             // %"lis_link::receiver::ReceiverOf::front::<=240>.exit.thread.i.i"
+.LBB69_350:                             // %"lis_link::receiver::ReceiverOf::hear_front::<=240>.exit.thread.i.i"
                                         //   in Loop: Header=BB69_288 Depth=1
 	ldr	x9, [sp, #80]                   // 8-byte Reload
 	add	x24, sp, #8, lsl #12            // =32768
@@ -35026,7 +35026,7 @@
 .LBB71_133:                             // %after.2.i.i.i
                                         //   in Loop: Header=BB71_76 Depth=4
 	strb	wzr, [x19, #48]
-.LBB71_134:                             // %"lis_link::receiver::ReceiverOf::front::<=63993>.exit.i.i"
+.LBB71_134:                             // %"lis_link::receiver::ReceiverOf::hear_front::<=63993>.exit.i.i"
                                         //   in Loop: Header=BB71_76 Depth=4
 	ldrb	w9, [x28, #296]
 	ldrb	w8, [x28, #264]
@@ -35490,7 +35490,7 @@
 	mov	x19, xzr
 	mov	x26, xzr
 	mov	w9, #8                          // =0x8
-.LBB71_202:                             // %"lis_link::receiver::ReceiverOf::front::<=63993>.exit.i.thread.i"
+.LBB71_202:                             // %"lis_link::receiver::ReceiverOf::hear_front::<=63993>.exit.i.thread.i"
                                         //   in Loop: Header=BB71_72 Depth=3
 	ldr	x10, [sp, #80]                  // 8-byte Reload
 	add	x22, x10, x22
@@ -36375,7 +36375,7 @@
 	mov	w2, #1                          // =0x1
 	strb	w22, [x19, #136]
 	bl	"lis_frame::scanner::ScannerOf::run_on::<=63993>"
-.LBB71_339:                             // %"lis_link::receiver::ReceiverOf::front::<=63993>.exit.i.i.i"
+.LBB71_339:                             // %"lis_link::receiver::ReceiverOf::hear_front::<=63993>.exit.i.i.i"
                                         //   in Loop: Header=BB71_322 Depth=2
 	sub	x11, x29, #200
 	sub	x10, x29, #200
@@ -37855,7 +37855,7 @@
 .LBB72_133:                             // %after.2.i.i.i
                                         //   in Loop: Header=BB72_76 Depth=4
 	strb	wzr, [x28, #48]
-.LBB72_134:                             // %"lis_link::receiver::ReceiverOf::front::<=240>.exit.i.i"
+.LBB72_134:                             // %"lis_link::receiver::ReceiverOf::hear_front::<=240>.exit.i.i"
                                         //   in Loop: Header=BB72_76 Depth=4
 	ldrb	w9, [x21, #104]
 	ldrb	w8, [x21, #72]
@@ -38317,7 +38317,7 @@
 	mov	x3, xzr
 	mov	x26, xzr
 	mov	w9, #8                          // =0x8
-.LBB72_202:                             // %"lis_link::receiver::ReceiverOf::front::<=240>.exit.i.thread.i"
+.LBB72_202:                             // %"lis_link::receiver::ReceiverOf::hear_front::<=240>.exit.i.thread.i"
                                         //   in Loop: Header=BB72_72 Depth=3
 	ldr	x10, [sp, #64]                  // 8-byte Reload
 	add	x22, x10, x22
@@ -39589,13 +39589,13 @@
 	mov	x3, xzr
 	mov	x25, xzr
 	mov	w9, #4                          // =0x4
-.LBB72_390:                             // %"lis_link::receiver::ReceiverOf::front::<=240>.exit.i.thread.i.i"
+.LBB72_390:                             // %"lis_link::receiver::ReceiverOf::hear_front::<=240>.exit.i.thread.i.i"
                                         //   in Loop: Header=BB72_319 Depth=1
 	ldr	x10, [sp, #80]                  // 8-byte Reload
 	add	x28, sp, #5, lsl #12            // =20480
 	sub	x23, x29, #200
 	add	x28, x28, #192
-.LBB72_391:                             // %"lis_link::receiver::ReceiverOf::front::<=240>.exit.i.thread.i.i"
+.LBB72_391:                             // %"lis_link::receiver::ReceiverOf::hear_front::<=240>.exit.i.thread.i.i"
                                         //   in Loop: Header=BB72_319 Depth=1
 	add	x24, x10, x24
 	cmp	w9, #11

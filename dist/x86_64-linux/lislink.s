@@ -27761,7 +27761,7 @@
 .LBB58_121:                             # %after.2.i.i.i
                                         #   in Loop: Header=BB58_93 Depth=4
 	movb	$0, 79248(%rsp)
-.LBB58_122:                             # %"lis_link::receiver::ReceiverOf::front::<=63993>.exit.i"
+.LBB58_122:                             # %"lis_link::receiver::ReceiverOf::hear_front::<=63993>.exit.i"
                                         #   in Loop: Header=BB58_93 Depth=4
 	movzbl	728(%rsp), %r13d
 	movq	736(%rsp), %rbx
@@ -27974,7 +27974,7 @@
 	movl	$1537, %eax                     # imm = 0x601
 	movl	$5377, %edx                     # imm = 0x1501
 	cmoveq	%rax, %rdx
-.LBB58_150:                             # %"lis_link::receiver::ReceiverOf::front::<=63993>.exit.thread.i"
+.LBB58_150:                             # %"lis_link::receiver::ReceiverOf::hear_front::<=63993>.exit.thread.i"
                                         #   in Loop: Header=BB58_89 Depth=3
 	xorl	%r13d, %r13d
 	xorl	%ebx, %ebx
@@ -28829,7 +28829,7 @@
 	movl	$1, %edx
 	leaq	768(%rsp), %rdi
 	callq	"lis_frame::scanner::ScannerOf::run_on::<=63993>"
-.LBB58_275:                             # %"lis_link::receiver::ReceiverOf::front::<=63993>.exit.i.i"
+.LBB58_275:                             # %"lis_link::receiver::ReceiverOf::hear_front::<=63993>.exit.i.i"
                                         #   in Loop: Header=BB58_257 Depth=2
 	movzbl	424(%rsp), %r13d
 	movq	432(%rsp), %rdi
@@ -28970,7 +28970,7 @@
 	xorl	%edi, %edi
 	xorl	%edx, %edx
 	xorl	%r12d, %r12d
-.LBB58_295:                             # %"lis_link::receiver::ReceiverOf::front::<=63993>.exit.thread.i.i"
+.LBB58_295:                             # %"lis_link::receiver::ReceiverOf::hear_front::<=63993>.exit.thread.i.i"
                                         #   in Loop: Header=BB58_253 Depth=1
 	addq	%rax, %rbx
 	movq	8(%rsp), %r15                   # 8-byte Reload
@@ -34282,7 +34282,7 @@
 .LBB69_121:                             # %after.2.i.i.i
                                         #   in Loop: Header=BB69_93 Depth=4
 	movb	$0, 16192(%rsp)
-.LBB69_122:                             # %"lis_link::receiver::ReceiverOf::front::<=240>.exit.i"
+.LBB69_122:                             # %"lis_link::receiver::ReceiverOf::hear_front::<=240>.exit.i"
                                         #   in Loop: Header=BB69_93 Depth=4
 	movzbl	1432(%rsp), %r13d
 	movq	1440(%rsp), %rbx
@@ -34495,7 +34495,7 @@
 	movl	$1537, %eax                     # imm = 0x601
 	movl	$5377, %edx                     # imm = 0x1501
 	cmoveq	%rax, %rdx
-.LBB69_150:                             # %"lis_link::receiver::ReceiverOf::front::<=240>.exit.thread.i"
+.LBB69_150:                             # %"lis_link::receiver::ReceiverOf::hear_front::<=240>.exit.thread.i"
                                         #   in Loop: Header=BB69_89 Depth=3
 	xorl	%r13d, %r13d
 	xorl	%ebx, %ebx
@@ -35350,7 +35350,7 @@
 	movl	$1, %edx
 	leaq	1472(%rsp), %rdi
 	callq	"lis_frame::scanner::ScannerOf::run_on::<=240>"
-.LBB69_275:                             # %"lis_link::receiver::ReceiverOf::front::<=240>.exit.i.i"
+.LBB69_275:                             # %"lis_link::receiver::ReceiverOf::hear_front::<=240>.exit.i.i"
                                         #   in Loop: Header=BB69_257 Depth=2
 	movzbl	424(%rsp), %r13d
 	movq	432(%rsp), %rdi
@@ -35491,7 +35491,7 @@
 	xorl	%edi, %edi
 	xorl	%edx, %edx
 	xorl	%r12d, %r12d
-.LBB69_295:                             # %"lis_link::receiver::ReceiverOf::front::<=240>.exit.thread.i.i"
+.LBB69_295:                             # %"lis_link::receiver::ReceiverOf::hear_front::<=240>.exit.thread.i.i"
                                         #   in Loop: Header=BB69_253 Depth=1
 	addq	%rax, %rbx
 	movq	8(%rsp), %r15                   # 8-byte Reload
@@ -36798,7 +36798,7 @@
 .LBB71_97:                              # %after.2.i.i.i
                                         #   in Loop: Header=BB71_69 Depth=4
 	movb	$0, 95488(%rsp)
-.LBB71_98:                              # %"lis_link::receiver::ReceiverOf::front::<=63993>.exit.i.i"
+.LBB71_98:                              # %"lis_link::receiver::ReceiverOf::hear_front::<=63993>.exit.i.i"
                                         #   in Loop: Header=BB71_69 Depth=4
 	movzbl	568(%rsp), %eax
 	movq	576(%rsp), %rbx
@@ -37134,7 +37134,7 @@
 	movb	$8, %cl
 .LBB71_148:                             #   in Loop: Header=BB71_65 Depth=3
 	xorl	%eax, %eax
-.LBB71_149:                             # %"lis_link::receiver::ReceiverOf::front::<=63993>.exit.i.thread.i"
+.LBB71_149:                             # %"lis_link::receiver::ReceiverOf::hear_front::<=63993>.exit.i.thread.i"
                                         #   in Loop: Header=BB71_65 Depth=3
 	xorl	%ebx, %ebx
 	xorl	%ebp, %ebp
@@ -38013,7 +38013,7 @@
 	movl	$1, %edx
 	leaq	608(%rsp), %rdi
 	callq	"lis_frame::scanner::ScannerOf::run_on::<=63993>"
-.LBB71_286:                             # %"lis_link::receiver::ReceiverOf::front::<=63993>.exit.i.i.i"
+.LBB71_286:                             # %"lis_link::receiver::ReceiverOf::hear_front::<=63993>.exit.i.i.i"
                                         #   in Loop: Header=BB71_268 Depth=2
 	movzbl	56(%rsp), %ecx
 	movq	64(%rsp), %rdi
@@ -38256,7 +38256,7 @@
 .LBB71_326:                             #   in Loop: Header=BB71_264 Depth=1
 	movb	$6, %dl
 	xorl	%ecx, %ecx
-.LBB71_327:                             # %"lis_link::receiver::ReceiverOf::front::<=63993>.exit.i.thread.i.i"
+.LBB71_327:                             # %"lis_link::receiver::ReceiverOf::hear_front::<=63993>.exit.i.thread.i.i"
                                         #   in Loop: Header=BB71_264 Depth=1
 	xorl	%edi, %edi
 	xorl	%r12d, %r12d
@@ -38269,10 +38269,10 @@
 	xorl	%edi, %edi
 	xorl	%r12d, %r12d
 	xorl	%r15d, %r15d
-.LBB71_330:                             # %"lis_link::receiver::ReceiverOf::front::<=63993>.exit.i.thread.i.i"
+.LBB71_330:                             # %"lis_link::receiver::ReceiverOf::hear_front::<=63993>.exit.i.thread.i.i"
                                         #   in Loop: Header=BB71_264 Depth=1
 	movq	(%rsp), %rax                    # 8-byte Reload
-.LBB71_331:                             # %"lis_link::receiver::ReceiverOf::front::<=63993>.exit.i.thread.i.i"
+.LBB71_331:                             # %"lis_link::receiver::ReceiverOf::hear_front::<=63993>.exit.i.thread.i.i"
                                         #   in Loop: Header=BB71_264 Depth=1
 	addq	%rax, %r13
 	cmpb	$11, %dl
@@ -39218,7 +39218,7 @@
 .LBB72_97:                              # %after.2.i.i.i
                                         #   in Loop: Header=BB72_69 Depth=4
 	movb	$0, 15328(%rsp)
-.LBB72_98:                              # %"lis_link::receiver::ReceiverOf::front::<=240>.exit.i.i"
+.LBB72_98:                              # %"lis_link::receiver::ReceiverOf::hear_front::<=240>.exit.i.i"
                                         #   in Loop: Header=BB72_69 Depth=4
 	movzbl	568(%rsp), %eax
 	movq	576(%rsp), %rbx
@@ -39554,7 +39554,7 @@
 	movb	$8, %cl
 .LBB72_148:                             #   in Loop: Header=BB72_65 Depth=3
 	xorl	%eax, %eax
-.LBB72_149:                             # %"lis_link::receiver::ReceiverOf::front::<=240>.exit.i.thread.i"
+.LBB72_149:                             # %"lis_link::receiver::ReceiverOf::hear_front::<=240>.exit.i.thread.i"
                                         #   in Loop: Header=BB72_65 Depth=3
 	xorl	%ebx, %ebx
 	xorl	%ebp, %ebp
@@ -40433,7 +40433,7 @@
 	movl	$1, %edx
 	leaq	608(%rsp), %rdi
 	callq	"lis_frame::scanner::ScannerOf::run_on::<=240>"
-.LBB72_286:                             # %"lis_link::receiver::ReceiverOf::front::<=240>.exit.i.i.i"
+.LBB72_286:                             # %"lis_link::receiver::ReceiverOf::hear_front::<=240>.exit.i.i.i"
                                         #   in Loop: Header=BB72_268 Depth=2
 	movzbl	56(%rsp), %ecx
 	movq	64(%rsp), %rdi
@@ -40676,7 +40676,7 @@
 .LBB72_326:                             #   in Loop: Header=BB72_264 Depth=1
 	movb	$6, %dl
 	xorl	%ecx, %ecx
-.LBB72_327:                             # %"lis_link::receiver::ReceiverOf::front::<=240>.exit.i.thread.i.i"
+.LBB72_327:                             # %"lis_link::receiver::ReceiverOf::hear_front::<=240>.exit.i.thread.i.i"
                                         #   in Loop: Header=BB72_264 Depth=1
 	xorl	%edi, %edi
 	xorl	%r12d, %r12d
@@ -40689,10 +40689,10 @@
 	xorl	%edi, %edi
 	xorl	%r12d, %r12d
 	xorl	%r15d, %r15d
-.LBB72_330:                             # %"lis_link::receiver::ReceiverOf::front::<=240>.exit.i.thread.i.i"
+.LBB72_330:                             # %"lis_link::receiver::ReceiverOf::hear_front::<=240>.exit.i.thread.i.i"
                                         #   in Loop: Header=BB72_264 Depth=1
 	movq	(%rsp), %rax                    # 8-byte Reload
-.LBB72_331:                             # %"lis_link::receiver::ReceiverOf::front::<=240>.exit.i.thread.i.i"
+.LBB72_331:                             # %"lis_link::receiver::ReceiverOf::hear_front::<=240>.exit.i.thread.i.i"
                                         #   in Loop: Header=BB72_264 Depth=1
 	addq	%rax, %r13
 	cmpb	$11, %dl
