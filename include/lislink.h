@@ -42,7 +42,7 @@
  *
  * Nothing else is asked: every length, every number and every order of calls is allowed. A handle keeps the pointer to
  * its block, and a sender or a station the pointers to borrowed texts; no call keeps another pointer. No call blocks,
- * prints or aborts, and one that takes its handle as const changes nothing. The library has no variable of its own.
+ * prints or aborts, and one that takes its handle as const changes nothing. The proved code has no variable of its own.
  * Nothing checks a caller in C: docs/library.md lists the mistakes that a caller can make, and their consequences.
  *
  * The line. What is acknowledged has arrived, on two conditions that only the caller can keep:
@@ -459,6 +459,12 @@ lis_status lis_receiver_set_ready(lis_receiver *s, lis_ready readiness);
  * memory, until lis_receiver_set_limit. LIS_STATUS_TOO_LONG if no text may have so many, LIS_STATUS_OUT_OF_MEMORY. What
  * is held stays. */
 lis_status lis_receiver_reserve(lis_receiver *s, uint64_t bytes);
+/* Makes the receiver new, as lis_receiver_set_limit with LIS_LIMIT_FRAME_TEXT does, but with its texts in this buffer: it
+ * takes no other memory. A text may have (buffer_len - 2) / 2 bytes, as after lis_receiver_set_text_limit, because the
+ * text that is held and the one that was completed last both have a place. The buffer is the receiver's until
+ * lis_receiver_set_limit, the next lis_receiver_lend or lis_receiver_end. LIS_STATUS_TOO_SHORT with less than 4 bytes:
+ * then nothing has changed. Plain C (src/c/lent.c), tested and not proved; it needs the heap of src/c/heap.c. */
+lis_status lis_receiver_lend(lis_receiver *s, uint8_t *buffer, size_t buffer_len);
 /* Sets how many bytes a text may have, LIS_LIMIT_TEXT_BYTES as after _init or fewer, until lis_receiver_set_limit. A
  * frame with which its text would have more is answered NAK and not taken: LIS_NOTE_TOO_LONG. LIS_STATUS_TOO_LONG if it
  * is over LIS_LIMIT_TEXT_BYTES: then nothing has changed. */
@@ -582,6 +588,11 @@ uint64_t lis_station_noise(const lis_station *s);
 bool lis_station_awaits_reply(const lis_station *s);
 /* As lis_receiver_reserve. */
 lis_status lis_station_reserve(lis_station *s, uint64_t bytes);
+/* Makes the station new, as lis_station_begin with LIS_LIMIT_FRAME_TEXT does, but with the texts that it receives in this
+ * buffer, as lis_receiver_lend. With lis_station_start_lent it takes no other memory. A frame with which a text would
+ * have more than (buffer_len - 2) / 2 bytes is answered NAK and not taken: LIS_NOTE_OUT_OF_MEMORY. LIS_STATUS_TOO_SHORT
+ * with less than 4 bytes, LIS_STATUS_BAD_NUMBER for another role: then nothing has changed. */
+lis_status lis_station_lend(lis_station *s, lis_role role, uint8_t *buffer, size_t buffer_len);
 /* As lis_sender_phase. */
 lis_phase lis_station_phase(const lis_station *s);
 /* As lis_sender_outcome. */
@@ -918,7 +929,8 @@ const char *lis_found_text(lis_found_kind kind);
 /* Words for why a record can't be read. */
 const char *lis_reason_text(lis_reason reason);
 
-/* ---- The heap, which the program has to bring: liblislink has src/c/heap.c, over malloc and free. ---- */
+/* ---- The heap, which the program has to bring: liblislink has src/c/heap.c, over malloc and free. Compiled with
+ * -DLIS_NO_MALLOC it has only what was lent. ---- */
 
 /* What was tried for a block. */
 typedef struct rattle_tried {
@@ -928,7 +940,7 @@ typedef struct rattle_tried {
 
 /* These may be called by each thread that calls the library, also by two at once: handles of their own share the heap.
  * The shared library always uses its own, over malloc. */
-/* A block of `size` bytes, which may be 0, at a multiple of 16 or of `align`, if that is more. */
+/* A block of `size` bytes, which may be 0, at a multiple of `align`, which is 1, 2, 4, 8 or 16. */
 rattle_tried rattle_alloc(size_t size, size_t align);
 /* A block of `size` bytes with the first `kept` bytes of this one, which is given up. If there is no memory, this one
  * stays as it was. */

@@ -17,7 +17,7 @@ from wheel.bdist_wheel import bdist_wheel
 
 HERE = Path(__file__).resolve().parent
 #: What the library is built of, by its paths in the repository.
-NATIVE = ("include/lislink.h", "src/c/*.c", "src/c/lislink.map", "dist/SUMS", "dist/*/*.s", "tools/code",
+NATIVE = ("include/lislink.h", "src/c/*.[ch]", "src/c/lislink.map", "dist/SUMS", "dist/*/*.s", "tools/code",
           "tools/made-of", "tools/needed")
 LIBRARY = "liblislink.so"
 

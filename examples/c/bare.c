@@ -1,7 +1,9 @@
-/* Without a C library: a scanner hears a frame that lis_frame_write wrote, a sender and a receiver talk over a
- * pool of 8 KiB, and a sender sends texts from read-only memory. It takes the proved code as assembler and no more:
+/* Without a C library and without a heap: a scanner hears a frame that lis_frame_write wrote, and a sender sends texts
+ * from read-only memory to a receiver and to a station, whose texts lie in buffers of this file. It takes the proved
+ * code as assembler, and a heap that has only what is lent:
  *
- *     cc -nostdlib -static -ffreestanding -Iinclude examples/c/bare.c dist/x86_64-linux/lis_c.s
+ *     cc -nostdlib -static -ffreestanding -DLIS_NO_MALLOC -Iinclude examples/c/bare.c src/c/heap.c src/c/lent.c \
+ *         dist/x86_64-linux/lis_c.s
  *
  * Only its start and its end are Linux's: the exit status is 0 where all went well, else the number of what did not. */
 #include "lislink.h"
@@ -38,45 +40,12 @@ static bool same(const uint8_t *a, const uint8_t *b, size_t n) {
     return n == 0;
 }
 
-/* A pool: blocks are taken from the front, and all of them come back once none is in use. A receiver that lives on
- * keeps its blocks, so reserve its room first, and take what comes and goes from another pool. */
-static _Alignas(16) uint8_t pool[8192];
-static size_t top, in_use, asked;
-
-rattle_tried rattle_alloc(size_t size, size_t align) {
-    rattle_tried answer = {false, pool};
-    (void)align;
-    asked++;
-    if (size > sizeof pool || ((size + 15) & ~(size_t)15) > sizeof pool - top)
-        return answer;
-    answer.ok = true;
-    answer.p = pool + top;
-    top += (size + 15) & ~(size_t)15;
-    in_use++;
-    return answer;
-}
-
-void rattle_dealloc(uint8_t *p) {
-    (void)p;
-    if (--in_use == 0)
-        top = 0;
-}
-
-rattle_tried rattle_realloc(uint8_t *p, size_t kept, size_t size, size_t align) {
-    rattle_tried answer = rattle_alloc(size, align);
-    if (answer.ok) {
-        memcpy(answer.p, p, kept < size ? kept : size);
-        rattle_dealloc(p);
-    }
-    return answer;
-}
-
 /* The blocks, by the constants of the header. */
 static _Alignas(LIS_BLOCK_ALIGN) uint8_t scanner_block[LIS_SCANNER_BLOCK], sender_block[LIS_SENDER_BLOCK];
-static _Alignas(LIS_BLOCK_ALIGN) uint8_t receiver_block[LIS_RECEIVER_BLOCK];
+static _Alignas(LIS_BLOCK_ALIGN) uint8_t receiver_block[LIS_RECEIVER_BLOCK], station_block[LIS_STATION_BLOCK];
 static lis_bytes out;
 static lis_signal signal;
-static uint8_t text[1000];
+static uint8_t text[1000], received[2002], kept[1000];
 
 static int hear_a_frame(void) {
     static const uint8_t header[] = "H|\\^&\r";
@@ -95,60 +64,91 @@ static int hear_a_frame(void) {
     return 0;
 }
 
-static int carry_a_text(void) {
+/* Sends texts to a receiver, or to a station if there is no receiver; 0 if all of them were acknowledged. */
+static int send_to(lis_receiver *receiver, lis_station *station, const lis_text *texts, size_t texts_len) {
     lis_sender sender = {sender_block};
-    lis_receiver receiver = {receiver_block};
     lis_place fault;
-    if (lis_sender_size() > sizeof sender_block || lis_receiver_size() > sizeof receiver_block)
-        return 5;
     lis_sender_init(sender.at);
-    lis_receiver_init(receiver.at);
-    lis_receiver_set_careful(&receiver, true);    /* a damaged byte acknowledges nothing */
-    memset(text, 'x', sizeof text);
-    if (lis_sender_add_text(&sender, text, sizeof text) != LIS_STATUS_OK
-        || lis_sender_start(&sender, &out, &fault) != LIS_STATUS_OK)
-        return 6;
+    if (lis_sender_start_lent(&sender, texts, texts_len, &out, &fault) != LIS_STATUS_OK)
+        return 1;
     while (lis_sender_phase(&sender) != LIS_PHASE_NEUTRAL) {
-        lis_step step;
-        if (lis_receiver_hear(&receiver, out.bytes, out.len, &step) != out.len || step.reply == 0)
-            return 7;
-        lis_sender_reply(&sender, step.reply, &out);
+        static lis_answer answer;
+        size_t heard = receiver != NULL ? lis_receiver_hear(receiver, out.bytes, out.len, &answer.step)
+                                        : lis_station_hear(station, out.bytes, out.len, &answer);
+        if (heard != out.len || answer.step.reply == 0)
+            return 2;
+        lis_sender_reply(&sender, answer.step.reply, &out);
     }
-    if (lis_sender_outcome(&sender) != LIS_OUTCOME_DONE || lis_receiver_text_len(&receiver) != sizeof text)
-        return 8;
+    lis_outcome outcome = lis_sender_outcome(&sender);
     lis_sender_end(sender);
-    lis_receiver_end(receiver);
-    return in_use == 0 ? 0 : 9;
+    return outcome == LIS_OUTCOME_DONE ? 0 : 3;
 }
 
-/* Texts in read-only memory are sent from where they are: no call asks for memory. */
+/* Texts of 1,000 bytes, the longest for which the receiver's buffer has room. */
+static int carry_a_text(void) {
+    lis_receiver receiver = {receiver_block};
+    lis_text texts[] = {{text, sizeof text}, {text, sizeof text}, {text, sizeof text}};
+    if (lis_sender_size() > sizeof sender_block || lis_receiver_size() > sizeof receiver_block)
+        return 5;
+    lis_receiver_init(receiver.at);
+    if (lis_receiver_lend(&receiver, received, sizeof received) != LIS_STATUS_OK)
+        return 6;
+    lis_receiver_set_careful(&receiver, true);    /* a damaged byte acknowledges nothing */
+    memset(text, 'x', sizeof text);
+    int failed = send_to(&receiver, NULL, texts, 3);
+    if (failed != 0 || lis_receiver_text_len(&receiver) != sizeof text)
+        return 7;
+    if (lis_receiver_text(&receiver, kept, sizeof kept) != LIS_STATUS_OK || !same(kept, text, sizeof text))
+        return 8;
+    lis_receiver_end(receiver);
+    return 0;
+}
+
+/* The same to a station. */
+static int carry_to_a_station(void) {
+    lis_station station = {station_block};
+    lis_text texts[] = {{text, sizeof text}, {text, sizeof text}, {text, sizeof text}};
+    if (lis_station_size() > sizeof station_block)
+        return 9;
+    lis_station_init(station.at);
+    if (lis_station_lend(&station, LIS_ROLE_COMPUTER, received, sizeof received) != LIS_STATUS_OK)
+        return 10;
+    lis_station_set_careful(&station, true);
+    if (send_to(NULL, &station, texts, 3) != 0 || lis_station_text_len(&station) != sizeof text)
+        return 11;
+    lis_station_end(station);
+    return 0;
+}
+
+/* Texts in read-only memory are sent from where they are. */
 static int send_lent_texts(void) {
     static const uint8_t header[] = "H|\\^&\r", end[] = "L|1|N\r";
     static const uint8_t first[] = "\0021H|\\^&\r\003E5\r\n", second[] = "\0022L|1|N\r\00305\r\n";
     static const lis_text texts[] = {{header, 6}, {end, 6}};
     lis_sender sender = {sender_block};
     lis_place fault;
-    size_t before = asked;
     lis_sender_init(sender.at);
     if (lis_sender_start_lent(&sender, texts, 2, &out, &fault) != LIS_STATUS_OK || out.len != 1 || out.bytes[0] != 5)
-        return 10;
-    lis_sender_reply(&sender, 6, &out);
-    if (out.len != sizeof first - 1 || !same(out.bytes, first, out.len))
-        return 11;
-    lis_sender_reply(&sender, 6, &out);
-    if (out.len != sizeof second - 1 || !same(out.bytes, second, out.len))
         return 12;
     lis_sender_reply(&sender, 6, &out);
-    if (out.len != 1 || out.bytes[0] != 4 || lis_sender_outcome(&sender) != LIS_OUTCOME_DONE)
+    if (out.len != sizeof first - 1 || !same(out.bytes, first, out.len))
         return 13;
+    lis_sender_reply(&sender, 6, &out);
+    if (out.len != sizeof second - 1 || !same(out.bytes, second, out.len))
+        return 14;
+    lis_sender_reply(&sender, 6, &out);
+    if (out.len != 1 || out.bytes[0] != 4 || lis_sender_outcome(&sender) != LIS_OUTCOME_DONE)
+        return 15;
     lis_sender_end(sender);
-    return asked == before ? 0 : 14;
+    return 0;
 }
 
 static int run(void) {
     int failed = hear_a_frame();
     if (failed == 0)
         failed = carry_a_text();
+    if (failed == 0)
+        failed = carry_to_a_station();
     return failed != 0 ? failed : send_lent_texts();
 }
 

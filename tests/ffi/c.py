@@ -13,7 +13,7 @@ WARNINGS = ["-Wall", "-Wextra", "-Werror", f"-I{ROOT}/include"]
 C11 = ["gcc", "-std=c11", "-D_POSIX_C_SOURCE=200809L", *WARNINGS, "-g", "-O1"]
 SANITIZERS = ["-fsanitize=address,undefined", "-fno-sanitize-recover=all"]
 BARE = ["gcc", "-std=c11", *WARNINGS, "-Os", "-ffreestanding", "-fno-stack-protector", "-nostdlib", "-static",
-        "-fno-asynchronous-unwind-tables", "-Wl,--gc-sections"]
+        "-fno-asynchronous-unwind-tables", "-Wl,--gc-sections", "-DLIS_NO_MALLOC", f"{OURS}/heap.c", f"{OURS}/lent.c"]
 RESULTS = "GLU 5.4 mmol/L\nNA 139 mmol/L\nK 5.6 mmol/L\nGLU 4.8 mmol/L\n"
 
 

@@ -21,7 +21,7 @@ PROGRAMS = {"values": (["values.c", "names.c", "pieces.c", "heap.c"], re.escape(
             "resume": (["../../tests/ffi/resume.c", "pieces.c", "heap.c"], r"\d+ compared\n"),
             "null": (["../../tests/ffi/null.c", "heap.c"], r"\d+ compared\n"),
             "long": (["../../tests/ffi/long.c"], r"\d+ compared\n"),
-            "within": (["../../tests/ffi/within.c", "heap.c"], r"\d+ compared\n"),
+            "within": (["../../tests/ffi/within.c", "lent.c"], r"\d+ compared\n"),
             "station": (["../../tests/ffi/station.c"], r"\d+ compared\n"),
             "careful": (["../../tests/ffi/careful.c", "heap.c"], r"\d+ compared\n"),
             "parts": (["../../tests/ffi/parts.c", "heap.c"], r"\d+ compared\n"),

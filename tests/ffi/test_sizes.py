@@ -8,6 +8,8 @@ from tests import ROOT, kit
 from tests.ffi.c import BARE, HEADER, WARNINGS, source
 
 KINDS = ["scanner", "sender", "receiver", "station", "reader", "writer"]
+#: What only src/c/heap.c calls, for malloc and for a variable of a thread.
+OF_THE_HEAP = {"malloc", "realloc", "free", "__tls_get_addr", "_GLOBAL_OFFSET_TABLE_"}
 PRINTS = "".join(f'printf("{it} %zu %zu %d\\n", lis_{it}_size(), lis_{it}_align(), LIS_{it.upper()}_BLOCK);\n'
                  for it in KINDS)
 #: A program whose own heap has the names of the library's: the shared library must not call it.
@@ -73,7 +75,7 @@ class Sizes(kit.Test):
         if self.runs([*BARE, source("bare.c"), self.archive, "-o", f"{self.work}/bare"]):
             words = ["size", "-A", f"{self.work}/bare"]
             lines = subprocess.run(words, capture_output=True, text=True, check=True).stdout
-            (code,), (room,) = self.figures("`examples/c/bare.c`, linked"), self.figures("its blocks, buffers and pool")
+            (code,), (room,) = self.figures("`examples/c/bare.c`, linked"), self.figures("its blocks and buffers")
             self.near("code of bare.c", code, code_of(f"{self.work}/bare"))
             self.near("blocks of bare.c", room, int(re.search(r"^\.bss\s+(\d+)", lines, re.M)[1]))
 
@@ -81,7 +83,7 @@ class Sizes(kit.Test):
         calls = symbols("-u", f"{self.build}/liblislink.a") - symbols("--defined-only", f"{self.build}/liblislink.a")
         said = re.search(r"It calls ((?:`\w+`(?:, | and )?)+)", self.page)
         self.same("docs/library.md: what the library calls", set(re.findall(r"\w+", said[1])) - {"and"},
-                  calls - {"malloc", "realloc", "free"})
+                  calls - OF_THE_HEAP)
         declared = set(re.findall(r"^(?:const char \*|\w+ )(lis_\w+)\(", kit.read(HEADER), re.M))
         shared = f"{self.build}/liblislink.so.1"
         self.same("what liblislink.so.1 exports", symbols("-D", "--defined-only", shared) - {"LISLINK_1"}, declared)

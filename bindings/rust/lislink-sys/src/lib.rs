@@ -408,6 +408,11 @@ extern "C" {
     pub fn lis_receiver_set_room(s: *mut lis_receiver, room: bool);
     pub fn lis_receiver_set_ready(s: *mut lis_receiver, readiness: lis_ready) -> lis_status;
     pub fn lis_receiver_reserve(s: *mut lis_receiver, bytes: u64) -> lis_status;
+    pub fn lis_receiver_lend(
+        s: *mut lis_receiver,
+        buffer: *mut u8,
+        buffer_len: usize,
+    ) -> lis_status;
     pub fn lis_receiver_set_text_limit(s: *mut lis_receiver, bytes: usize) -> lis_status;
     pub fn lis_receiver_set_careful(s: *mut lis_receiver, careful: bool);
     pub fn lis_receiver_noise(s: *const lis_receiver) -> u64;
@@ -466,6 +471,12 @@ extern "C" {
     pub fn lis_station_noise(s: *const lis_station) -> u64;
     pub fn lis_station_awaits_reply(s: *const lis_station) -> bool;
     pub fn lis_station_reserve(s: *mut lis_station, bytes: u64) -> lis_status;
+    pub fn lis_station_lend(
+        s: *mut lis_station,
+        role: lis_role,
+        buffer: *mut u8,
+        buffer_len: usize,
+    ) -> lis_status;
     pub fn lis_station_phase(s: *const lis_station) -> lis_phase;
     pub fn lis_station_outcome(s: *const lis_station) -> lis_outcome;
     pub fn lis_station_acknowledged(s: *const lis_station) -> u64;
