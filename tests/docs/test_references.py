@@ -68,9 +68,10 @@ class References(kit.Test):
         self.check(status != 0 and all(it in said for it in words), f"{part}: {words} isn't noticed", said)
 
     def test_c(self):
-        self.needs("doxygen", shutil.which("doxygen"), 10, "the reference of C and C++")
-        self.is_whole("c", ["group__part0.html", "classlislink_1_1receiver.html"])
+        self.needs("doxygen", shutil.which("doxygen"), 11, "the reference of C and C++")
+        out = self.is_whole("c", ["group__part0.html", "classlislink_1_1receiver.html"])
         work = self.copy()
+        self.same("the reference that is made in another folder", files_of(self.build("c", work)[2]), files_of(out))
         self.change(work, "include/lislink.h", "/* Drops the texts of the next session. */\nvoid lis_sender_clear(",
                     "/* Forgets the texts of the next session, all of\n * them. */\nvoid lis_sender_clear(")
         self.check(self.build("c", work)[0] == 0, "other words in a comment")
@@ -117,6 +118,16 @@ class References(kit.Test):
                 file.write(text)
         wanted = [f"{name}: {link}" for name, (_, links) in PAGES.items() for link in links]
         self.same("dead links, of 7", dead_links(work), (wanted, 7))
+
+
+def files_of(folder):
+    """The bytes of the files in a folder, by their names."""
+    found = {}
+    for path, _, names in os.walk(folder):
+        for name in names:
+            with open(os.path.join(path, name), "rb") as file:
+                found[os.path.relpath(os.path.join(path, name), folder)] = file.read()
+    return found
 
 
 def is_told(it):
