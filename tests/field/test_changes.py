@@ -116,7 +116,7 @@ def results(found):
 
 class Changes(FieldTest):
     def test_words(self):
-        """Records that end in a word for CR, with a line end or without: mended, or reported, and never read as
+        """Records that end in a word for CR, with a line end or without: fixed, or reported, and never read as
         values."""
         for word in WORDS:
             for end in ENDS:
@@ -126,10 +126,10 @@ class Changes(FieldTest):
                 if word == b"^M" and not end:  # a component that begins with M looks the same
                     self.same(f"{name}: status", (ran.status, explained.status), (1, 1))
                     self.has(f"{name}: told", ran.error, "a result is gone: 'R|1|^^^GLU|5.4|mmol/L'")
-                    self.check("mended by" not in explained.text, f"{name}: explained", explained.text)
+                    self.check("fixed by" not in explained.text, f"{name}: explained", explained.text)
                 else:
-                    self.same(f"{name}: mended", (ran.status, ran.output), (0, GOOD))
-                    self.has(f"{name}: explained", explained.text, "mended by: lislab normalize --cr-words\n")
+                    self.same(f"{name}: fixed", (ran.status, ran.output), (0, GOOD))
+                    self.has(f"{name}: explained", explained.text, "fixed by: lislab normalize --cr-words\n")
                 for option in ("--lf", "--crlf", "--last-cr", "--last-l"):
                     ran = lislab("normalize", option, data=data)
                     self.same(f"{name}: {option} alone", ran.status, 1)
@@ -139,7 +139,7 @@ class Changes(FieldTest):
             self.same(f"a value that looks like one: {value!r}", (ran.status, ran.output), (0, data))
 
     def test_one_line(self):
-        """Records on one line, each with ^M for its CR: mended if no value can begin with M and a record's letter,
+        """Records on one line, each with ^M for its CR: fixed if no value can begin with M and a record's letter,
         else reported."""
         plain = [record for record in RECORDS if b"MC" not in record]
         lines = {
@@ -155,8 +155,8 @@ class Changes(FieldTest):
                 data = b"".join(record + b"^M" for record in records) + end
                 ran, explained = lislab("normalize", "--all", data=data), lislab("normalize", "--explain", data=data)
                 wanted = b"".join(record + b"\r" for record in records)
-                self.same(f"{name}, {end}: mended {ran.error}", (ran.status, ran.output), (0, wanted))
-                self.has(f"{name}, {end}: explained", explained.text, "mended by: lislab normalize --cr-words\n")
+                self.same(f"{name}, {end}: fixed {ran.error}", (ran.status, ran.output), (0, wanted))
+                self.has(f"{name}, {end}: explained", explained.text, "fixed by: lislab normalize --cr-words\n")
                 self.has(f"{name}, {end}: told", ran.error, "line 1: ^M became a CR")
         doubtful = {
             "a test MC with the value 7": [*plain[:4], b"R|2|^^^MC|7", *plain[4:]],
@@ -172,7 +172,7 @@ class Changes(FieldTest):
             ran, explained = lislab("normalize", "--all", data=data), lislab("normalize", "--explain", data=data)
             self.same(f"{name}: status {ran.output}", (ran.status, explained.status), (1, 1))
             self.has(f"{name}: told", ran.error, "a result is gone: 'R|")
-            self.check("mended by" not in explained.text, f"{name}: explained", explained.text)
+            self.check("fixed by" not in explained.text, f"{name}: explained", explained.text)
 
     def test_told(self):
         """What a change does to a result is printed, and the status is 1."""
@@ -192,7 +192,7 @@ class Changes(FieldTest):
                 ran = lislab("normalize", *options, data=data)
                 self.same(f"{name}: status of {options[0]}", ran.status, 1)
                 self.has(f"{name}: told by {options[0]}", ran.error, words)
-            self.check("mended by" not in lislab("normalize", "--explain", data=data).text, f"{name}: explained")
+            self.check("fixed by" not in lislab("normalize", "--explain", data=data).text, f"{name}: explained")
         long = GOOD.replace(b"L|1", b"R|3|^^^K|" + b"x" * 66000 + b"\rC|1|I|y\rR|4|^^^NA|139\rL|1")
         ran = lislab("normalize", "--long", data=long)
         kept = GOOD.replace(b"L|1", b"R|4|^^^NA|139\rL|1")
@@ -224,17 +224,17 @@ class Changes(FieldTest):
         """No change that `--all` makes in a sample changes a result, and a sample that is read stays as it is."""
         paths = glob.glob(os.path.join(ROOT, "samples", "**", "*.records"), recursive=True)
         self.check(len(paths) > 25, "there are samples", str(len(paths)))
-        mended = 0
+        fixed = 0
         for path in paths:
             with open(path, "rb") as file:
                 data = file.read()
             out, told, _ = normalize.normalize(data, set(normalize.ALL))
             self.same(f"{os.path.basename(path)}: no result is changed", list(normalize.changed_lines(data, out)), [])
-            mended += bool(told) and not any(normalize.rejected_lines(out))
-        self.check(mended > 15, "samples are mended", str(mended))
+            fixed += bool(told) and not any(normalize.rejected_lines(out))
+        self.check(fixed > 15, "samples are fixed", str(fixed))
 
     def test_generated(self):
-        """If nothing is printed of a file, its results are those that it was made of; most files are mended."""
+        """If nothing is printed of a file, its results are those that it was made of; most files are fixed."""
         chance, wrong, good, told = random.Random(31), [], 0, 0
         names = list(normalize.CHANGES)
         for number in range(FILES):
@@ -252,4 +252,4 @@ class Changes(FieldTest):
             if list(results(found)) != file.results:
                 wrong.append((data, sorted(asked) if number % 4 == 0 else "--all"))
         self.same("no result is changed or gone unsaid", wrong[:3], [])
-        self.check(good > FILES // 2 and told > FILES // 100, "files are mended, and others told", f"{good}, {told}")
+        self.check(good > FILES // 2 and told > FILES // 100, "files are fixed, and others told", f"{good}, {told}")

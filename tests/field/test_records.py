@@ -200,7 +200,7 @@ class Records(FieldTest):
         self.same("normalize: frames", ran.output, head + b"P|1|x\rL|1\r")
         for name, data in (("R without O", BAD), ("O without P", head + b"O|1\rL|1\r")):
             ran = lislab("normalize", "--all", data=data)
-            self.same(f"normalize: {name} isn't mended by --all", (ran.status, ran.output), (1, data))
+            self.same(f"normalize: {name} isn't fixed by --all", (ran.status, ran.output), (1, data))
             self.has(f"normalize: {name} names the option", ran.error, "--orders wasn't asked for")
             ran = lislab("normalize", "--orders", data=data)
             self.same(f"normalize: {name} by --orders", ran.status, 0)
@@ -216,7 +216,7 @@ class Records(FieldTest):
         self.has(
             "normalize: explained in one line",
             lislab("normalize", "--explain", data=mess).text,
-            "mended by: lislab normalize --bom --nul --crlf --lf --blank --header-3 --last-cr",
+            "fixed by: lislab normalize --bom --nul --crlf --lf --blank --header-3 --last-cr",
         )
         self.same("normalize: nothing is left to explain", lislab("normalize", "--explain", data=GOOD).status, 0)
 

@@ -55,6 +55,15 @@ FAULTS = {
     "test_schema.Versions.test_version_1": Edit(
         "model/sql.py", "                if name not in known:\n", "                if not known:\n"
     ),
+    "test_schema.Versions.test_version_2": Edit(
+        "model/schema.py", "'fixed' || substr(reason, 7)", "'fixed' || substr(reason, 8)"
+    ),
+    "test_schema.Versions.test_spool": Edit(
+        "model/spool.py", "for name in sorted(os.listdir(earlier)):", "for name in ():"
+    ),
+    "test_postgres.Postgres.test_earlier_tables": Edit(
+        "model/postgresql.py", '"DROP VIEW IF EXISTS pg_temp.message"', '"SELECT 1"'
+    ),
     "test_schema.Versions.test_later": Edit(
         "model/sqlite.py", "            self.refuse_later()\n            if self", "            if self"
     ),
@@ -118,8 +127,8 @@ FAULTS = {
     "test_intake.Streams.test_places": Edit("host/intake.py", "place = one.ended + error.place", "place = error.place"),
     "test_intake.Streams.test_random_streams": Edit(
         "host/intake.py",
-        'self._add(one, text[:start], changes)\n            self._end(UNFINISHED, _after(one, "a header',
-        'self._end(UNFINISHED, _after(one, "a header',
+        'self._add(one, text[:start], changes)\n            self._end(INCOMPLETE, _after(one, "a header',
+        'self._end(INCOMPLETE, _after(one, "a header',
     ),
     "test_kills.Kills.test_sqlite": Edit(
         "model/sqlite.py",
@@ -130,7 +139,7 @@ FAULTS = {
         "model/spool.py",
         "for name in os.listdir(self._path(OPEN)):\n            if name.split(\".about\")[0] not in left:\n"
         "                os.unlink(self._path(OPEN, name))",
-        "for name in os.listdir(self._path(WHOLE)):\n            os.unlink(self._path(WHOLE, name))",
+        "for name in os.listdir(self._path(COMPLETE)):\n            os.unlink(self._path(COMPLETE, name))",
     ),
     "test_kills.Kills.test_failing_store": Edit(
         "host/commits.py",
@@ -225,7 +234,7 @@ FAULTS = {
         "cli/host.py", "return WRONG if found.faults else GOOD", "return GOOD"
     ),
     "test_lines_file.LinesFile.test_faults": Edit(
-        "model/lines.py", "setdefault(optionstr, self._row)", "setdefault(optionstr, self._row - 1)"
+        "model/lines.py", "setdefault(key, self._row)", "setdefault(key, self._row - 1)"
     ),
     "test_lines_file.LinesFile.test_reloads": Edit("host/serve.py", "if place not in now:", "if place.name:"),
     "test_lines_file.LinesFile.test_serial": Edit(
@@ -241,25 +250,30 @@ FAULTS = {
         "            self.apply(units)\n"
         '            self.__dict__.setdefault("units", []).append((units, bytes(1 << 17)))\n',
     ),
-    "test_mends.Mends.test_each": Edit(
-        "host/mender.py", "for name in NAMES if name in self.names or name in more)", "for name in more)"
+    "test_renamed.Renamed.test_keys": Edit("model/renamed.py", "    if old not in _REPORTED:\n", "    if True:\n"),
+    "test_renamed.Renamed.test_states": Edit("model/renamed.py", 'report(f"--state {word}"', 'report(f"{word}"'),
+    "test_renamed.Renamed.test_options": Edit(
+        "model/renamed.py", '("send", "--ask"): "--query",', '("send", "--ask"): "--quarry",'
     ),
-    "test_mends.Mends.test_line_feeds": Edit(
+    "test_fixes.Fixes.test_each": Edit(
+        "host/fixer.py", "for name in NAMES if name in self.names or name in more)", "for name in more)"
+    ),
+    "test_fixes.Fixes.test_line_feeds": Edit(
         "host/feeds.py", "(int(digits, 16) + count) % 256", "sum(body[1:].replace(_LF, _VT) + end) % 256"
     ),
-    "test_mends.Mends.test_not_mended": Edit(
-        "host/mend.py", "gone_of_results(body, out) != _long_results(body, names) or", ""
+    "test_fixes.Fixes.test_not_fixed": Edit(
+        "host/fix.py", "gone_of_results(body, out) != _long_results(body, names) or", ""
     ),
-    "test_mends.Mends.test_query": Edit("host/duplex.py", ".take(body[: QUERY + 1])", ".take(body[:9])"),
-    "test_mends.Mends.test_repeats": Edit("cli/host.py", "place.name: place.mend for", "place.name: () for"),
-    "test_mends.Mends.test_left": Edit("host/left.py", 'one.body.endswith((b"\\r", b"\\n"))', "False"),
-    "test_mends.Mends.test_order": Edit("host/line.py", "            await self._mender.order.over()", "            pass"),
-    "test_mends.Mends.test_a_stop_starts_nothing": Edit("host/mender.py", "        self._is_stopped = True\n", ""),
-    "test_mends.Mends.test_tries_delay_nobody": Edit("host/mender.py", 'self._run("tries", ', 'self._run("short", '),
-    "test_mends.Mends.test_streams": Edit(
-        "host/mend.py", "data[one.start : one.ends[-1]]", "data[one.start : one.ends[-1] - 1]"
+    "test_fixes.Fixes.test_query": Edit("host/duplex.py", ".take(body[: QUERY + 1])", ".take(body[:9])"),
+    "test_fixes.Fixes.test_repeats": Edit("cli/host.py", "place.name: place.fix for", "place.name: () for"),
+    "test_fixes.Fixes.test_left": Edit("host/left.py", 'one.body.endswith((b"\\r", b"\\n"))', "False"),
+    "test_fixes.Fixes.test_order": Edit("host/line.py", "            await self._fixer.order.over()", "            pass"),
+    "test_fixes.Fixes.test_a_stop_starts_nothing": Edit("host/fixer.py", "        self._is_stopped = True\n", ""),
+    "test_fixes.Fixes.test_tries_delay_nobody": Edit("host/fixer.py", 'self._run("tries", ', 'self._run("short", '),
+    "test_fixes.Fixes.test_streams": Edit(
+        "host/fix.py", "data[one.start : one.ends[-1]]", "data[one.start : one.ends[-1] - 1]"
     ),
-    "test_mends.Mends.test_words": Edit(
+    "test_fixes.Fixes.test_words": Edit(
         "model/options.py", "tuple(one for one in NAMES if one in given)", "tuple(given)"
     ),
     "test_noise.Noise.test_one_byte": Edit("host/serve.py", 'place.careful != "no"', "False"),
@@ -267,7 +281,7 @@ FAULTS = {
         "host/line.py", "            self._tell(Noise(self._noise - before))\n", ""
     ),
     "test_noise.Careful.test_anew": Edit("host/serve.py", 'place.careful != "no"', "True"),
-    "test_noise.Careful.test_mends": Edit("host/feeds.py", "_ENDS if is_careful else _BREAKS", "_BREAKS"),
+    "test_noise.Careful.test_fixes": Edit("host/feeds.py", "_ENDS if is_careful else _BREAKS", "_BREAKS"),
     "test_notices.Said.test_a_bad_line": Edit(
         "diagnosis/notices.py",
         "[kind] += 1\n            return\n",
@@ -379,7 +393,7 @@ FAULTS = {
     "test_postgres.Postgres.test_later_tables": Edit(
         "model/sql.py", "        if found > SCHEMA:\n", "        if found > 99:\n"
     ),
-    "test_postgres.Postgres.test_mends": Edit("model/sql.py", "(one.key, one.state, one.reason,", '(one.key, one.state, "",'),
+    "test_postgres.Postgres.test_fixes": Edit("model/sql.py", "(one.key, one.state, one.reason,", '(one.key, one.state, "",'),
     "test_postgres.Postgres.test_name_of_a_killed_host": Edit(
         "model/postgresql.py", "_NAME_SECONDS = 3.0", "_NAME_SECONDS = 0.0"
     ),
@@ -393,11 +407,11 @@ FAULTS = {
         "model/postgresql.py", "return bool(self.run(\"SELECT pg_try", "return not bool(self.run(\"SELECT pg_try"
     ),
     "test_postgres.RepeatsOfPostgres.test_left_open": Edit(
-        "model/sql.py", "yield one._replace(state=UNFINISHED, reason=LEFT) if one.state == OPEN else one", "yield one"
+        "model/sql.py", "yield one._replace(state=INCOMPLETE, reason=LEFT) if one.state == OPEN else one", "yield one"
     ),
     "test_postgres.RepeatsOfPostgres.test_each_write": Edit(
         "model/sql.py",
-        "again_of IS NULL AND state = '{WHOLE}'\"\n            first",
+        "again_of IS NULL AND state = '{COMPLETE}'\"\n            first",
         "again_of IS NULL\"\n            first",
     ),
     "test_postgres.Postgres.test_start_while_another_commits": Edit(
@@ -408,8 +422,8 @@ FAULTS = {
     ),
     "test_repeats.RepeatsOfSpool.test_each_write": Edit(
         "model/spool.py",
-        "        elif end.state == WHOLE:\n            self._write_mark()\n",
-        "        elif end.state == WHOLE:\n",
+        "        elif end.state == COMPLETE:\n            self._write_mark()\n",
+        "        elif end.state == COMPLETE:\n",
     ),
     "test_repeats.RepeatsOfSpool.test_left_open": Edit(
         "model/spool.py", "left = [] if self.is_held() else", "left = [] if not self.is_held() else"
@@ -426,7 +440,7 @@ FAULTS = {
     ),
     "test_repeats.RepeatsOfSqlite.test_each_write": Edit(
         "model/sql.py",
-        "again_of IS NULL AND state = '{WHOLE}'\"\n            first",
+        "again_of IS NULL AND state = '{COMPLETE}'\"\n            first",
         "again_of IS NULL\"\n            first",
     ),
     "test_said.Said.test_signs_for_a_terminal": Edit("watch/status.py", "shown(row) + ", "row + "),
@@ -552,7 +566,7 @@ FAULTS = {
         "watch/metrics.py", "            total += count\n", "            total = count\n"
     ),
     "test_watch_page.Looks.test_pages_of_a_spool": Edit(
-        "model/spool.py", "in self._listed(WHOLE)[: -AMONG - 1 : -1])", "in self._listed(WHOLE)[-AMONG:])"
+        "model/spool.py", "in self._listed(COMPLETE)[: -AMONG - 1 : -1])", "in self._listed(COMPLETE)[-AMONG:])"
     ),
     "test_watch_page.Looks.test_notify": Edit(
         "watch/notify.py", "if before is None or (before", "if before or (before"
@@ -635,8 +649,8 @@ HARMLESS = (
     ),
     Edit(
         "watch/status.py",
-        '                "whole": one.whole if one else 0,\n                "again": one.again if one else 0,\n',
-        '                "again": one.again if one else 0,\n                "whole": one.whole if one else 0,\n',
+        '                "complete": one.complete if one else 0,\n                "again": one.again if one else 0,\n',
+        '                "again": one.again if one else 0,\n                "complete": one.complete if one else 0,\n',
     ),
     Edit(
         "diagnosis/pulse.py",
@@ -646,7 +660,7 @@ HARMLESS = (
     Edit("diagnosis/ring.py", "        self.next += 1\n", "        self.next = 1 + self.next\n"),
     Edit("model/options.py", "return found[1] or found[2] or", "return found[2] or found[1] or"),
     Edit(
-        "host/mender.py",
+        "host/fixer.py",
         "        names = self.names if one.is_over else self.names - MAKES_AN_END\n",
         "        names = self.names - (frozenset() if one.is_over else MAKES_AN_END)\n",
     ),

@@ -75,10 +75,10 @@ FAULTS = {
     ),
     "test_fhir.Fhir.test_fields": ("outbound/fhir.py", 'return f"{data:f}"', "return str(float(data))"),
     "test_dialects.Dialects.test_links": (
-        "host/mend.py", "if not names & _AT_THE_END or _messages", "if names & _AT_THE_END or _messages"
+        "host/fix.py", "if not names & _AT_THE_END or _messages", "if names & _AT_THE_END or _messages"
     ),
     "test_dialects.Dialects.test_records": (
-        "host/mend.py", "are_comments or not normalize(body, set(names))[0]", "are_comments"
+        "host/fix.py", "are_comments or not normalize(body, set(names))[0]", "are_comments"
     ),
     "test_fhir.Fhir.test_structure": (
         "outbound/fhir.py", '_STATUS.get(result.status, "unknown")', "_STATUS.get(result.status, result.status)"
@@ -121,15 +121,15 @@ FAULTS = {
         "if one.take(asked.tables.get(name))]",
         "if one.table is None and one.take(asked.tables.get(name))]",
     ),
-    "test_mends.Mends.test_limits": ("host/mender.py", "<= MOST_RECORDS", "<= 2 * MOST_RECORDS"),
-    "test_mends.Mends.test_long_records": (
+    "test_fixes.Fixes.test_limits": ("host/fixer.py", "<= MOST_RECORDS", "<= 2 * MOST_RECORDS"),
+    "test_fixes.Fixes.test_long_records": (
         "field/normalize.py", '(b"R", b"C", b"M", b"S") and', '(b"R", b"C", b"M") and'
     ),
-    "test_mends.Mends.test_long_parts": ("field/compare.py", "in _pieces(text)) == 1", "in _pieces(text)) >= 1"),
-    "test_mends.Mends.test_long_query": (
-        "host/mender.py", "if is_small and (names or has_long(one.body)) else", "if is_small and names else"
+    "test_fixes.Fixes.test_long_parts": ("field/compare.py", "in _pieces(text)) == 1", "in _pieces(text)) >= 1"),
+    "test_fixes.Fixes.test_long_query": (
+        "host/fixer.py", "if is_small and (names or has_long(one.body)) else", "if is_small and names else"
     ),
-    "test_mends.Mends.test_long_random": (
+    "test_fixes.Fixes.test_long_random": (
         "field/normalize.py", 'is_of_one or letter == b"R"', 'is_of_one or letter in (b"R", b"C", b"M", b"S")'
     ),
     "test_mllp.Oru.test_fields": ("outbound/oru.py", "10: control_id(one.key, place),", "10: one.line,"),

@@ -30,7 +30,7 @@ FAULTS = {
     ),
     "test_failed.Ways.test_help": ("cli/order.py", ", epilog=_STATES", ""),
     "test_failed.Ways.test_queries": (
-        "watch/status.py", 'for one in ("connected", "queries",', 'for one in ("connected", "whole",'
+        "watch/status.py", 'for one in ("connected", "queries",', 'for one in ("connected", "complete",'
     ),
     "test_names.Names.test_watch": ("diagnosis/board.py", "    look()  # a line", "    pass  # a line"),
     "test_names.Names.test_page": ("watch/web.py", "page.no_line_page(lines)", "page.no_line_page([])"),

@@ -65,7 +65,7 @@ STREAMS = {
     "ETX where it doesn't belong next to good ones": (GOOD + all_of([b"\x02\x03E5\r\n"] * 3), "shape", CABLE),
     "too long": (all_of([frame(1, b"C|1|" + b"x" * 300)] * 3), "long",
                  "`frame=63993`"),
-    "LF in the text": (all_of([b"\x021H|\\^&\r\nP|1\r\n\x0300\r\n"] * 3), "lf-in-text", "mend=lf"),
+    "LF in the text": (all_of([b"\x021H|\\^&\r\nP|1\r\n\x0300\r\n"] * 3), "lf-in-text", "fix=lf"),
     "no CR": (all_of([b"\x021H|\\^&\r\x03E5\n"] * 3), "no-cr", "must end a frame in CR and LF"),
     "no checksum": (all_of([b"\x021H|\\^&\r\x03\r\n"] * 3), "no-sum", "another dialect"),
     "number 9": (all_of([body(b"9H|\r\x03")] * 3), "number-over-7", "count modulo 8"),
@@ -92,7 +92,7 @@ class Advice(HostTest):
     """Each fault that both name."""
 
     def test_advice(self):
-        """Both say the same about each; where a capture can be mended, a ladder says that too."""
+        """Both say the same about each; where a capture can be fixed, a ladder says that too."""
         seen = set()
         for name, (stream, look, wanted) in STREAMS.items():
             found, looks = told(stream)

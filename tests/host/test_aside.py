@@ -11,7 +11,7 @@ import unittest.mock
 from lislab.outbound import deliver
 from lislab.model import files
 from lislab.watch import status
-from lislab.model.store import WHOLE, Add, Begin, End, StoreError
+from lislab.model.store import COMPLETE, Add, Begin, End, StoreError
 from lislab.model.stores import open_store
 from lislab.outbound import aside
 from tests.host.hosts import HostTest, lislab, process, wait_for
@@ -33,7 +33,7 @@ def keep(store, bodies, line="fire"):
         [
             Begin(key, line, "10.0.0.7", "latin-1", 1767225600.0 + at),
             Add(key, 0, 1767225600.0 + at, body),
-            End(key, line, WHOLE, "", key, len(body), 1767225601.0 + at),
+            End(key, line, COMPLETE, "", key, len(body), 1767225601.0 + at),
         ]
         for at, (key, body) in enumerate(zip(keys, bodies))
     ])
@@ -211,8 +211,8 @@ class Asides(HostTest):
             for place in range(100):
                 cursor, taken = self.path(f"each{is_late}{place}.cursor"), []
                 with Dying(place, is_late) as dying:
-                    for mended in (False, False, True, True):
-                        self.rounds(store, cursor, keys, taken, mended)
+                    for fixed in (False, False, True, True):
+                        self.rounds(store, cursor, keys, taken, fixed)
                 where = f"{'after' if is_late else 'before'} write {place}"
                 self.same(f"{where}: none is lost", sorted(set(taken)), keys)
                 for sample in "ABCD":
@@ -222,11 +222,11 @@ class Asides(HostTest):
                     break
         self.true("there are writes", place > 10, str(place))
 
-    def rounds(self, store, cursor, keys, taken, mended):
-        """A delivery that fails for the first message until that is mended; then what was set aside."""
+    def rounds(self, store, cursor, keys, taken, fixed):
+        """A delivery that fails for the first message until that is fixed; then what was set aside."""
 
         def take(one):
-            if one.key == keys[0] and not mended:
+            if one.key == keys[0] and not fixed:
                 raise deliver.Refused("as the test has it")
             return not taken.append(one.key)
 

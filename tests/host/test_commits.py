@@ -56,12 +56,12 @@ class Owed(HostTest):
 
         async def runs():
             given = [unittest.mock.Mock(names=frozenset(), bodies={}) for _ in range(5)]
-            wire, intake, committer, observers, mender = given
+            wire, intake, committer, observers, fixer = given
             kept.append(asyncio.get_running_loop().create_future())
             committer.put_later.return_value = kept[0]
             turns, counts = line.Turns(), Counter()
             say = lambda *row: said.append(row)  # noqa: E731
-            one = line.Line(line.Parts(wire, intake, observers, say, counts, mender, committer, turns))
+            one = line.Line(line.Parts(wire, intake, observers, say, counts, fixer, committer, turns))
             one._put_later(ended("1"))
             await asyncio.sleep(0)
             before = counts["messages"], one.last

@@ -106,12 +106,12 @@ class Connect(HostTest):
         self.same("what is said", trouble(host.errors[0]), [])
 
     def test_orders(self):
-        """A line with `orders=send` sends what waits for it."""
+        """A line with `orders=download` sends what waits for it."""
         analyzer, store = Listening(self), self.path("orders.db")
         book = open_book(store)
         book.add([Order("S7", ("GLU", "K"))])
         book.close()
-        host = Host(store, "--connect", analyzer.word("name=a", "orders=send"), scale=SCALE, listen=False)
+        host = Host(store, "--connect", analyzer.word("name=a", "orders=download"), scale=SCALE, listen=False)
         self.same("the orders", samples_of(analyzer.accept().take()), ["S7"])
         self.true("they are sent", wait_for(lambda: states(store) == {"S7": "sent"}), states(store))
         self.same("the host's status", host.stop(), 0)
@@ -244,8 +244,8 @@ class Connect(HostTest):
             found = lines.read_lines(self.written(a=rows), [])
             self.has(rows, "".join(found.faults), why)
             self.same(f"{rows}: faults", len(found.faults), 1)
-        (place,) = lines.lines_of(self.written(a="connect = [2001:db8::7]:4001\norders = ask"), []).places
-        shown = f"a: connect=[2001:db8::7]:4001 frame=240 encoding={options.LATIN} orders=ask none=L-I"
+        (place,) = lines.lines_of(self.written(a="connect = [2001:db8::7]:4001\norders = query"), []).places
+        shown = f"a: connect=[2001:db8::7]:4001 frame=240 encoding={options.LATIN} orders=query none=L-I"
         self.same("a line as it is shown", lines.text_of(place), shown)
 
     def test_pauses(self):

@@ -19,7 +19,7 @@ import unittest.mock
 from lislab.outbound import aside, https, oru
 from lislab.model.failures import Refused, Unreachable
 from lislab.outbound import deliver
-from lislab.model.store import WHOLE, Add, Begin, End
+from lislab.model.store import COMPLETE, Add, Begin, End
 from lislab.model.stores import open_store
 from tests.host import hosts
 from tests.host.hosts import ENV, HostTest, lislab, process, wait_for
@@ -147,7 +147,7 @@ class Deliver(HostTest):
         store = open_store(self.path("again.db"))
         store.start("h")
         for key in ("00a1", "00a2"):
-            added = [Add(key, 0, 1767225600.0, GOOD), End(key, "fire", WHOLE, "", "digest", len(GOOD), 1767225601.0)]
+            added = [Add(key, 0, 1767225600.0, GOOD), End(key, "fire", COMPLETE, "", "digest", len(GOOD), 1767225601.0)]
             store.commit([[Begin(key, "fire", "10.0.0.7", "latin-1", 1767225600.0), *added]])
         store.close()
         for words, wanted in (([], 2), (["--without-repeats"], 1)):
@@ -158,7 +158,7 @@ class Deliver(HostTest):
             shutil.rmtree(self.path("again.d"))
             self.same(f"repeats {words}", (done.returncode, len(files)), (0, wanted))
         _, files, _ = self.deliver("cells", bodies, "--format", "csv", "--safe-cells", "--fields", "test,value,op=R.11")
-        self.same("columns", files[1].splitlines(), ["number,line,received,again_of,test,value,op,mended,control",
+        self.same("columns", files[1].splitlines(), ["number,line,received,again_of,test,value,op,fixed,control",
                                                      files[1].splitlines()[1]])
         self.has("a formula is none", files[1], "GLU,'=1+1,,,Q")
         self.has("a control's patient", self.deliver("all", [])[1][1], ",QC1,,GLU,")

@@ -53,7 +53,7 @@ class Named(Hides):
         book.add([Order(f"S{at}", ("K",), line="asks" if at == 2 else "", name=name)
                   for at, name in enumerate(NAMES, 1)])
         book.close()
-        line = "127.0.0.1:0,name=asks,orders=send,encoding=ascii"
+        line = "127.0.0.1:0,name=asks,orders=download,encoding=ascii"
         host = Host(self.store, "--status", self.path("state"), "--tries", "1", "--listen", line, "--listen",
                     "127.0.0.1:0,name=other", listen=False, scale=SLOW)
         one = Plain(port_of(host, "asks"), SLOW)
@@ -88,7 +88,7 @@ class Named(Hides):
         host.kill()
         told, code = self.watched()
         self.same("without a host: status", code, 1)
-        self.assertRegex(told, r"asks +bad +the host isn't running; 0 whole messages; 3 orders failed since ")
+        self.assertRegex(told, r"asks +bad +the host isn't running; 0 complete messages; 3 orders failed since ")
         host.start()
         self.true("named again", wait_for(lambda: self.seen()["verdict"] == "failed-orders", WAIT), str(self.seen()))
         self.same("state", self.seen()["state"], "bad")
@@ -143,7 +143,7 @@ class Ways(Hides, HostTest):
         book = open_book(store)
         book.add([Order(f"S{name}", ("K",), line=name) for name in ways])
         book.close()
-        words = [word for name in ways for word in ("--listen", f"127.0.0.1:0,name={name},orders=send")]
+        words = [word for name in ways for word in ("--listen", f"127.0.0.1:0,name={name},orders=download")]
         host = Host(store, "--tries", "1", *words, listen=False, scale=SLOW)
         lines = {name: Plain(port_of(host, name), SLOW) for name in ways}
         work = [threading.Thread(target=self.plays, args=(name, one)) for name, one in lines.items()]
@@ -201,8 +201,8 @@ class Ways(Hides, HostTest):
         """A line with orders that have failed turns bad by something else: the command is run for that, too."""
         one, said = Notifier([], lambda text: None), []
         one._add = lambda name, state, verdict, says: said.append(f"{state} {verdict}")
-        for verdict in ("failed-orders", "failed-orders", "sum", "sum", "failed-orders", "echo", "whole"):
-            state = "good" if verdict == "whole" else "bad"
+        for verdict in ("failed-orders", "failed-orders", "sum", "sum", "failed-orders", "echo", "complete"):
+            state = "good" if verdict == "complete" else "bad"
             one.see({"running": True, "lines": {"a": {"state": state, "verdict": verdict, "says": ""}}})
         self.same("what is run", said, ["bad failed-orders", "bad sum", "bad echo", "good whole"])
 
@@ -254,7 +254,7 @@ class Ways(Hides, HostTest):
     def test_queries(self):
         """The status shows how many of a line's messages ask for orders."""
         store = self.path("queries.db")
-        host = Host(store, "--listen", "127.0.0.1:0,name=asks,orders=ask,none=silence", listen=False, scale=SLOW)
+        host = Host(store, "--listen", "127.0.0.1:0,name=asks,orders=query,none=silence", listen=False, scale=SLOW)
         one = Plain(port_of(host, "asks"), SLOW)
         for records in ([b"H|\\^&\r", b"Q|1|^S7||^^^ALL\r", b"L|1|N\r"], [b"H|\\^&\r", b"P|1\r", b"L|1|N\r"]):
             one.send(records)
@@ -263,7 +263,7 @@ class Ways(Hides, HostTest):
             rows = [row.split() for row in lislab("status", "--store", store).stdout.splitlines()]
             heads = next(row for row in rows if row[:1] == ["line"])
             row = dict(zip(heads, next((row for row in rows if row[:1] == ["asks"]), [])))
-            return row.get("whole"), row.get("queries")
+            return row.get("complete"), row.get("queries")
 
         self.true("counts", wait_for(lambda: counts() == ("2", "1")), str(counts()))
         one.close()

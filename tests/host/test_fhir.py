@@ -85,8 +85,8 @@ class Fhir(HostTest):
     def test_marks(self):
         """Marks of this host; the time of a sample goes before a result's."""
         rows = ["P|1", "O|1|S7", "R|1|^^^A|1", "R|2|^^^B|1"]
-        mended = bundle_of(stored(message(*rows), reason="mended from 00fe: x")).decode()
-        self.same("a mended one is marked", mended.count('{"text":"mended from 00fe: x"}'), 2)
+        fixed = bundle_of(stored(message(*rows), reason="fixed from 00fe: x")).decode()
+        self.same("a fixed one is marked", fixed.count('{"text":"fixed from 00fe: x"}'), 2)
         taken = message("P|1", "O|1|S7|||||20261127093000", "R|1|^^^A|1|||||||||20261127103500")
         taken = bundle_of(stored(taken), zone="Asia/Tokyo").decode()
         self.same("that of the sample goes before", observations(taken)[0]["effectiveDateTime"],

@@ -9,7 +9,7 @@ from lislab.outbound import deliver, export
 from lislab.host import state
 from lislab.watch import status
 from lislab.diagnosis import tape
-from lislab.model.store import UNFINISHED, WHOLE, Add, Begin, End, StoreError
+from lislab.model.store import COMPLETE, INCOMPLETE, Add, Begin, End, StoreError
 from lislab.model.stores import open_store
 from tests.host.hosts import HostTest
 
@@ -17,7 +17,7 @@ BODY = b"H|\\^&|||A\rL|1|N\r"
 FULL = OSError(errno.ENOSPC, os.strerror(errno.ENOSPC))
 
 
-def unit(key, state=WHOLE, body=BODY, digest="d"):
+def unit(key, state=COMPLETE, body=BODY, digest="d"):
     """All changes of a message."""
     line = Begin(key, "fire", "192.0.2.7", "latin-1", 1.0)
     return [line, Add(key, 0, 1.0, body), End(key, "fire", state, "", digest, len(body), 2.0)]
@@ -66,7 +66,7 @@ class Whole(HostTest):
         folder = self.path("short")
         with Disk(most=7):
             store = spool_of(folder)
-            store.commit([unit("1"), unit("2"), unit("3", UNFINISHED, digest="e")])
+            store.commit([unit("1"), unit("2"), unit("3", INCOMPLETE, digest="e")])
             found = list(store.messages())
             self.same("messages", [(one.line, one.again_of, one.body) for one in found],
                       [("fire", None, BODY), ("fire", "1", BODY)])
@@ -129,8 +129,8 @@ class Whole(HostTest):
         store.commit([unit("1"), unit("2")])
         store.close()
         self.same("an export", exported(folder, out), 0)
-        name = sorted(name for name in os.listdir(os.path.join(folder, "whole")) if name.endswith("-2.about"))[0]
-        os.truncate(os.path.join(folder, "whole", name), 9)
+        name = sorted(name for name in os.listdir(os.path.join(folder, "complete")) if name.endswith("-2.about"))[0]
+        os.truncate(os.path.join(folder, "complete", name), 9)
         with open(out, "rb") as file:
             before = file.read()
         self.raises("it is said", StoreError, lambda: list(open_store("spool:" + folder).messages()))

@@ -8,7 +8,7 @@ from lislink import Found, read_all
 from lislab.host import intake
 from lislab.host.duplex import Asking
 from lislab.host.intake import Held, Intake
-from lislab.model.store import WHOLE, Add, Begin
+from lislab.model.store import COMPLETE, Add, Begin
 from tests.host import hosts
 from tests.host.hosts import HostTest
 
@@ -119,7 +119,7 @@ def is_kept(stream, texts, by_record):
                 return False
             ends[change.key] = change
     kept = b"".join(change.body for change in changes if isinstance(change, Add))
-    wholes = [b"".join(bodies[key]) for key, end in ends.items() if end.state == WHOLE]
+    wholes = [b"".join(bodies[key]) for key, end in ends.items() if end.state == COMPLETE]
     good = all([isinstance(one, Found) for one in read_all(body)] == [True] for body in wholes)
     if by_record:
         good = good and len(wholes) == sum(isinstance(one, Found) for one in read_all(stream))

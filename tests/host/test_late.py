@@ -43,7 +43,7 @@ class Late(HostTest):
     def test_a_new_line(self):
         """With `waits=new-line` ENQ goes out again on a new connection alone, after NAK and after ENQ; that is no try,
         but an analyzer that is busy all the time gets its orders in vain."""
-        host = self.started("--listen", "0,name=asks,orders=send,waits=new-line")
+        host = self.started("--listen", "0,name=asks,orders=download,waits=new-line")
         self.true("nothing is said", SAID not in host.says(), host.says())
         for turn in range(5):
             one = Plain(ports_of(host)["asks"], SLOW)
@@ -71,7 +71,7 @@ class Late(HostTest):
     def test_the_same_line(self):
         """Without the setting ENQ goes out again on the same connection, which is said at the start; a line that sends
         no order can't have it."""
-        host = self.started("--listen", "0,name=asks,orders=send")
+        host = self.started("--listen", "0,name=asks,orders=download")
         self.has("said", host.says(), f"note: asks: {SAID}")
         one = Plain(ports_of(host)["asks"], SLOW)
         self.same("asks", one.byte(60), ENQ)
@@ -79,12 +79,12 @@ class Late(HostTest):
         self.same("sent", samples_of(one.take(60)), ["S7"])
         done = lislab("serve", "--store", self.path("no.db"), "--listen", "0,waits=new-line")
         self.same("a line without orders", done.returncode, 2)
-        self.has("why", done.stderr, "a line on which the host asks has orders = ask or send")
+        self.has("why", done.stderr, "a line on which the host asks has orders = query or download")
 
     def test_a_serial_line(self):
         """On a serial line ENQ goes out again once no late reply to the last one can come."""
         master, device = self.terminal()
-        host = self.started("--serial", f"{device}:9600,name=wire,orders=send")
+        host = self.started("--serial", f"{device}:9600,name=wire,orders=download")
 
         def byte():
             ready, _, _ = select.select([master], [], [], 120)
@@ -143,8 +143,8 @@ class Suspended(HostTest):
 
         async def runs():
             wire = unittest.mock.Mock(is_tcp=True, write=sent.append)
-            intake, committer, observers, mender = (unittest.mock.Mock(names=frozenset(), bodies={}) for _ in range(4))
-            given = wire, intake, observers, lambda *_: None, Counter(), mender, committer, Turns()
+            intake, committer, observers, fixer = (unittest.mock.Mock(names=frozenset(), bodies={}) for _ in range(4))
+            given = wire, intake, observers, lambda *_: None, Counter(), fixer, committer, Turns()
             asleep = Asleep(lambda: drift[0])
             line = Line(Parts(*given, asleep=asleep))
             intake.drop.return_value = []

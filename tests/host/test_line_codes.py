@@ -15,7 +15,7 @@ from lislab.outbound.tables import Tables
 from lislab.model import lines, options
 from lislab.host.intake import Held, Intake
 from lislab.model.options import OptionError
-from lislab.model.store import WHOLE, Add, Begin, End
+from lislab.model.store import COMPLETE, Add, Begin, End
 from lislab.model.stores import open_store
 from lislab.host.unknown import Unknown
 from lislink.message import Found, read_all
@@ -91,7 +91,7 @@ class LineCodes(HostTest):
             for line, rows in wanted.items():
                 found = tables.applied(stored(BODY, line=line)).one.body
                 self.same(f"{words}: line {line}", results(found), rows)
-        unread = stored(BODY, line="a", state="unreadable", number=None)
+        unread = stored(BODY, line="a", state="invalid", number=None)
         self.same("what isn't whole stays as it is", Tables(None, file).applied(unread).one, unread)
         store = self.path("applied.db")
         keep(store, [BODY], "a")
@@ -155,7 +155,7 @@ class LineCodes(HostTest):
         more = open_store(store)
         more.start("h")
         more.commit([[Begin("k2", "a", "p", "latin-1", 1.0), Add("k2", 0, 1.0, BODY),
-                      End("k2", "a", WHOLE, "", "k2", len(BODY), 1.0)]])
+                      End("k2", "a", COMPLETE, "", "k2", len(BODY), 1.0)]])
         more.close()
         self.true("the second", wait_for(lambda: len(names()) == 2))
         one.kill()
@@ -168,7 +168,7 @@ class LineCodes(HostTest):
 
     def test_said(self):
         """A host says which codes of a message the line's table lacks, and counts them; it reads the table again."""
-        rows = "[a]\nlisten = 127.0.0.1:0\ncodes = said.codes\nmend = nul\n[b]\nlisten = 127.0.0.1:0\n"
+        rows = "[a]\nlisten = 127.0.0.1:0\ncodes = said.codes\nfix = nul\n[b]\nlisten = 127.0.0.1:0\n"
         file = self.written("said.lines", rows)
         table = self.written("said.codes", HEAD + "GLU,GLUC,,,,\n")
         host = Host(self.path("said.db"), "--lines", file, scale=1.0, listen=False)
@@ -177,7 +177,7 @@ class LineCodes(HostTest):
         with self.sends("a", TEXTS), self.sends("b", TEXTS), self.sends("a", TEXTS[:-1]):
             self.true("a message", wait_for(lambda: f"{lacks}K 1\n" in host.says()), host.says())
         with self.sends("a", [TEXTS[0], b"P|1\0\0\r", *TEXTS[2:]]):
-            self.true("one that is mended", wait_for(lambda: host.says().count(f"{lacks}K 1\n") == 2), host.says())
+            self.true("one that is fixed", wait_for(lambda: host.says().count(f"{lacks}K 1\n") == 2), host.says())
         self.same("no other one", host.says().count(lacks), 2)
         self.shows(host, "a: codes that its table lacks: K 2\n", END, 2)
         self.reload(host, table, HEAD + "GLU,\n", f"{table}:2: the laboratory's code is missing\n")
@@ -235,7 +235,7 @@ class LineCodes(HostTest):
             ends = [one for text in random_texts(rng, body) for part in intake.take(text) for one in part
                     if isinstance(one, End)]
             found = [each for each in read_all(body, encoding) if isinstance(each, Found)]
-            counts = [unknown.ended(one.key, one.state == WHOLE) for one in ends]
+            counts = [unknown.ended(one.key, one.state == COMPLETE) for one in ends]
             messages = [stored(body, line="fire", encoding=encoding)] if found else []
             wanted = codes.unknown_of(read, lambda line: "", iter(messages))
             count = sum(one[0] for one in counts)

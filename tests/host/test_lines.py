@@ -132,18 +132,18 @@ ODD = (
     (
         [b"H|\\^&\r", b"R|1\r", b"L|1\r"],
         0,
-        ["record 2, from byte 6: no record above it that it belongs to: R; mend=orders would deliver it"],
+        ["record 2, from byte 6: no record above it that it belongs to: R; fix=orders would deliver it"],
     ),
     ([b"P|1\r", *TEXTS], 1, ["record 1, from byte 0: no header before it"]),
     (
         [b"H|\\^&\r", b"P|1\r", *TEXTS],
         1,
-        ["a header comes before its L record, after record 2, at byte 10; mend=last-l would deliver it"],
+        ["a header comes before its L record, after record 2, at byte 10; fix=last-l would deliver it"],
     ),
     (
         [b"H|\\^&\r", b"P|1\r"],
         0,
-        ["the session ended before its L record, after record 2, at byte 10; mend=last-l would deliver it"],
+        ["the session ended before its L record, after record 2, at byte 10; fix=last-l would deliver it"],
     ),
     ([GOOD[:20], GOOD[20:]], 1, []),
     ([GOOD + GOOD], 2, []),
@@ -392,9 +392,9 @@ class Lines(HostTest):
 
         async def runs():
             wire = unittest.mock.Mock(is_tcp=True, write=sent.append)
-            intake, committer, observers, mender = (unittest.mock.Mock(names=frozenset(), bodies={}) for _ in range(4))
+            intake, committer, observers, fixer = (unittest.mock.Mock(names=frozenset(), bodies={}) for _ in range(4))
             intake.drop.return_value = []
-            one = line.Line(line.Parts(wire, intake, observers, print, Counter(), mender, committer, line.Turns()))
+            one = line.Line(line.Parts(wire, intake, observers, print, Counter(), fixer, committer, line.Turns()))
             task = asyncio.ensure_future(one.run())
             await asyncio.sleep(0.01)
             one.data(ENQ, asyncio.get_running_loop().time())
@@ -410,11 +410,11 @@ class Lines(HostTest):
         async def runs(those):
             sent, heard, said = [], [], []
             wire = unittest.mock.Mock(is_tcp=True, write=sent.append)
-            intake, committer, mender = (unittest.mock.Mock(names=frozenset(), bodies={}) for _ in range(3))
+            intake, committer, fixer = (unittest.mock.Mock(names=frozenset(), bodies={}) for _ in range(3))
             intake.drop.return_value = intake.take.return_value = []
             every = [dict.fromkeys(get_args(Event), see) for see in (*those, heard.append)]
             observers = Observers(every, lambda text, _: said.append(text))
-            one = line.Line(line.Parts(wire, intake, observers, print, Counter(), mender, committer, line.Turns()))
+            one = line.Line(line.Parts(wire, intake, observers, print, Counter(), fixer, committer, line.Turns()))
             task = asyncio.ensure_future(one.run())
             for unit in (ENQ, frames(TEXTS)[0], EOT):
                 one.data(unit, asyncio.get_running_loop().time())
@@ -447,12 +447,12 @@ class Lines(HostTest):
 
         async def runs():
             loop = asyncio.get_running_loop()
-            wire, observers, mender = (unittest.mock.Mock(names=frozenset()) for _ in range(3))
-            mender.order.over, committer = unittest.mock.AsyncMock(), unittest.mock.Mock(part=60)
+            wire, observers, fixer = (unittest.mock.Mock(names=frozenset()) for _ in range(3))
+            fixer.order.over, committer = unittest.mock.AsyncMock(), unittest.mock.Mock(part=60)
             committer.put.side_effect = lambda *_: loop.create_task(asyncio.sleep(0))
             intake = Intake("fire", "x", "latin-1", 1 << 20, time.time)
             turns = line.Turns(lambda: 0.0)
-            one = line.Line(line.Parts(wire, intake, observers, print, Counter(), mender, committer, turns))
+            one = line.Line(line.Parts(wire, intake, observers, print, Counter(), fixer, committer, turns))
             task = asyncio.ensure_future(one.run())
             for number, unit in enumerate([ENQ, *frames(TEXTS)]):
                 calls.append([])

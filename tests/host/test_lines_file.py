@@ -38,7 +38,7 @@ GOOD = """\
 listen = 10.0.5.2:4001
 allow = 10.0.5.0/24, 10.0.6.7
     10.0.7.0/24
-orders = ask
+orders = query
 
 ; a blank row and a comment end no section
 [haematology 2]
@@ -57,7 +57,7 @@ letters = mark
 twice = deliver
 """
 SHOWN = """\
-chemistry: listen=10.0.5.2:4001 frame=240 encoding=iso8859-1 allow=10.0.5.0/24,10.0.6.7/32,10.0.7.0/24 orders=ask \
+chemistry: listen=10.0.5.2:4001 frame=240 encoding=iso8859-1 allow=10.0.5.0/24,10.0.6.7/32,10.0.7.0/24 orders=query \
 none=L-I
 haematology 2: listen=[2001:db8::7]:4001 frame=63993 encoding=gbk allow=2001:db8::/32
 coagulation: serial=/dev/ttyUSB0:9600 mode=7E1 flow=xonxoff frame=240 encoding=iso8859-1 sample=O.4.3 test=5 \
@@ -80,7 +80,7 @@ FAULTS = (
     ("[a]\nserial = /dev/x\n", [(2, "DEVICE:SPEED is wanted, as /dev/ttyUSB0:9600")]),
     ("[a]\nlisten = 1\nframe = 241\n", [(3, "at most 240 or 63993 bytes of text, not 241")]),
     ("[a]\nlisten = 1\nencoding = latin-77\n", [(3, "no encoding latin-77: name one as latin-1, utf-8 or gbk")]),
-    ("[a]\nlisten = 1\norders = yes\n", [(3, "orders are sent ask or send, not yes")]),
+    ("[a]\nlisten = 1\norders = yes\n", [(3, "orders is query or download, not yes")]),
     ("[a]\nlisten = 1\nnone = x\n", [(3, "none is L-I, Q-X, silence, not x")]),
     ("[a]\nlisten = 1\nallow = 10.0.0.0/99\n", [(3, "a network is wanted, as 10.0.5.0/24")]),
     ("[a]\nserial = /dev/x:9600\nmode = 9\n", [(3, "data bits, parity and stop bits, as 8N1 or 7E1")]),
@@ -264,7 +264,7 @@ class LinesFile(HostTest):
             self.same("they are heard", [one.asks(ENQ) for one in (open_, named)], [ACK] * 2)
             taken = stack.enter_context(socket.create_server(("127.0.0.1", 0)))
             new = sections(
-                long=f"{rows}\nframe = 63993\norders = ask",
+                long=f"{rows}\nframe = 63993\norders = query",
                 stays=rows,
                 blocked=f"listen = {taken.getsockname()[1]}",
                 comes=f"listen = {ports['goes']}",

@@ -58,7 +58,7 @@ class Load(HostTest):
                 hosts.say(f"{part * messages // parts} messages, {time.monotonic() - begun:.0f} s, {used[-1]} KiB")
         self.same("the host's status", host.stop(), 0)
         one = open_store(store)
-        counts = [(each.whole, each.again, each.unfinished, each.unreadable) for each in one.counts()]
+        counts = [(each.complete, each.again, each.incomplete, each.invalid) for each in one.counts()]
         one.close()
         self.same("all are kept", counts, [(messages // parts * parts, 0, 0, 0)])
         return used

@@ -14,7 +14,7 @@ import unittest
 
 from lislab.outbound import deliver, export
 from lislab.model.options import OptionError
-from lislab.model.store import UNFINISHED
+from lislab.model.store import INCOMPLETE
 from lislab.outbound import mllp, oru
 from lislab.model.codes import Code, Codes
 from lislab.model.failures import Quarantined
@@ -272,13 +272,13 @@ class Oru(WithLibrary):
         self.same("a control", (str(control["SPM"][0](11)), "PID" in str(control)), ("Q", False))
         query = oru_of(stored(message("Q|1|^S7||ALL")))
         self.same("a query has no results", query, b"")
-        half = stored(b"H|\\^&\rP|1\r", state=UNFINISHED)
+        half = stored(b"H|\\^&\rP|1\r", state=INCOMPLETE)
         made = [export.writer_of(export.Form(form))(half) for form in ("oru", "fhir")]
         self.same("one that isn't whole isn't written", made, [b"", b""])
         again = self.read(oru_of(stored(message("P|1", "O|1|S7", "R|1|^^^A|1"), again_of="00ff")))
         self.same("a repeat is marked", str(again["NTE"][0](3)), "repeat of message 00ff")
-        mended = self.read(oru_of(stored(message("P|1", "O|1|S7", "R|1|^^^A|1"), reason="mended from 00fe: x")))
-        self.same("a mended one is marked", [str(one(3)) for one in mended["NTE"]], ["mended from 00fe: x"])
+        fixed = self.read(oru_of(stored(message("P|1", "O|1|S7", "R|1|^^^A|1"), reason="fixed from 00fe: x")))
+        self.same("a fixed one is marked", [str(one(3)) for one in fixed["NTE"]], ["fixed from 00fe: x"])
 
     def test_random(self):
         """Random texts in each field: the library reads what was written."""

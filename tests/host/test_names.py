@@ -1,5 +1,5 @@
 """A name that no line has: each command that takes one says which there are."""
-from lislab.model.store import UNFINISHED
+from lislab.model.store import INCOMPLETE
 from tests.host.hosts import Host, HostTest, lislab
 from tests.host.test_lines import TEXTS, Client
 from tests.host.test_watch_page import SCRIPT, Parser, Site, fill, whole
@@ -38,7 +38,7 @@ class Names(HostTest):
         with Client(host.port) as client:
             client.whole(TEXTS)
         host.stop()
-        fill(store, "water", [b"H|\\^&\r"], UNFINISHED)
+        fill(store, "water", [b"H|\\^&\r"], INCOMPLETE)
         told = lislab("export", "--store", store, "--line", "fir")
         wanted = (1, "", f"lislab: {store}: there is no line fir, but fire, water\n")
         self.same("no such line", (told.returncode, told.stdout, told.stderr), wanted)

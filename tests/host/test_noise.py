@@ -33,7 +33,7 @@ class Noise(HostTest):
     def test_one_byte(self):
         """No session is done of which a text isn't kept, on lines of one direction and of both."""
         store, count = self.path("noise.db"), hosts.size("noise")
-        words = [word for way in ("name=one", "name=both,orders=ask")
+        words = [word for way in ("name=one", "name=both,orders=query")
                  for word in ("--listen", f"127.0.0.1:0,{way}")]
         host = Host(store, *words, each=2 * MANY, listen=False, scale=LATE)
         ports = [int(row.split()[1].rsplit(":", 1)[1]) for row in host.rows if row.startswith("listening")]
@@ -53,7 +53,7 @@ class Careful(HostTest):
 
     def started(self, settings=""):
         """A host with a line of each way that has these settings, and their ports."""
-        words = [word for name, way in (("one", ""), ("both", ",orders=ask"))
+        words = [word for name, way in (("one", ""), ("both", ",orders=query"))
                  for word in ("--listen", f"127.0.0.1:0,name={name}{way}{settings}")]
         host = Host(self.path(f"{len(settings)}.db"), *words, listen=False, scale=0.3)
         self.addCleanup(host.kill)
@@ -90,9 +90,9 @@ class Careful(HostTest):
             with Client(port) as client:
                 self.same(name, [client.asks(ENQ), client.asks(frame(1, TEXTS[0])), client.asks(ENQ)], [ACK] * 3)
 
-    def test_mends(self):
+    def test_fixes(self):
         """Noise is no end of a message without L, and a frame that may hold LF is heard as carefully."""
-        host, ports = self.started(",mend=last-l+lf")
+        host, ports = self.started(",fix=last-l+lf")
         with Client(ports["one"]) as client:
             self.same("frames", [client.asks(ENQ), *(client.asks(frame(at, text)) for at, text in enumerate(TEXTS[:4], 1))],
                       [ACK] * 5)

@@ -22,13 +22,13 @@ NAME = b"SECRET"
 #: Sessions that are acknowledged: their texts, and the reason that is said and kept.
 ODD = (
     ([b"H|\\^&\r", b"P|1||" + NAME + b"\r", b"R|1|" + NAME + b"\r"],
-     "unreadable: record 3, from byte 18: no record above it that it belongs to: R"
-     "; mend=last-l,orders would deliver it"),
-    ([b"H|\\^&\r", b"P1" + NAME + b"\r"], "unreadable: record 2, from byte 6: malformed: BAD_LETTER"),
+     "invalid: record 3, from byte 18: no record above it that it belongs to: R"
+     "; fix=last-l,orders would deliver it"),
+    ([b"H|\\^&\r", b"P1" + NAME + b"\r"], "invalid: record 2, from byte 6: malformed: BAD_LETTER"),
     ([b"H|\\^&\r", b"P|1||" + NAME + b"\r"],
-     "unfinished: the session ended before its L record, after record 2, at byte 18"
-     "; mend=last-l would deliver it"),
-    ([b"H|^^^\r"], "unreadable: record 1, from byte 0: malformed: BAD_DELIMITERS"),
+     "incomplete: the session ended before its L record, after record 2, at byte 18"
+     "; fix=last-l would deliver it"),
+    ([b"H|^^^\r"], "invalid: record 1, from byte 0: malformed: BAD_DELIMITERS"),
 )
 
 
@@ -210,7 +210,7 @@ class Said(HostTest):
         book = open_book(store)
         book.add([Order("S7", ("GLU",))])
         book.close()
-        host = Host(store, "--serial", f"{device}:9600,name=late,orders=send", listen=False)
+        host = Host(store, "--serial", f"{device}:9600,name=late,orders=download", listen=False)
 
         def byte():
             """What the host sends next."""

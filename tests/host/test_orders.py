@@ -381,7 +381,7 @@ def states(store):
 class Answers(HostTest):
     """A host that answers queries, over a real line."""
 
-    def started(self, *words, orders=("S7", "S8"), line="orders=ask", scale=SLOW, **how):
+    def started(self, *words, orders=("S7", "S8"), line="orders=query", scale=SLOW, **how):
         """A host with orders, and its port."""
         store = self.path(f"{time.monotonic_ns()}.db")
         book = open_book(store)
@@ -411,11 +411,11 @@ class Answers(HostTest):
 
     def test_ways_to_say_nothing(self):
         """`none=Q-X` gives the query back, `none=silence` nothing."""
-        _, port = self.started(line="orders=ask,none=Q-X")
+        _, port = self.started(line="orders=query,none=Q-X")
         one = Plain(port, SLOW)
         one.send(query("S9"))
         self.same("Q-X", one.take()[1][:30], b"Q|1|^S9||^^^ALL||||||||X\r")
-        _, port = self.started(line="orders=ask,none=silence")
+        _, port = self.started(line="orders=query,none=silence")
         one = Plain(port, SLOW)
         one.send(query("S9"))
         with self.assertRaises(Gone):
@@ -424,11 +424,11 @@ class Answers(HostTest):
 
     def test_an_order_that_cannot_be_written(self):
         """A query whose only order can't be written in the line's encoding is answered that there is none."""
-        host, port = self.started(orders=("S7", "S\u03a9"), line="orders=ask,none=Q-X,encoding=utf-8")
+        host, port = self.started(orders=("S7", "S\u03a9"), line="orders=query,none=Q-X,encoding=utf-8")
         one = Plain(port, SLOW)
         one.send(query("S\u03a9"))
         self.same("utf-8", samples_of(one.take()), ["S\u03a9"])
-        host, port = self.started(orders=("S7", "S8"), line="orders=ask,none=Q-X,encoding=ascii")
+        host, port = self.started(orders=("S7", "S8"), line="orders=query,none=Q-X,encoding=ascii")
         book = open_book(host.store)
         book.add([Order("S9", ("K",), name="M\u00fcller")])
         book.close()
@@ -439,8 +439,8 @@ class Answers(HostTest):
         self.true("said", "asks: order 3 of sample S9 has failed: 'ü' isn't in ascii" in host.says(), host.says())
 
     def test_worklists(self):
-        """`orders=send` sends what waits for the line unasked, also what is added later."""
-        host, port = self.started(line="orders=send", scale=1.0)
+        """`orders=download` sends what waits for the line unasked, also what is added later."""
+        host, port = self.started(line="orders=download", scale=1.0)
         one = Plain(port, 1.0)
         self.same("at once", sorted(samples_of(one.take())), ["S7", "S8"])
         done = lislab("order", "add", "--store", host.store, "--line", "asks", input="sample,tests\nS1,K\n")
@@ -449,7 +449,7 @@ class Answers(HostTest):
         self.true("sent", wait_for(lambda: set(states(host.store).values()) == {"sent"}), states(host.store))
 
     def test_command(self):
-        """`--ask` answers; if it fails, is late, or writes no message, that is said and there is no order."""
+        """`--query-command` answers. If it fails, is late or writes no message, the host logs that and sends no order."""
         answer = "H|\\^&\nP|1\nO|1|S7||^^^X\nL|1\n"
         rows = {
             "answers": (f"import sys; sys.stdin.read(); print({answer!r}, end='')", [b"H", b"P", b"O", b"L"]),
@@ -461,7 +461,7 @@ class Answers(HostTest):
             file = self.path(f"{name[:2]}.py")
             with open(file, "w", encoding="utf-8") as out:
                 out.write(code)
-            host, port = self.started("--ask", f"{hosts.sys.executable} {file}")
+            host, port = self.started("--query-command", f"{hosts.sys.executable} {file}")
             one = Plain(port, SLOW)
             one.send(query("S7"))
             self.same(name, [row[:1] for row in one.take(400)], wanted)
@@ -474,7 +474,7 @@ class Answers(HostTest):
         file, child = self.path("hangs.sh"), self.path("child")
         with open(file, "w", encoding="utf-8") as out:
             out.write(f"cat > {child}.asked; sleep 300 & echo $! > {child}; wait; echo\n")
-        host, port = self.started("--ask", f"sh {file}")
+        host, port = self.started("--query-command", f"sh {file}")
         one = Plain(port, SLOW)
         one.send(query("S7"))
         self.same("answered", [row[:1] for row in one.take(400)], [b"H", b"L"])
@@ -511,7 +511,7 @@ class Answers(HostTest):
         with open(file, "w", encoding="utf-8") as out:
             out.write(f"import sys\nlog = open({log!r}, 'a', buffering=1)\nprint('begins', file=log)\n"
                       "print(sys.stdin.read(), end='')\nprint('ends', file=log)\n")
-        _, port = self.started("--ask", f"{hosts.sys.executable} {file}")
+        _, port = self.started("--query-command", f"{hosts.sys.executable} {file}")
         one = Plain(port, SLOW)
         one.send([b"".join(b"".join(query(f"S{at}")) for at in range(6))])
         told = [row for _ in range(6) for row in one.take(400)]
@@ -523,7 +523,7 @@ class Answers(HostTest):
     def test_spool(self):
         """A host with a spool sends the orders that another program leaves in its folder; the status counts them."""
         store = "spool:" + self.path("left")
-        host = Host(store, "--listen", "127.0.0.1:0,name=asks,orders=send", listen=False, scale=SLOW)
+        host = Host(store, "--listen", "127.0.0.1:0,name=asks,orders=download", listen=False, scale=SLOW)
         self.addCleanup(host.kill)
         port = next(int(row.split()[1].rsplit(":", 1)[1]) for row in host.rows if row.endswith(" asks\n"))
         with open(self.path("left/orders/x.orders"), "wb") as out:
@@ -536,7 +536,7 @@ class Answers(HostTest):
 
     def test_contention(self):
         """Both ask for the line at once: the analyzer's session comes first, the host's after it."""
-        _, port = self.started(line="orders=send")
+        _, port = self.started(line="orders=download")
         one = Plain(port, SLOW)
         self.same("the host asks", one.byte(30), ENQ)
         one.put(ENQ)  # the reply to the host's
@@ -547,7 +547,7 @@ class Answers(HostTest):
     def test_a_busy_analyzer(self):
         """NAK to the host's ENQ: it asks again after the standard's ten seconds, and what the analyzer sends is heard
         meanwhile."""
-        host, port = self.started(line="orders=send")
+        host, port = self.started(line="orders=download")
         one = Plain(port, SLOW)
         self.same("asks", one.byte(30), ENQ)
         one.put(NAK)
@@ -559,7 +559,7 @@ class Answers(HostTest):
 
     def test_a_line_that_is_pulled(self):
         """The line goes in mid-session: the order waits, and is sent on the next line."""
-        host, port = self.started(orders=("S7",), line="orders=send")
+        host, port = self.started(orders=("S7",), line="orders=download")
         one = Plain(port, SLOW)
         self.same("asks", one.byte(30), ENQ)
         one.put(ACK)
@@ -573,7 +573,7 @@ class Answers(HostTest):
 
     def test_a_host_that_dies(self):
         """A host dies in a session of its own: the next one says which orders an analyzer may have got before."""
-        host, port = self.started(orders=("S7", "S8", "S9"), line="orders=send")
+        host, port = self.started(orders=("S7", "S8", "S9"), line="orders=download")
         host.words = tuple(word.replace("127.0.0.1:0,", f"127.0.0.1:{port},") for word in host.words)
         one = Plain(port, SLOW)
         self.same("asks", one.byte(30), ENQ)
@@ -616,7 +616,7 @@ class Answers(HostTest):
 
     def test_last_try(self):
         """After `--tries` an order has failed, with its reason."""
-        host, port = self.started("--tries", "1", orders=("S7",), line="orders=send")
+        host, port = self.started("--tries", "1", orders=("S7",), line="orders=download")
         one = Plain(port, SLOW)
         self.same("asks", one.byte(30), ENQ)
         one.put(ACK)
@@ -678,7 +678,7 @@ class OnSerial(HostTest):
         book.add([Order("S7", ("K",))])
         book.close()
         scale, began = 0.3, time.monotonic()
-        host = Host(store, "--serial", f"{cable.names[0]}:9600,name=wire,orders=send", listen=False, scale=scale)
+        host = Host(store, "--serial", f"{cable.names[0]}:9600,name=wire,orders=download", listen=False, scale=scale)
         self.addCleanup(host.kill)
         ready, _, _ = select.select([cable.slaves[1]], [], [], 60)
         self.same("asks", os.read(cable.slaves[1], 1) if ready else b"", ENQ)
@@ -691,8 +691,8 @@ class Unheard(HostTest):
     def line(self, outbox, sent):
         """A line with orders, over a wire that takes what is sent."""
         wire = unittest.mock.Mock(is_tcp=True, write=sent.append)
-        intake, committer, observers, mender = (unittest.mock.Mock(names=frozenset(), bodies={}) for _ in range(4))
-        parts = Parts(wire, intake, observers, print, Counter(), mender, committer, Turns())
+        intake, committer, observers, fixer = (unittest.mock.Mock(names=frozenset(), bodies={}) for _ in range(4))
+        parts = Parts(wire, intake, observers, print, Counter(), fixer, committer, Turns())
         line = TwoWayLine(outbox, Site("asks", "x", "latin-1", True, "L-I", "1"), parts)
         line._intake.drop.return_value = line._intake.take.return_value = []
         return line
@@ -755,7 +755,7 @@ class Fire(HostTest):
         book = open_book(store)
         book.add(Order(f"S{at:05}", ("GLU", "K")) for at in range(count))
         book.close()
-        host = Host(store, "--listen", "127.0.0.1:0,name=asks,orders=send", "--tries", "0", listen=False, scale=scale)
+        host = Host(store, "--listen", "127.0.0.1:0,name=asks,orders=download", "--tries", "0", listen=False, scale=scale)
         port = next(int(row.split()[1].rsplit(":", 1)[1]) for row in host.rows if row.endswith(" asks\n"))
         host.words = tuple(word.replace("127.0.0.1:0,", f"127.0.0.1:{port},") for word in host.words)
         taken, kills, over, contended = [], 0, time.monotonic() + 240 + 8 * kill, 0
@@ -803,7 +803,7 @@ class Fire(HostTest):
         book = open_book(store)
         book.add(Order(f"S{at}", ("K",)) for at in range(50))
         book.close()
-        host = Host(store, "--listen", "127.0.0.1:0,name=asks,orders=ask", listen=False, scale=1.0)
+        host = Host(store, "--listen", "127.0.0.1:0,name=asks,orders=query", listen=False, scale=1.0)
         port = next(int(row.split()[1].rsplit(":", 1)[1]) for row in host.rows if row.endswith(" asks\n"))
         waits, wrong = [], []
 

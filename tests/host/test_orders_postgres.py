@@ -176,7 +176,7 @@ class PostgresBooks(Books, HostTest):
     @staticmethod
     def host(store, name):
         """A host, and the ports of its lines."""
-        lines = {"work": "orders=send", "asks": "orders=ask"}
+        lines = {"work": "orders=download", "asks": "orders=query"}
         words = [word for line, way in lines.items() for word in ("--listen", f"127.0.0.1:0,name={line},{way}")]
         host = Host(store, *words, "--host-name", name, "--tries", "0", listen=False, scale=SLOW)
         rows = [row.split() for row in host.rows if row.startswith("listening")]

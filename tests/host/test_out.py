@@ -109,7 +109,7 @@ class OutOf:
         shown, data = self.shown
         self.same("the host runs", (shown.returncode, "the host is running" in shown.stdout), (0, True))
         line = json.loads(data.stdout)["lines"][0]
-        self.same("counts", (line["line"], line["whole"], line["again"]), ("fire", 3, 1))
+        self.same("counts", (line["line"], line["complete"], line["again"]), ("fire", 3, 1))
         shown = lislab("status", "--store", self.store, *self.state)
         self.same("the host is stopped", (shown.returncode, "is not running" in shown.stdout), (1, True))
 
@@ -121,7 +121,7 @@ class OutOf:
         self.same("records are those that were sent", bytes_of(self.path("out.records")), good)
         rows = list(csv.reader(io.StringIO(self.export("--format", "csv"))))
         plain = list(csv.reader(io.StringIO(lislab("table", SAMPLE).stdout)))
-        self.same("the heading", rows[0], ["number", "line", "received", "again_of", *plain[0], "mended", "control"])
+        self.same("the heading", rows[0], ["number", "line", "received", "again_of", *plain[0], "fixed", "control"])
         self.same("the results", [row[4:] for row in rows[1 : len(plain)]], [[*row, "", ""] for row in plain[1:]])
         self.same("tsv has as many rows", len(self.export("--format", "tsv").splitlines()), len(rows))
         data = [json.loads(row) for row in self.export().splitlines()]
@@ -138,7 +138,7 @@ class OutOf:
             (["--since", "2001-01-01"], 3),
             (["--after", first], 2),
             (["--line", "fire"], 3),
-            (["--state", "unfinished"], 0),
+            (["--state", "incomplete"], 0),
             (["--state", "all"], 3),
             (["--without-repeats"], 2),
         ):

@@ -69,8 +69,8 @@ class PlainLink(HostTest):
 
     def test_repeats(self):
         """A block that comes twice in a row within a message may be a repeat: it is kept, and not delivered; nor is it
-        mended."""
-        host, port = self.begun(self.path("repeats.db"), ",mend=unframe,last-l")
+        fixed."""
+        host, port = self.begun(self.path("repeats.db"), ",fix=unframe,last-l")
         units = [ENQ, *(STX + b"%d" % number + text + ETX for number, text in enumerate(TEXTS, 1))]
         for again in (False, True):
             with Client(port) as client:
@@ -86,7 +86,7 @@ class PlainLink(HostTest):
         self.same("what came twice is kept", found.others[1].body, b"".join(parts[:4] + parts[3:]))
         reason = "a block came twice in a row, and may be a repeat, after record 0, at byte "
         self.has("the reason", found.others[1].reason, reason)
-        self.true("no setting would help", "mend" not in found.others[1].reason, found.others[1].reason)
+        self.true("no setting would help", "fix" not in found.others[1].reason, found.others[1].reason)
 
     def test_receiver(self):
         """However bytes are cut, they mean the same; what breaks a block off drops it."""
@@ -116,12 +116,12 @@ class PlainLink(HostTest):
         """The setting in the words of a line, and in a file of lines; such a line sends no orders."""
         given = [options.serial_of(f"/dev/x:9600{word}").link for word in ("", ",link=plain", ",link=lis01")]
         self.same("of a device", given, ["", "plain", ""])
-        done = lislab("serve", "--store", self.path("words.db"), "--listen", "0,link=plain,orders=ask")
+        done = lislab("serve", "--store", self.path("words.db"), "--listen", "0,link=plain,orders=query")
         self.same("its status", done.returncode, 2)
         self.has("no orders", done.stderr, "a line with link=plain sends no orders")
         with open(self.path("plain.lines"), "w", encoding="ascii") as file:
             file.write("[a]\nlisten = 1\nlink = plain\n[b]\nlisten = 2\nlink = x\n")
-            file.write("[c]\nlisten = 3\nlink = plain\norders = ask\n")
+            file.write("[c]\nlisten = 3\nlink = plain\norders = query\n")
         found = lines.read_lines(file.name, [])
         shown = "a: listen=127.0.0.1:1 frame=240 encoding=iso8859-1 link=plain"
         self.same("as it is shown", lines.text_of(found.places[0]), shown)

@@ -1,9 +1,12 @@
 """The store in PostgreSQL, with a server that the test starts itself and kills in mid-session."""
+import contextlib
 import glob
 import importlib.util
+import itertools
 import os
 import pwd
 import random
+import re
 import shutil
 import socket
 import subprocess
@@ -14,13 +17,15 @@ import unittest
 import unittest.mock
 
 from lislab.watch import status
+from lislab.model.schema import SCHEMA
 from lislab.model.store import StoreError
 from lislab.model.stores import open_store
-from tests.host import hosts
+from tests import kit
+from tests.host import hosts, test_schema
 from tests.host.hosts import ENV, Found, Host, HostTest, acknowledged, lislab, sending, wait_for
 from tests.host.test_kills import TROUBLE
-from tests.host.test_lines import keeps_each_text
-from tests.host.test_mends import mends_again
+from tests.host.test_lines import TEXTS, Client, keeps_each_text
+from tests.host.test_fixes import fixes_again
 from tests.host.test_out import OutOf
 from tests.host.test_repeats import EachWrite, Left, begun, ended
 
@@ -249,9 +254,9 @@ class Postgres(HostTest):
 
         return call
 
-    def test_mends(self):
-        """A message that is mended is marked, delivered and counted."""
-        mends_again(self, self.server.address("mends"))
+    def test_fixes(self):
+        """A message that is fixed is marked, delivered and counted."""
+        fixes_again(self, self.server.address("fixes"))
 
     def test_names(self):
         """Two hosts of one name are rejected."""
@@ -311,6 +316,49 @@ class Postgres(HostTest):
             status, why = started(store, "second")
             other.terminate()
         self.same(f"a start while another host commits {why}", (held, status), (True, 0))
+
+    def test_earlier_tables(self):
+        """Tables of version 2: they are read as they are. A host upgrades them, whenever that is broken off, and unless an
+        earlier host is running."""
+        text = re.sub(r"X'(\w*)'", r"'\\x\1'", kit.read("tests/host/stores/version-2.sql").split("PRAGMA")[0])
+        text = text.replace("BLOB", "BYTEA").replace(" WITHOUT ROWID", "").replace("BEGIN TRANSACTION;", "").replace("COMMIT;", "")
+        store = self.server.address("earlier")
+        with self.server.psql("earlier", "-1", "-c", text) as done:
+            self.same("made", done.wait(), 0)
+        self.same("before", test_schema.words_of(open_store(store)), test_schema.MESSAGES)
+        lock = "SELECT pg_advisory_lock(5402, hashtext('ice')), pg_sleep(60)"
+        with self.server.psql("earlier", "-c", lock) as other:
+            held = "SELECT count(*) FROM pg_locks WHERE locktype = 'advisory' AND classid = 5402"
+            wait_for(lambda: self.server.asks("earlier", held) == "1")
+            status, why = started(store, "fire")
+            self.true("an earlier host is running", status != 0 and "stop that first" in why, why)
+            other.terminate()
+        for count in itertools.count():
+            one = open_store(store)
+            left, run = [count], one.run
+
+            def breaks(statement, values=(), left=left, run=run):
+                if statement.startswith(("ALTER", "UPDATE", "DROP", "CREATE INDEX", "INSERT", "SET LOCAL", "COMMIT")):
+                    left[0] -= 1
+                    if left[0] < 0:
+                        raise StoreError("the connection is gone")
+                return run(statement, values)
+
+            with contextlib.closing(one), unittest.mock.patch.object(one, "run", breaks):
+                with contextlib.suppress(StoreError):
+                    one.join()
+            if left[0] >= 0:
+                break
+            self.same(f"after {count} statements", open_store(store).version(), 2)
+            self.same(f"after {count} statements: messages", test_schema.words_of(open_store(store)), test_schema.MESSAGES)
+        self.true("statements", count > 6, count)
+        self.same("upgraded", open_store(store).version(), SCHEMA)
+        self.same("after", test_schema.words_of(open_store(store)), test_schema.MESSAGES)
+        host = Host(store)
+        with Client(host.port) as client:
+            self.true("a message", client.whole(TEXTS))
+        self.same("the host's status", host.stop(), 0)
+        self.same("its number", [one.number for one in Found(store).whole], [1, 2, 3, 4])
 
     def test_later_tables(self):
         """Tables of a later program, and a server that isn't there."""

@@ -72,7 +72,7 @@ class Rejects(Plain):
 class Queries(HostTest):
     """Queries over a real line."""
 
-    def started(self, settings="", orders=("S123", "S7"), way="ask", tests=("GLU", "K"), words=()):
+    def started(self, settings="", orders=("S123", "S7"), way="query", tests=("GLU", "K"), words=()):
         """A host with a line of these settings and with orders, and its port."""
         name = str(time.monotonic_ns())
         store, lines = self.path(f"{name}.db"), self.path(f"{name}.lines")
@@ -251,7 +251,7 @@ class Queries(HostTest):
 
     def test_a_monitor(self):
         """Somebody who connects and goes without a byte is no try of an order."""
-        host, port = self.started("", ("S7",), "send", words=("--tries", "2"))
+        host, port = self.started("", ("S7",), "download", words=("--tries", "2"))
         for _ in range(5):
             with socket.create_connection(("127.0.0.1", port), 10) as line:
                 line.settimeout(60)
@@ -261,20 +261,20 @@ class Queries(HostTest):
 
     def test_a_rejected_order(self):
         """An order that the analyzer rejects takes no other along."""
-        host, port = self.started("", ("BAD", "S1", "S2", "S3", "S4"), "send", words=("--tries", "1"))
+        host, port = self.started("", ("BAD", "S1", "S2", "S3", "S4"), "download", words=("--tries", "1"))
         one = Rejects(port, SLOW)
         wanted = {"BAD": "failed", **{f"S{at}": "sent" for at in range(1, 5)}}
         self.same("taken", sorted(one.takes_but(b"|BAD|")), ["S1", "S2", "S3", "S4"])
         self.true("states", wait_for(lambda: states(host.store) == wanted), str(states(host.store)))
 
     def test_a_command_of_a_line(self):
-        """`ask = COMMAND` answers on its line, and knows which it is; other lines use the store."""
+        """`query-command = COMMAND` answers on its line, and knows which it is; other lines use the store."""
         file, store, lines = self.path("asked.py"), self.path("command.db"), self.path("command.lines")
         with open(file, "w", encoding="utf-8") as out:
             out.write("import os\nprint('H|\\\\^&\\nP|1\\nO|1|' + os.environ['LISLAB_LINE'] + '||^^^K\\nL|1|F')\n")
         with open(lines, "w", encoding="utf-8") as out:
-            out.write(f"[roche]\nlisten = 127.0.0.1:0\norders = ask\nask = {hosts.sys.executable} {file}\n"
-                      "[other]\nlisten = 127.0.0.1:0\norders = send\n")
+            out.write(f"[roche]\nlisten = 127.0.0.1:0\norders = query\nquery-command = {hosts.sys.executable} {file}\n"
+                      "[other]\nlisten = 127.0.0.1:0\norders = download\n")
         book = open_book(store)
         book.add([Order("S1", ("K",))])
         book.close()
@@ -421,10 +421,10 @@ class Queries(HostTest):
         for row, wanted in rows.items():
             lines = self.path("wrong.lines")
             with open(lines, "w", encoding="utf-8") as out:
-                out.write(f"[x]\nlisten = 127.0.0.1:0\norders = ask\n{row}\n")
+                out.write(f"[x]\nlisten = 127.0.0.1:0\norders = query\n{row}\n")
             done = lislab("serve", "--store", self.path("wrong.db"), "--lines", lines)
             self.true(row, wanted in done.stderr and f"{lines}:4:" in done.stderr, done.stderr)
         with open(lines, "w", encoding="utf-8") as out:
             out.write("[x]\nlisten = 127.0.0.1:0\nagain = 2h\n")
         done = lislab("serve", "--store", self.path("wrong.db"), "--lines", lines)
-        self.true("no orders", "has orders = ask or send" in done.stderr, done.stderr)
+        self.true("no orders", "has orders = query or download" in done.stderr, done.stderr)

@@ -9,7 +9,7 @@ import tempfile
 import unittest.mock
 
 from lislab.host.left import left_of
-from lislab.model.store import UNFINISHED, WHOLE, Add, Begin, End, StoreError
+from lislab.model.store import COMPLETE, INCOMPLETE, Add, Begin, End, StoreError
 from lislab.model.stores import open_store
 from tests.host.hosts import HostTest, wait_for
 
@@ -52,10 +52,10 @@ def begun(key):
     return [Begin(key, "fire", "192.0.2.7", "latin-1", 1.0), Add(key, 0, 1.0, BODY[:10])]
 
 
-def ended(key, state=WHOLE):
+def ended(key, state=COMPLETE):
     """Its second text, and its end."""
     end = End(key, "fire", state, "", DIGEST, len(BODY), 2.0)
-    return [Add(key, 1, 2.0, BODY[10:]), end] if state == WHOLE else [end]
+    return [Add(key, 1, 2.0, BODY[10:]), end] if state == COMPLETE else [end]
 
 
 class EachWrite:
@@ -93,14 +93,14 @@ class EachWrite:
         for how in ("once", "full", "after"):
             for number in range(1, counted.count + 1):
                 found = self.owed(Fault(number, how))
-                self.same(f"write {number} fails, {how}", found, ([("m", BODY)], [("1", "mended: delivered as m")]))
+                self.same(f"write {number} fails, {how}", found, ([("m", BODY)], [("1", "fixed: delivered as m")]))
 
     def owed(self, fault):
         """The whole messages, and the others, after a commit with a fault that is made again twice."""
         store = open_store(self.where())
         store.start("h")
         store.commit([begun("1")])
-        end = End("1", "fire", UNFINISHED, "mended: delivered as m", DIGEST, 10, 2.0)
+        end = End("1", "fire", INCOMPLETE, "fixed: delivered as m", DIGEST, 10, 2.0)
         units = [[*begun("m"), *ended("m"), end]]
         try:
             with self.failing(store, fault):
@@ -123,7 +123,7 @@ class EachWrite:
         store = open_store(where)
         store.start("h")
         store.commit([begun("1")])
-        later = [ended("1", UNFINISHED)]
+        later = [ended("1", INCOMPLETE)]
         try:
             with self.failing(store, fault):
                 store.commit([ended("1")])
@@ -159,7 +159,7 @@ class Left:
     """What a host leaves open that dies."""
 
     def test_left_open(self):
-        """It is open as long as the host runs, then unfinished; so it is for a host of another name that starts."""
+        """It is open as long as the host runs, then incomplete; so it is for a host of another name that starts."""
         where = self.where()
         one = open_store(where)
         one.start("one")
@@ -168,22 +168,22 @@ class Left:
         one.close()
         other = open_store(where)
         self.true("its lock is free", wait_for(lambda: not other.is_held()))
-        left = [("1", UNFINISHED, "the host was stopped", BODY[:10])]
+        left = [("1", INCOMPLETE, "the host was stopped", BODY[:10])]
         self.same("it is dead", self.of_all(where), (left, (1, 1, 0)))
         found = other.start("other")
         self.same("a host of another name starts: what was left", [one.key for one in found], ["1"])
         self.same("it has it now", self.of_all(where), ([], (1, 0, 1)))
         ends = left_of(other, found, {})
-        self.same("nothing is mended of it", ends.to_mend, [])
+        self.same("nothing is fixed of it", ends.to_fix, [])
         other.commit([ends.ends])
         self.same("it runs", self.of_all(where), (left, (1, 1, 0)))
         other.close()
 
     def of_all(self, where):
-        """What a reader finds: messages that aren't whole; how many are whole, unfinished and open."""
+        """What a reader finds: messages that aren't whole; how many are complete, incomplete and open."""
         store = open_store(where)
         others = [(one.key, one.state, one.reason, one.body) for one in store.others()]
-        counts = [(one.whole, one.unfinished, one.open) for one in store.counts()]
+        counts = [(one.complete, one.incomplete, one.open) for one in store.counts()]
         store.close()
         return others, counts[0]
 
@@ -234,7 +234,7 @@ class RepeatsOfSpool(EachWrite, Left, HostTest):
             folder = os.path.join(where[len("spool:") :], "digests")
             with open(os.path.join(folder, *os.listdir(folder)), "w", encoding="ascii") as file:
                 file.write('{"key": "1"}\n')
-            store.commit([begun("1"), [] if is_open else ended("1", UNFINISHED)])
+            store.commit([begun("1"), [] if is_open else ended("1", INCOMPLETE)])
             store.commit([[*begun("2"), *ended("2")]])
             store.commit([[*begun("3"), *ended("3")]])
             found = {one.key: one.again_of for one in store.messages()}

@@ -16,7 +16,7 @@ BINARY, ECHO, GO_AHEAD, KIND = b"\0", b"\x01", b"\x03", b"\x18"
 ASKED = b"".join([IAC + DO + ECHO, IAC + WILL + ECHO, IAC + NOP, IAC + DO + GO_AHEAD, IAC + WILL + GO_AHEAD,
                   IAC + DO + KIND, IAC + SB + KIND + b"\x01\r\0\x05" + IAC + IAC + IAC + SE, IAC + DO + GO_AHEAD])
 ANSWERED = [WONT + ECHO, DONT + ECHO, WILL + GO_AHEAD, DO + GO_AHEAD, WONT + KIND]
-#: A message whose records are in one text, with CR in it and FF, which a line must mend.
+#: A message whose records are in one text, with CR in it and FF, which a line must fix.
 TEXT = b"H|\\^&\rP|1\rO|1|S7\rR|1|^^^GLU|5.4\rC|1|I|\xff\rL|1|N\r"
 KEPT = TEXT.replace(b"\xff", b"&XFF&")
 
@@ -121,8 +121,8 @@ class Terminals(HostTest):
         server = socket.create_server(("127.0.0.1", 0))
         self.addCleanup(server.close)
         server.settimeout(60)
-        called = f"127.0.0.1:{server.getsockname()[1]},name=calls,telnet=yes,mend=bytes"
-        words = ["--connect", called, "--listen", "0,name=called,telnet=yes,mend=bytes"]
+        called = f"127.0.0.1:{server.getsockname()[1]},name=calls,telnet=yes,fix=bytes"
+        words = ["--connect", called, "--listen", "0,name=called,telnet=yes,fix=bytes"]
         host = Host(self.path("telnet.db"), *words, scale=1.0, listen=False)
         port = next(int(row.split()[1].rsplit(":", 1)[1]) for row in host.rows if row.endswith(" called\n"))
         for connection in (server.accept()[0], socket.create_connection(("127.0.0.1", port))):
@@ -142,7 +142,7 @@ class Terminals(HostTest):
         book = open_book(store)
         book.add([Order("S7", ("GLU", "K"))])
         book.close()
-        where = f"127.0.0.1:{server.getsockname()[1]},name=a,orders=send,telnet=yes"
+        where = f"127.0.0.1:{server.getsockname()[1]},name=a,orders=download,telnet=yes"
         host = Host(store, "--connect", where, scale=1.0, listen=False)
         terminal = Terminal(server.accept()[0])
         self.addCleanup(terminal.close)

@@ -5,7 +5,7 @@ from lislab.outbound import fhir, oru
 from lislab.model.failures import Quarantined
 from lislab.model.results import Coded, Reading, Told
 from lislab.outbound import export
-from lislab.model.store import WHOLE, Stored
+from lislab.model.store import COMPLETE, Stored
 from tests.host import told
 from tests.host.hosts import HostTest
 
@@ -15,7 +15,7 @@ MANY = 3400
 
 def stored(body, key="18b0a0c0d0e0f00011223344", encoding="utf-8", **more):
     """A whole message that is kept."""
-    one = Stored(1, key, "chemistry", "10.0.5.7", encoding, 1767225600.0, 1767225600.0, WHOLE, "", None, body)
+    one = Stored(1, key, "chemistry", "10.0.5.7", encoding, 1767225600.0, 1767225600.0, COMPLETE, "", None, body)
     return one._replace(**more)
 
 

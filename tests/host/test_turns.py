@@ -158,7 +158,7 @@ class Turns(HostTest):
         """Long texts that aren't complete have some room together: for a frame that finds none there is NAK, also in the
         end; when others are gone, there is room again."""
         host = Host(self.path("room.db"), "--listen", "0,name=long,frame=63993", "--listen",
-                    "0,name=asks,orders=ask,frame=63993", scale=1.0)
+                    "0,name=asks,orders=query,frame=63993", scale=1.0)
         ports = {row.split()[2]: int(row.split()[1].rsplit(":", 1)[1]) for row in host.rows if row.startswith("listen")}
         part, most = b"y" * LONG_FRAME_TEXT, serve.TEXTS // (15 * LONG_FRAME_TEXT)
         units = [frame_bytes(number % 8, False, part, frame_limit=LONG_FRAME_TEXT) for number in range(1, 16)]

@@ -123,8 +123,8 @@ FAULTS = {
     "Telnet": Fault(lambda one: one.asks(ENQ) and one.send(b"\x021H|\\^&\r\0\x03E5\r\0"), "telnet", "speaks Telnet"),
     "one number": Fault(lambda one: one.asks(ENQ) and [one.asks(frame(1, text)) for text in TEXTS], "lost",
                         "4 frames since .* with the number of the one before and another text"),
-    "a record that can't be read": Fault(lambda one: one.whole([H, b"R|1\r", b"L|1\r"]), "not-whole",
-                                         "the last one is unreadable: record 2, from byte 6"),
+    "a record that can't be read": Fault(lambda one: one.whole([H, b"R|1\r", b"L|1\r"]), "not-complete",
+                                         "the last one is invalid: record 2, from byte 6"),
 }
 
 
@@ -261,7 +261,7 @@ class Watch(HostTest):
         with open(path, "w", encoding="ascii") as file:
             file.write("sample,tests\nS1,GLU\n")
         lislab("order", "add", "--store", store, path)
-        host = Host(store, "--listen", "127.0.0.1:0,name=two,orders=send",
+        host = Host(store, "--listen", "127.0.0.1:0,name=two,orders=download",
                     "--serial", f"{self.path('no device')}:9600,name=cable", "--connect", "127.0.0.1:1,name=called")
         with Client(port_of(host, "two")) as client:
             self.same("the host asks for the line", client.heard(1), ENQ)
@@ -286,7 +286,7 @@ class Watch(HostTest):
             for _ in range(4):
                 client.asks(ENQ + EOT)
             client.send(ACK + NAK)
-            self.true("it is good", wait_for(lambda: seen(host)["verdict"] == "whole", WAIT), str(seen(host)))
+            self.true("it is good", wait_for(lambda: seen(host)["verdict"] == "complete", WAIT), str(seen(host)))
             self.same("its rejected frames are counted", seen(host)["causes"], {"sum": 1})
             client.asks(ENQ + EOT)
             self.true("five polls are too many", wait_for(lambda: seen(host)["verdict"] == "no-frame", WAIT))

@@ -17,7 +17,7 @@ import unittest.mock
 
 from lislab.outbound.deliver import read_took
 from lislab.outbound.export import time_text
-from lislab.model.store import UNREADABLE, WHOLE, Add, Begin, End
+from lislab.model.store import COMPLETE, INVALID, Add, Begin, End
 from lislab.model.spool import SpoolStore
 from lislab.model.stores import open_store
 from lislab.watch import metrics, page, plot, tally, web
@@ -97,14 +97,14 @@ class Parser(html.parser.HTMLParser):
         self.words += data
 
 
-def fill(store, line, bodies, state=WHOLE, ago=60.0, took=0.5):
+def fill(store, line, bodies, state=COMPLETE, ago=60.0, took=0.5):
     """Puts messages into a store, the last of them kept so many seconds ago."""
     one = open_store(store)
     one.start("h")
     now = time.time()
     for place, body in enumerate(bodies):
         key = hashlib.sha256(f"{place} {line} {state} {ago}".encode()).hexdigest()[:16]
-        reason = "" if state == WHOLE else f"record 1: {line[:40]}"
+        reason = "" if state == COMPLETE else f"record 1: {line[:40]}"
         changes = [Begin(key, line, "10.0.0.1", "utf-8", now - ago - took), Add(key, 0, now, body)]
         changes.append(End(key, line, state, reason, key, len(body), now - ago))
         one.commit([changes])
@@ -259,12 +259,12 @@ class Looks(HostTest):
         names = [one[:300].replace("\x00", "") for one in HOSTILE]
         for name in names:
             fill(store, name, [whole(name)] if len(name) < 300 else [whole("y" * 60000)])
-            fill(store, name, [name.encode()], UNREADABLE)
+            fill(store, name, [name.encode()], INVALID)
         site = self.site(store)
         site.pages.tally.count()
         shown = 0
         paths = ["/", "/trouble", "/metrics"]
-        heads = tally.each(store, lambda one: [*one.heads(0, 100), *one.not_whole(None)])
+        heads = tally.each(store, lambda one: [*one.heads(0, 100), *one.not_complete(None)])
         paths += [f"/message?{page.urlencode({'key': one.key})}" for one in heads]
         paths += [f"/line?{page.urlencode({'name': name})}" for name in names]
         for path in paths:
@@ -296,7 +296,7 @@ class Looks(HostTest):
             rejected(client, frame(2, H))
         site = self.site(host.store, host.store + ".watch")
         site.pages.tally.count()
-        heads = tally.each(host.store, lambda one: [*one.heads(0, 100), *one.not_whole(None)])
+        heads = tally.each(host.store, lambda one: [*one.heads(0, 100), *one.not_complete(None)])
         paths = ["/", "/trouble", "/line?name=fire"] + [f"/message?key={one.key}" for one in heads][:2]
         frames = ""
         for number, path in enumerate(paths):
@@ -395,7 +395,7 @@ class Looks(HostTest):
             'lislab_undelivered_messages{cursor="%s"} 1' % cursor,
             'lislab_frames_rejected_total{line="fire",reason="out-of-turn"} 6',
             'lislab_line_bad{line="fire"} 1',
-            'lislab_messages_total{line="fire",state="whole"} 1',
+            'lislab_messages_total{line="fire",state="complete"} 1',
             'lislab_connections_total{line="a \\"b\\"\\\\c"} 0',
         ):
             self.true(row, row + "\n" in text, text)
@@ -471,7 +471,7 @@ class Looks(HostTest):
             self.same("the newest first", last, store.heads(0, 100)[: -4 : -1])
             self.same("those that come after", store.count_after(last[1].number), 1)
             self.same("all are of this month", store.heads(store.number_at(time.time() - 60), 100), store.heads(0, 100))
-            self.same("none isn't whole", store.not_whole(), [])
+            self.same("none isn't whole", store.not_complete(), [])
         self.same("their sizes", {one.size for one in last}, {len(store.message(last[0].key).body)})
         store.close()
 
@@ -482,7 +482,7 @@ class Looks(HostTest):
         script += "open(%r, 'a').write('|'.join(os.environ[one] for one in names) + '\\n')"
         one = Notifier([sys.executable, "-c", script % out], said.append)
         line = {
-            "good": {"state": "good", "verdict": "whole", "says": "well"},
+            "good": {"state": "good", "verdict": "complete", "says": "well"},
             "bad": {"state": "bad", "verdict": "echo", "says": "an echo"},
             "quiet": {"state": "quiet", "verdict": "away", "says": "away"},
         }

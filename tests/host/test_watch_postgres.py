@@ -42,8 +42,8 @@ class WatchPostgres(HostTest):
         bars = plot.bars(one.hours("fire"), time.time(), tally.HOUR, 24)
         self.true("messages are counted", sum(bar.many for bar in bars) >= 3, str(bars))
         heads = tally.each(store, lambda it: it.last_heads("fire"))
-        wait_for(lambda: tally.each(store, lambda it: it.not_whole("fire")), WAIT)  # after its mends are tried
-        trouble = tally.each(store, lambda it: it.not_whole("fire"))
+        wait_for(lambda: tally.each(store, lambda it: it.not_complete("fire")), WAIT)  # after its fixes are tried
+        trouble = tally.each(store, lambda it: it.not_complete("fire"))
         self.true("the last ones", len(heads) >= 3 and heads[0].number > heads[1].number, str(heads))
         self.has("what can't be read", trouble[-1].reason, "record 2")
         for head in (heads[0], trouble[-1]):

@@ -1,4 +1,4 @@
-"""`lislab send --ask`: an analyzer that asks for the orders of samples, takes them, and may send results for them."""
+"""`lislab send --query`: an analyzer that queries the orders of samples, receives them, and may send results for them."""
 import asyncio
 import random
 import re

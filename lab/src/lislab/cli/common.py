@@ -3,6 +3,7 @@ import argparse
 import sys
 from typing import Any, Optional
 
+from ..model import renamed
 from ..model.files import write_whole
 from ..model.said import shown
 
@@ -16,12 +17,18 @@ def say(text: str) -> None:
 
 
 class Renamed(argparse.Action):
-    """An option under its old name, which this version accepts and reports: `const` has the new one."""
+    """An option under its old name, which this version accepts and reports; `const` is the new one."""
 
     def __call__(self, parser: Any, namespace: argparse.Namespace, values: Any, option_string: Optional[str] = None) -> None:
-        say(f"{option_string} is now {self.const}; the next version accepts only {self.const}")
+        renamed.report(str(option_string), str(self.const))
         before = getattr(namespace, self.dest)
         setattr(namespace, self.dest, [*before, values] if isinstance(before, list) else values)
+
+
+def add_renamed(parser: argparse.ArgumentParser, command: str, old: str, **how: Any) -> None:
+    """Adds an option of a command under its old name."""
+    new = renamed.OPTIONS[command, old]
+    parser.add_argument(old, action=Renamed, const=new, dest=new[2:].replace("-", "_"), help=argparse.SUPPRESS, **how)
 
 
 def read_input(path: str) -> bytes:

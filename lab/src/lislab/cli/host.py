@@ -20,20 +20,20 @@ from ..field.table import form_of
 from ..host import serve
 from ..host.left import left_of
 from ..host.outbox import Outbox
-from ..model import lines, options
+from ..model import lines, options, renamed
 from ..model.books import open_book
 from ..model.failures import Quarantined
 from ..model.files import Output, writing
 from ..model.options import Limits, Network, OptionError, Place
-from ..model.said import say
-from ..model.store import UNFINISHED, UNREADABLE, WHOLE
+from ..model.said import many, say
+from ..model.store import COMPLETE, INCOMPLETE, INVALID
 from ..model.stores import open_store
 from ..model.unix import shown, socket_of
 from ..outbound import export
 from ..outbound.oru import wishes_of
 from ..outbound.tables import tables_of
 from ..watch import status
-from .common import Renamed
+from .common import add_renamed
 
 #: Exit statuses, as those of the other commands.
 GOOD, WRONG, USAGE = 0, 1, 2
@@ -41,7 +41,7 @@ GOOD, WRONG, USAGE = 0, 1, 2
 
 #: What `serve --help` ends with.
 _SETTINGS = (
-    "KEY=VALUE is a setting of the line, for example --listen 4000,name=chemistry,orders=ask. lislab.lines(5) and "
+    "KEY=VALUE is a setting of the line, for example --listen 4000,name=chemistry,orders=query. lislab.lines(5) and "
     "docs/lislab.md list the settings."
 )
 
@@ -130,7 +130,8 @@ def _add_serve(one: argparse.ArgumentParser) -> None:
         help="name of this host in the store (the machine's name)",
     )
     _add_limits(one, Limits())
-    one.add_argument("--ask", metavar="COMMAND", help="answer queries by this command, which reads a query and prints records")
+    one.add_argument("--query-command", metavar="COMMAND", help="answer queries by this command, which reads a query and prints records")
+    add_renamed(one, "serve", "--ask", metavar="COMMAND")
     one.add_argument("--tries", type=_PLACE, default=10, metavar="N", help="try N times to send an order; 0 is no limit (%(default)s)")
     one.add_argument("--capture", metavar="PREFIX", help="record the traffic of every connection to PREFIX-NAME-TIME-N.capture")
     one.add_argument("--status", metavar="FILE", help="write the state for lislab status to FILE (STORE.status)")
@@ -168,8 +169,8 @@ def run_serve(ask: argparse.Namespace) -> int:
     try:
         left = store.start(ask.host_name)
         if left:
-            say(f"{len(left)} messages were open when the host stopped: they are unfinished")
-        ends = left_of(store, left, {place.name: place.mend for place in asked.places})
+            say(f"{many(len(left), 'message')} {'was' if len(left) == 1 else 'were'} open when the host stopped: incomplete")
+        ends = left_of(store, left, {place.name: place.fix for place in asked.places})
         asyncio.run(serve.serve(asked, store, ends))
     finally:
         store.close()
@@ -181,7 +182,7 @@ def _asked_of(ask: argparse.Namespace) -> serve.Asked:
     files = [one for one in ask.lines if isinstance(one, str)]
     most = [ask.max_lines, *(one for one in ask.lines if not isinstance(one, str))][-1]
     if len(files) < len(ask.lines):
-        say("--lines N is now --max-lines N; the next version accepts only --max-lines N")
+        renamed.report("--lines N", renamed.OPTIONS["serve", "--lines N"])
     if len(files) > 1:
         raise OptionError(f"one file of lines is read, not {' and '.join(files)}")
     networks = options.networks_of(ask.allow)
@@ -233,13 +234,13 @@ def _outbox_of(
     ask: argparse.Namespace, places: Sequence[Place]
 ) -> Optional[Callable[[Callable[[str], None]], Outbox]]:
     """What makes the orders of a host, if a line sends some."""
-    command = shlex.split(ask.ask or "")
+    command = shlex.split(ask.query_command or "")
     if not any(place.orders for place in places):
         if command:
-            raise OptionError("--ask answers on lines with orders=ask")
+            raise OptionError("--query-command answers on lines with orders=query")
         return None
-    if command and any(place.orders == "send" for place in places):
-        raise OptionError("a line with orders=send sends those of the store, and --ask has none to send unasked")
+    if command and any(place.orders == "download" for place in places):
+        raise OptionError("a line with orders=download sends the orders of the store, and --query-command only answers queries")
     book = functools.partial(open_book, ask.store, ask.host_name)
     return functools.partial(Outbox, book, command, ask.tries, ask.scale)
 
@@ -258,9 +259,7 @@ def _add_send(one: argparse.ArgumentParser) -> None:
     one.add_argument(
         "--query", action="append", default=[], metavar="SAMPLE", help="query the orders of a sample, or of ALL; may be repeated"
     )
-    one.add_argument(
-        "--ask", action=Renamed, dest="query", const="--query", metavar="SAMPLE", help=argparse.SUPPRESS
-    )
+    add_renamed(one, "send", "--ask", metavar="SAMPLE")
     one.add_argument("--results", metavar="FILE", help="with --query: send results, from rows TEST,VALUE,UNIT")
     one.add_argument("--log", metavar="FILE", help="write a JSON line for every message that is done")
     one.add_argument("--quiet", action="store_true", help="print no line per message")
@@ -372,9 +371,12 @@ def _add_export(one: argparse.ArgumentParser) -> None:
     one.add_argument("--format", type=form_of, choices=export.FORMATS, default="json", help="write this format (%(default)s)")
     one.add_argument("--since", metavar="TIME", help="only messages since 2026-11-27 or 2026-11-27T10:30")
     one.add_argument(
-        "--after", type=_PLACE, default=0, metavar="NUMBER", help="only whole messages with a greater number"
+        "--after", type=_PLACE, default=0, metavar="NUMBER", help="only complete messages with a greater number"
     )
-    one.add_argument("--state", choices=(WHOLE, UNFINISHED, UNREADABLE, "all"), default=WHOLE, help="only messages in this state (%(default)s)")
+    states = (COMPLETE, INCOMPLETE, INVALID, "all")
+    one.add_argument(
+        "--state", type=renamed.state_of, choices=states, default=COMPLETE, help="only messages in this state (%(default)s)"
+    )
     add_forms(one)
     one.add_argument("-o", "--output", metavar="FILE", help="write to FILE, readable only by its owner")
     one.set_defaults(run=run_export)
@@ -414,7 +416,7 @@ def run_export(ask: argparse.Namespace) -> int:
         since = None if ask.since is None else export.time_of(ask.since)
     except ValueError:
         raise OptionError(f"--since {ask.since}: a time is 2026-11-27 or 2026-11-27T10:30") from None
-    states = [WHOLE, UNFINISHED, UNREADABLE] if ask.state == "all" else [ask.state]
+    states = [COMPLETE, INCOMPLETE, INVALID] if ask.state == "all" else [ask.state]
     wanted = export.Wanted(states, ask.after, since, ask.line, not ask.without_repeats)
     form = form_asked(ask, ask.format)._replace(is_strict=False)
     write = export.writer_of(form)

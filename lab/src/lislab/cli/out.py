@@ -18,7 +18,7 @@ from ..model.stores import open_store
 from ..outbound import aside, https, mllp
 from ..outbound import deliver, export
 from ..outbound.tables import tables_of
-from .common import Renamed
+from .common import add_renamed
 from .host import _COUNT, _FACTOR, _store, add_forms, form_asked
 
 #: Exit statuses, as those of the other commands.
@@ -30,7 +30,7 @@ _SCHEMES = {"mllp": "oru", "mllps": "oru", "https": "fhir", "http": "fhir"}
 def add_commands(commands: Any) -> None:
     """Adds the commands to those of lislab."""
     _add_codes(commands.add_parser("codes", "check a code table, and list the codes of a store that it lacks"))
-    _add_deliver(commands.add_parser("deliver", "send every whole message to a command, a directory, MLLP or HTTPS"))
+    _add_deliver(commands.add_parser("deliver", "send every complete message to a command, a directory, MLLP or HTTPS"))
 
 
 def _add_deliver(one: argparse.ArgumentParser) -> None:
@@ -65,9 +65,8 @@ def _add_deliver(one: argparse.ArgumentParser) -> None:
     one.add_argument(
         "--resend", metavar="KEY", help="send this quarantined message and those that share its samples; all: every one"
     )
-    old = functools.partial(one.add_argument, action=Renamed, help=argparse.SUPPRESS)
-    old("--aside", dest="quarantine", const="--quarantine", type=_COUNT, metavar="N")
-    old("--again", dest="resend", const="--resend", metavar="KEY")
+    add_renamed(one, "deliver", "--aside", type=_COUNT, metavar="N")
+    add_renamed(one, "deliver", "--again", metavar="KEY")
     one.add_argument(
         "words", nargs="*", metavar="COMMAND", help="after --: a command that reads one message from standard input"
     )

@@ -84,7 +84,7 @@ def _ending(data: bytes, places: "re.Pattern[bytes]", is_sure: bool) -> Optional
 
 
 def _are_messages(data: bytes) -> bool:
-    """Whether these are whole messages in which no value can begin with M and a record's letter: each record has the
+    """Whether these are complete messages in which no value can begin with M and a record's letter: each record has the
     number that is due in its place and doesn't end in an empty component, each result has its value, each comment
     its source, and no record has a letter whose number is due nowhere."""
     found = list(read_all(data))

@@ -152,7 +152,7 @@ def code_of(error: MessageError) -> str:
 
 
 class RecordCause(NamedTuple):
-    """Why a record is rejected: in words, and the options of `lislab normalize` that mend it."""
+    """Why a record is rejected: in words, and the options of `lislab normalize` that fix it."""
 
     name: str
     words: str

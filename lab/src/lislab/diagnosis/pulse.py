@@ -10,7 +10,7 @@ from lislink.codes import FrameFault, Note
 from lislink.link import Step
 from ..model.book import Failed
 from ..model.said import many
-from ..model.store import MENDED, WHOLE, StoreError
+from ..model.store import COMPLETE, FIXED, StoreError
 from .events import (
     Answered, Came, Closed, Kept, Late, Looked, Meant, MessageEnded, Noise, NotKept, OwnAnswered, OwnFailed, Restarted,
     Sees, Sent,
@@ -249,7 +249,7 @@ class Pulse:
             who = "" if self.probes else ", and nobody is connected"
             return says(Verdict.NEVER, self.begun, ago=span(now - self.begun), who=who)
         if now - self.last < QUIET * self.scale:
-            return says(Verdict.WHOLE, self.last, ago=span(now - self.last))
+            return says(Verdict.COMPLETE, self.last, ago=span(now - self.last))
         verdict = Verdict.ONLINE if self.probes else Verdict.AWAY
         return says(verdict, self.last, ago=span(now - self.last))
 
@@ -491,14 +491,14 @@ class Probe:
     def _ended(self, ended: MessageEnded) -> None:
         """A message ended. One of no bytes isn't counted, nor one of which another one was made."""
         pulse, end = self._pulse, ended.end
-        is_mended = end.reason.startswith(MENDED)
-        if end.state == WHOLE:
+        is_fixed = end.reason.startswith(FIXED)
+        if end.state == COMPLETE:
             pulse.messages[end.state] += 1
             pulse.last = end.at
             pulse.right("messages", "lost", "noise")
-        elif end.size and not is_mended:
+        elif end.size and not is_fixed:
             pulse.messages[end.state] += 1
-            pulse.wrong("messages", Verdict.NOT_WHOLE, f"{end.state}: {end.reason}")
+            pulse.wrong("messages", Verdict.NOT_COMPLETE, f"{end.state}: {end.reason}")
 
     def _close(self, _: Closed) -> None:
         """The connection is over."""

@@ -7,7 +7,7 @@ from typing import Any, FrozenSet, Iterable, Optional
 GOOD, PLAIN, WARN, BAD = "good", "plain", "warn", "bad"
 #: What to do about a frame that is rejected, if its verdict says nothing else; about a checksum by another way to sum.
 _SENDER_WRONG = "the sender is wrong: a receiver must not take such a frame"
-_MEND_SUM = "mend the sender: a receiver must not take such a checksum"
+_FIX_SUM = "fix the sender: a receiver must not take such a checksum"
 _DAMAGED = "other frames of the sender are right: bytes were damaged on the way; look at cable, shield and speed"
 _UNSURE = "the sender sums otherwise, or bytes were damaged on the way"
 _PLAIN = "; a host's line with `link=plain` takes these, and notices no damage"
@@ -192,7 +192,7 @@ class Verdict(enum.Enum):
         "lf-in-text",
         BAD,
         "{share} rejected: {why}",
-        "the sender must put CR alone after a record; a host's line with `mend=crlf` or `mend=lf` takes LF",
+        "the sender must put CR alone after a record; a host's line with `fix=crlf` or `fix=lf` takes LF",
         "LF is inside the text, and ends the frame",
     )
     NO_CR = (
@@ -236,33 +236,33 @@ class Verdict(enum.Enum):
     SUM = ("sum", BAD, "{share} rejected: {why}", "", "the checksum is wrong")
     SUM_NO_DIGITS = ("sum-no-digits", BAD, "{share} rejected: {why}", "", "the checksum has no hexadecimal digits")
     # other ways to sum: what is said of a running line is the way
-    SUM_WITHOUT_END = ("sum-without-end", BAD, "{share} rejected: {why}", _MEND_SUM, "it leaves out ETX or ETB")
-    SUM_WITH_STX = ("sum-with-stx", BAD, "{share} rejected: {why}", _MEND_SUM, "it counts STX")
+    SUM_WITHOUT_END = ("sum-without-end", BAD, "{share} rejected: {why}", _FIX_SUM, "it leaves out ETX or ETB")
+    SUM_WITH_STX = ("sum-with-stx", BAD, "{share} rejected: {why}", _FIX_SUM, "it counts STX")
     SUM_WITH_STX_WITHOUT_END = (
         "sum-with-stx-without-end",
         BAD,
         "{share} rejected: {why}",
-        _MEND_SUM,
+        _FIX_SUM,
         "it counts STX and leaves out ETX or ETB",
     )
     SUM_WITHOUT_NUMBER = (
         "sum-without-number",
         BAD,
         "{share} rejected: {why}",
-        _MEND_SUM,
+        _FIX_SUM,
         "it leaves out the frame number",
     )
-    SUM_OF_TEXT = ("sum-of-text", BAD, "{share} rejected: {why}", _MEND_SUM, "it counts the text alone")
-    SUM_XOR = ("sum-xor", BAD, "{share} rejected: {why}", _MEND_SUM, "it is an exclusive or")
+    SUM_OF_TEXT = ("sum-of-text", BAD, "{share} rejected: {why}", _FIX_SUM, "it counts the text alone")
+    SUM_XOR = ("sum-xor", BAD, "{share} rejected: {why}", _FIX_SUM, "it is an exclusive or")
     SUM_XOR_TEXT = (
         "sum-xor-text",
         BAD,
         "{share} rejected: {why}",
-        _MEND_SUM,
+        _FIX_SUM,
         "it is an exclusive or without the number",
     )
-    SUM_COMPLEMENT = ("sum-complement", BAD, "{share} rejected: {why}", _MEND_SUM, "it is the two's complement")
-    SUM_WITH_CR = ("sum-with-cr", BAD, "{share} rejected: {why}", _MEND_SUM, "it counts the CR after it")
+    SUM_COMPLEMENT = ("sum-complement", BAD, "{share} rejected: {why}", _FIX_SUM, "it is the two's complement")
+    SUM_WITH_CR = ("sum-with-cr", BAD, "{share} rejected: {why}", _FIX_SUM, "it counts the CR after it")
     OUT_OF_TURN = (
         "out-of-turn",
         BAD,
@@ -420,7 +420,7 @@ class Verdict(enum.Enum):
         "",
         "",
     )
-    RECORD = ("record", BAD, "record {number} of a message is rejected ({code}): {why}", "{mends}", "")
+    RECORD = ("record", BAD, "record {number} of a message is rejected ({code}): {why}", "{fixes}", "")
     RECORDS = ("records", BAD, "{messages} rejected", "", "")
     SEQUENCE = (
         "sequence",
@@ -474,8 +474,8 @@ class Verdict(enum.Enum):
         "look whether the analyzer is on, and takes orders",
         "{times} a session of the host failed since {since}: {why}",
     )
-    NOT_WHOLE = (
-        "not-whole",
+    NOT_COMPLETE = (
+        "not-complete",
         BAD,
         "",
         "`lislab export --state all` shows them; an analyzer may not send them again",
@@ -505,7 +505,7 @@ class Verdict(enum.Enum):
     )
     HOST_DOWN = ("host-down", BAD, "", "start it: lislab serve", "the host isn't running")
     GOES_ON = ("goes-on", GOOD, "", "", "a session goes on, {frames} since {since}")
-    WHOLE = ("whole", GOOD, "", "", "last message {ago} ago")
+    COMPLETE = ("complete", GOOD, "", "", "last message {ago} ago")
     ONLINE = ("online", PLAIN, "", "", "connected, no message for {ago}")
     NEVER = ("never", PLAIN, "", "", "no message since the host started, {ago} ago{who}")
     AWAY = ("away", PLAIN, "", "", "nobody is connected, last message {ago} ago")

@@ -39,7 +39,7 @@ def looks_of(ladder: Ladder) -> List[Look]:
 
 def look_of(verdict: Verdict, lines: List[int], count: int = 0, **values: Any) -> Look:
     """What a verdict says of so many rows, with their first lines, or with the values that are given."""
-    said: Dict[str, Any] = {"count": count, "times": _times(count), "mends": "", "plain": ""}
+    said: Dict[str, Any] = {"count": count, "times": _times(count), "fixes": "", "plain": ""}
     said.update({f"{name}s": _many(count, name) for name in ("frame", "byte", "answer")})
     said.update(values)
     advice = verdict.advice.format(**said)
@@ -336,17 +336,17 @@ def _of_fault(ladder: Ladder, fault: Fault) -> Look:
         return look_of(Verdict.INCOMPLETE, lines, number=number, code=code)
     record = record_at(ladder.stream, fault.place)
     cause = cause_of_record(fault.error, record, fault.place + len(record) >= len(ladder.stream))
-    look = look_of(Verdict.RECORD, lines, number=number, code=code, why=cause.words, mends=_mends(cause.options))
+    look = look_of(Verdict.RECORD, lines, number=number, code=code, why=cause.words, fixes=_fixes(cause.options))
     return look._replace(name=f"{look.name}-{cause.name}")
 
 
-def _mends(options: List[str]) -> str:
-    """What mends the records of a file, and those of a host's line."""
+def _fixes(options: List[str]) -> str:
+    """What fixes the records of a file, and those of a host's line."""
     if options == ["--long"]:
         return "`lislab normalize --long` leaves the record out, as a host does"
-    names = " or ".join(f"`mend={one[2:]}`" for one in options)
+    names = " or ".join(f"`fix={one[2:]}`" for one in options)
     all_of_them = " or ".join(options)
-    return f"`lislab normalize {all_of_them}` mends the records, {names} those of a host's line" if options else ""
+    return f"`lislab normalize {all_of_them}` fixes the records, {names} those of a host's line" if options else ""
 
 
 def _was_lost(ladder: Ladder) -> bool:

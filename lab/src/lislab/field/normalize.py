@@ -303,7 +303,7 @@ def rejected_lines(data: bytes) -> Iterator[str]:
 
 
 def explain(data: bytes) -> Iterator[str]:
-    """What is wrong with the records, which options mend it, and what is left with them."""
+    """What is wrong with the records, which options fix it, and what is left with them."""
     before = list(rejected_lines(data))
     if not before and not any(changed_lines(data, data)):
         yield "nothing is wrong: all records are read"
@@ -332,13 +332,13 @@ def explain(data: bytes) -> Iterator[str]:
     if "long" in more and left:
         yield f"line {more['long']}: --long: {CHANGES['long']}"
     if left:
-        yield "still rejected with these options:" if needed else "no option mends it without a loss:"
+        yield "still rejected with these options:" if needed else "no option fixes it without a loss:"
         yield from ("  " + line for line in left)
     if changed:
         yield "not what the file has:" if not needed else "these options don't keep each result:"
         yield from ("  " + line for line in changed)
     if not left and not changed:
-        yield "mended by: lislab normalize " + " ".join(f"--{name}" for name in CHANGES if name in needed)
+        yield "fixed by: lislab normalize " + " ".join(f"--{name}" for name in CHANGES if name in needed)
 
 
 def changed_lines(before: bytes, after: bytes) -> Iterator[str]:

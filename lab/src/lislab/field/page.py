@@ -195,7 +195,7 @@ def _rejected(ladder: Ladder, number: int, fault: Fault) -> str:
     cause = cause_of_record(fault.error, record, fault.place + len(record) >= len(ladder.stream))
     line = ladder.line_of(min(fault.place, max(len(ladder.stream) - 1, 0)))
     options = (
-        f'<p class="advice">lislab normalize {escaped(" or ".join(cause.options))} mends the records</p>'
+        f'<p class="advice">lislab normalize {escaped(" or ".join(cause.options))} fixes the records</p>'
         if cause.options
         else ""
     )

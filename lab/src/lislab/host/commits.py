@@ -9,7 +9,7 @@ from ..model.store import Store, StoreError, Unit
 
 #: The most changes of one commit, if it has more than one unit; the most units that are owed.
 TOGETHER, OWED = 500, 10000
-#: How often these are tried at the end. What is still open then becomes unfinished at the next start.
+#: How often these are tried at the end. What is still open then becomes incomplete at the next start.
 LAST_TRIES = 5
 
 

@@ -239,7 +239,7 @@ class TwoWayLine(Line):
             self._asking.over()
         return True
 
-    def _took_mended(self, key: str, changes: Sequence[Change]) -> None:
+    def _took_fixed(self, key: str, changes: Sequence[Change]) -> None:
         if self._lost:
             return
         body = b"".join(one.body for one in changes if isinstance(one, Add) and one.key == key)

@@ -1,4 +1,4 @@
-"""LF in the texts of frames, which LIS01-A2 forbids (6.3) since LF ends a frame: of a line that mends it the receiver
+"""LF in the texts of frames, which LIS01-A2 forbids (6.3) since LF ends a frame: of a line that fixes it the receiver
 hears each such frame with another byte in its place.
 
 Where such a frame ends is decided here, by code that is tested and not proved: at LF after ETX or ETB, two bytes and

@@ -7,7 +7,7 @@ from typing import Callable, Dict, Iterable, Iterator, List, Optional, Tuple
 from lislink.codes import Reason, Status
 from lislink.letters import Letters
 from lislink.records import MessageError, Reader
-from ..model.store import UNFINISHED, UNREADABLE, WHOLE, Add, Begin, Change, End, new_key
+from ..model.store import COMPLETE, INCOMPLETE, INVALID, Add, Begin, Change, End, new_key
 from .unknown import Unknown
 
 _WORDS = {
@@ -45,7 +45,7 @@ class Pool:
 
 
 class Held:
-    """How many bytes of messages that aren't whole yet the lines of a host may hold: the first ones of each message,
+    """How many bytes of messages that aren't complete yet the lines of a host may hold: the first ones of each message,
     and of longer ones up to `most` of one and `all_lines` of all."""
 
     def __init__(self, most: int, all_lines: int = 0) -> None:
@@ -63,13 +63,13 @@ class Held:
 
 
 class _Message:
-    """A message that isn't whole yet: its digest so far, its records so far, and why it can't be read."""
+    """A message that isn't complete yet: its digest so far, its records so far, and why it can't be read."""
 
     def __init__(self, begin: Begin, body: Optional[bytearray], is_coded: bool) -> None:
         self.key, self.begin, self.reader, self.digest = begin.key, begin, Reader(), hashlib.sha256()
         #: Whether the codes of its results are looked up.
         self.is_coded = is_coded
-        #: All its bytes, as long as they aren't too many to be mended; how many of them count.
+        #: All its bytes, as long as they aren't too many to be fixed; how many of them count.
         self.body, self.held = body, 0
         self.places = self.size = self.records = 0
         self.fault, self.letters = "", Letters(begin.encoding)
@@ -79,7 +79,7 @@ class _Message:
 
 class Intake:
     """What is to be kept of each text of a line. Of a message it holds what `held` allows until it ends, and the bytes
-    of one that isn't whole until they are taken out of `bodies`: how it began, and its bytes, by its key."""
+    of one that isn't complete until they are taken out of `bodies`: how it began, and its bytes, by its key."""
 
     def __init__(
         self,
@@ -98,7 +98,7 @@ class Intake:
         self._message: Optional[_Message] = None
         #: The ends of messages that aren't known to be kept.
         self._ends: List[End] = []
-        #: What the letters of whole messages look like that have ended, by their keys, if it is another encoding.
+        #: What the letters of complete messages look like that have ended, by their keys, if it is another encoding.
         self.letters: Dict[str, str] = {}
 
     def take(self, text: bytes) -> Iterator[List[Change]]:
@@ -128,15 +128,15 @@ class Intake:
         return self._message is not None
 
     def spoil(self, reason: str) -> None:
-        """The message that goes on is not to be delivered, whatever comes of it, and not to be mended."""
+        """The message that goes on is not to be delivered, whatever comes of it, and not to be fixed."""
         one = self._message
         if one is not None:
             one.fault, one.body = _after(one, reason) + (f"; {one.fault}" if one.fault else ""), None
 
     def undo(self, reason: str) -> List[Change]:
-        """The changes if those that were given last aren't kept: their messages are not whole."""
+        """The changes if those that were given last aren't kept: their messages are not complete."""
         ends, self._ends = self._ends, []
-        undone = [one._replace(state=UNFINISHED, reason=reason) if one.state == WHOLE else one for one in ends]
+        undone = [one._replace(state=INCOMPLETE, reason=reason) if one.state == COMPLETE else one for one in ends]
         changes = [*undone, *self.drop(reason)]
         self.bodies = {}
         return changes
@@ -147,7 +147,7 @@ class Intake:
         if one is None:
             return []
         changes: List[Change] = []
-        self._end(UNREADABLE if one.fault else UNFINISHED, one.fault or _after(one, reason), changes)
+        self._end(INVALID if one.fault else INCOMPLETE, one.fault or _after(one, reason), changes)
         return changes
 
     def _begin(self, changes: List[Change]) -> None:
@@ -168,7 +168,7 @@ class Intake:
                 if letter == "L":
                     end = one.ended - one.size
                     self._add(one, text[:end], changes)
-                    self._end(WHOLE, "", changes)
+                    self._end(COMPLETE, "", changes)
                     return end
         except MessageError as error:
             return self._reject(one, text, error, changes)
@@ -186,7 +186,7 @@ class Intake:
         start = one.ended - one.size  # where it begins in the text; below 0 in an earlier one
         if start >= 0 and one.records and is_header(text, start):
             self._add(one, text[:start], changes)
-            self._end(UNFINISHED, _after(one, "a header comes before its L record"), changes)
+            self._end(INCOMPLETE, _after(one, "a header comes before its L record"), changes)
             return start
         one.fault = _fault(one, text, error)
         return self._pass_over(one, text, text.find(b"\r", max(start, 0)) + 1 or len(text), changes)
@@ -198,7 +198,7 @@ class Intake:
             start = found.start() + 1 if found else len(text)
         self._add(one, text[:start], changes)
         if start < len(text):
-            self._end(UNREADABLE, one.fault, changes)
+            self._end(INVALID, one.fault, changes)
         return start
 
     def _add(self, one: _Message, body: bytes, changes: List[Change]) -> None:
@@ -220,10 +220,10 @@ class Intake:
         one, self._message = self._message, None
         assert one is not None
         one.reader.close()
-        look = one.letters.look() if state == WHOLE else ""
+        look = one.letters.look() if state == COMPLETE else ""
         if look:
             self.letters[one.key] = look
-        if state != WHOLE and one.body:
+        if state != COMPLETE and one.body:
             self.bodies[one.key] = one.begin, bytes(one.body)
         if self._held is not None:
             self._held.drop(one)

@@ -1,11 +1,11 @@
-"""What a host left open that died: it is ended at the next start, and what its line mends is made of it."""
+"""What a host left open that died: it is ended at the next start, and what its line fixes is made of it."""
 import hashlib
 from typing import Iterable, List, Mapping, NamedTuple, Sequence
 
-from ..model.store import LEFT, UNFINISHED, Begin, End, Store, Stored
-from .mend import MOST, Ended, has_long
+from ..model.store import INCOMPLETE, LEFT, Begin, End, Store, Stored
+from .fix import MOST, Ended, has_long
 
-#: The most bytes of messages that are held at a start to be mended.
+#: The most bytes of messages that are held at a start to be fixed.
 HELD = 64 << 20
 
 
@@ -13,16 +13,16 @@ class Left(NamedTuple):
     """What was left open: the ends of messages of which nothing is made, and those of which something may be."""
 
     ends: List[End]
-    to_mend: List[Ended]
+    to_fix: List[Ended]
 
 
-def left_of(store: Store, left: Iterable[Stored], mends: Mapping[str, Sequence[str]]) -> Left:
-    """How messages end that were left open, by what each line mends, in their order."""
+def left_of(store: Store, left: Iterable[Stored], fixes: Mapping[str, Sequence[str]]) -> Left:
+    """How messages end that were left open, by what each line fixes, in their order."""
     found, held = Left([], []), 0
     for one in left:
         ended = ended_of(one._replace(body=store.body_of(one.key)))
-        if len(ended.body) <= min(MOST, HELD - held) and (mends.get(one.line) or has_long(ended.body)):
-            found.to_mend.append(ended)
+        if len(ended.body) <= min(MOST, HELD - held) and (fixes.get(one.line) or has_long(ended.body)):
+            found.to_fix.append(ended)
             held += len(ended.body)
         else:
             found.ends.append(ended.end)
@@ -31,8 +31,8 @@ def left_of(store: Store, left: Iterable[Stored], mends: Mapping[str, Sequence[s
 
 def ended_of(one: Stored) -> Ended:
     """A message that was left open, as it ends. All of it was acknowledged, and the end of its session may have come: if
-    its last record is whole, it is mended as if it had."""
+    its last record is whole, it is fixed as if it had."""
     digest = hashlib.sha256(one.body).hexdigest()
-    end = End(one.key, one.line, UNFINISHED, LEFT, digest, len(one.body), one.began)
+    end = End(one.key, one.line, INCOMPLETE, LEFT, digest, len(one.body), one.began)
     begin = Begin(one.key, one.line, one.peer, one.encoding, one.began)
     return Ended(begin, one.body, end, one.body.endswith((b"\r", b"\n")))

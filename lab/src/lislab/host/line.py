@@ -13,13 +13,13 @@ from ..diagnosis.events import (
 )
 from ..diagnosis.notices import LETTERS, MESSAGE, REJECTED
 from ..model.options import Limits
-from ..model.store import MENDED, WHOLE, Add, Change, End, StoreError
+from ..model.store import COMPLETE, FIXED, Add, Change, End, StoreError
 from .asleep import Asleep
 from .commits import Committer
 from .feeds import Heard, LineFeeds
 from .intake import FIRST, Intake, Pool, TooLong
-from .mend import LINE_FEEDS, Ended
-from .mender import Bodies, Mender, is_mended
+from .fix import LINE_FEEDS, Ended
+from .fixer import Bodies, Fixer, fixed_ends
 from .turns import Share, Turns
 
 #: How many bytes may wait to be heard before the line is read no further; how many bytes of a long text are kept in one
@@ -95,7 +95,7 @@ class Parts:
     observers: Observers
     say: Callable[[str, str], None]
     counts: "Counter[str]"
-    mender: Mender
+    fixer: Fixer
     committer: Committer
     turns: Turns
     limits: Limits = Limits()
@@ -110,7 +110,7 @@ class Line:
     """A line that is connected. It tells what happens on it to its observers, none of which it waits for."""
 
     def __init__(self, parts: Parts) -> None:
-        self._mender, self._is_careful = parts.mender, parts.is_careful
+        self._fixer, self._is_careful = parts.fixer, parts.is_careful
         #: Messages that ended, of which it is to be tried which setting would deliver them.
         self._tries: List[Ended] = []
         #: Whether the last frame was taken, and when a reply went out last.
@@ -150,7 +150,7 @@ class Line:
 
     def _feeds_of(self, frame: int) -> Optional[LineFeeds]:
         """What is between the line and the end that hears it, if its frames may hold LF."""
-        return LineFeeds(frame, self._is_careful) if self._mender.names & LINE_FEEDS else None
+        return LineFeeds(frame, self._is_careful) if self._fixer.names & LINE_FEEDS else None
 
     def _is_busy(self) -> bool:
         """Whether a session goes on."""
@@ -442,7 +442,7 @@ class Line:
         part: List[Change] = []
         for changes in self._intake.take(text):
             if self._intake.bodies:
-                changes = await self._mended(changes)
+                changes = await self._fixed(changes)
             if part:
                 await self._take_turns()
             if len(part) + len(changes) > self._committer.part:
@@ -454,20 +454,20 @@ class Line:
             await self._put(part)
         self._is_long = False
         if self._tries:
-            self._mender.begin_tries(self._tries, self._put_later)
+            self._fixer.begin_tries(self._tries, self._put_later)
 
-    async def _mended(self, changes: List[Change]) -> List[Change]:
-        """The same changes, with what is made of the messages that end and aren't whole."""
+    async def _fixed(self, changes: List[Change]) -> List[Change]:
+        """The same changes, with what is made of the messages that end and aren't complete."""
         bodies, self._intake.bodies = self._intake.bodies, {}
-        changes = await self._mender.of_all(changes, bodies, True, self._tries)
+        changes = await self._fixer.of_all(changes, bodies, True, self._tries)
         self._share.goes_on()
-        self._intake.also(is_mended(changes))
+        self._intake.also(fixed_ends(changes))
         return changes
 
     async def _put(self, part: Sequence[Change]) -> None:
         ends = [one for one in part if isinstance(one, End)]
-        if any(one.state == WHOLE for one in ends):
-            await self._mender.order.over()  # nothing overtakes what is made of an earlier message
+        if any(one.state == COMPLETE for one in ends):
+            await self._fixer.order.over()  # nothing overtakes what is made of an earlier message
         self._share.rests()
         await self._committer.put(part, self._is_long)
         self._share.goes_on()
@@ -477,31 +477,31 @@ class Line:
             self._note_ends(part)
 
     def _note_ends(self, changes: Sequence[Change]) -> None:
-        """Counts the messages that ended, and says which are not whole."""
+        """Counts the messages that ended, and says which are not complete."""
         for change in changes:
             if not isinstance(change, End):
                 continue
             self._tell(MessageEnded(change))
             self._note_letters(change)
-            self._counts["messages" if change.state == WHOLE else "quarantined"] += 1
-            if change.state == WHOLE:
+            self._counts["messages" if change.state == COMPLETE else "quarantined"] += 1
+            if change.state == COMPLETE:
                 self.last = change.at
                 if change.reason:
-                    self._counts["mended"] += 1
-                    self._took_mended(change.key, changes)
+                    self._counts["fixed"] += 1
+                    self._took_fixed(change.key, changes)
             elif change.size:
-                state = "" if change.reason.startswith(MENDED) else f"{change.state}: "
+                state = "" if change.reason.startswith(FIXED) else f"{change.state}: "
                 self._say(f"message {change.key} is {state}{change.reason}", MESSAGE)
 
     def _note_letters(self, end: End) -> None:
-        """Says of a whole message that its letters look like those of another encoding."""
+        """Says of a complete message that its letters look like those of another encoding."""
         look = self._intake.letters.pop(end.key, "")
-        if look and end.state == WHOLE:
+        if look and end.state == COMPLETE:
             about = f"message {end.key}: its letters are {look}"
             self._say(f"{about}, and the line's encoding is {self._intake.encoding}", LETTERS)
 
-    def _took_mended(self, key: str, changes: Sequence[Change]) -> None:
-        """A message was mended by these changes, and is kept or will be."""
+    def _took_fixed(self, key: str, changes: Sequence[Change]) -> None:
+        """A message was fixed by these changes, and is kept or will be."""
 
     def _restart(self, reason: str) -> None:
         self._begin_anew()
@@ -516,17 +516,17 @@ class Line:
         changes = self._intake.drop(reason)
         if self._intake.bodies:
             bodies, self._intake.bodies = self._intake.bodies, {}
-            self._mender.order.begin(functools.partial(self._end_later, changes, bodies, is_over))
+            self._fixer.order.begin(functools.partial(self._end_later, changes, bodies, is_over))
         elif changes:
             self._put_later(changes)
 
     async def _end_later(self, changes: List[Change], bodies: Bodies, is_over: bool) -> None:
         """Ends a message for which no reply waits, with what is made of it."""
         tries: List[Ended] = []
-        made = await self._mender.of_all(changes, bodies, is_over, tries)
+        made = await self._fixer.of_all(changes, bodies, is_over, tries)
         if made:
             await self._put_later(made)
-        self._mender.begin_tries(tries, self._put_later)
+        self._fixer.begin_tries(tries, self._put_later)
 
     def _put_later(self, changes: Sequence[Change]) -> "asyncio.Future[None]":
         """Keeps changes for which no reply waits. What they end is counted and said once it is kept."""

@@ -18,7 +18,7 @@ from ..diagnosis.tape import Tape
 from ..model.options import Listen, OptionError, Place
 from ..model.said import say
 from ..model.store import Store, StoreError
-from . import mend, systemd
+from . import fix, systemd
 from .asked import Asked as Asked
 from .asked import SaidOnce, warn
 from .asleep import Asleep
@@ -28,7 +28,7 @@ from .duplex import TwoWayLine
 from .intake import Held, Intake, Pool
 from .left import Left
 from .line import Line, Parts, Ticks, Wire
-from .mends import Mends
+from .fixers import Fixers
 from .outbox import Outbox, Site
 from .plainlink import PlainLine
 from .ports import LineRoom, Ports
@@ -38,7 +38,7 @@ from .tasks import Tasks
 from .turns import Turns
 from .unknown import Unknown
 
-#: So many bytes of long messages are held until they end, to be mended if they aren't whole; and so many of long texts
+#: So many bytes of long messages are held until they end, to be fixed if they aren't complete; and so many of long texts
 #: until they are complete.
 HELD, TEXTS = 32 << 20, 16 << 20
 #: How long the thread that commits waits for its turn while a line is busy: it needs one after each statement.
@@ -64,10 +64,10 @@ class Host:
         self._unknown: Dict[str, Unknown] = {}
         #: What all lines share.
         self._turns, self._asleep = Turns(), Asleep()
-        self._held, self._texts = Held(mend.MOST, HELD), Pool(TEXTS)
+        self._held, self._texts = Held(fix.MOST, HELD), Pool(TEXTS)
         #: What goes on besides the lines.
         self._others = Tasks(say)
-        self._left, self._mends = left, Mends(self.committer, self.notices, self._unknown_of)
+        self._left, self._fixes = left, Fixers(self.committer, self.notices, self._unknown_of)
         self.room, self.ports = LineRoom(self), Ports(self)
         self.calls, self.serials = Calls(self, self._others), Serials(self, self._others)
         self._file = StateFile(asked.status, self.state)
@@ -87,7 +87,7 @@ class Host:
         is_careful, tape = place.careful != "no", self._tape(place.name)
         those = [*([tape.sees()] if tape else []), Watch(notice).sees(), *self.board.observers(place, is_careful)]
         observers = Observers([*those, unknown.sees(counts, notice)], notice)
-        given = wire, intake, observers, notice, counts, self._mends.of(place), self.committer, self._turns
+        given = wire, intake, observers, notice, counts, self._fixes.of(place), self.committer, self._turns
         more = self.limits, place.frame, is_careful, self._asleep, self._texts
         line = self._line(place, peer, Parts(*given, *more))
         notice("connected" if wire.is_tcp else "open", CONNECTION)
@@ -104,7 +104,7 @@ class Host:
         if self.outbox is None or not place.orders:
             return Line(parts)
         self._seats += 1
-        where = place.name, peer, place.encoding, place.orders == "send", place.none, str(self._seats)
+        where = place.name, peer, place.encoding, place.orders == "download", place.none, str(self._seats)
         is_anew = bool(getattr(place, "waits", ""))
         site = Site(*where, place.asks, int(place.test.split("^")[0] or 4), is_anew)
         return TwoWayLine(self.outbox, site, parts)
@@ -139,7 +139,7 @@ class Host:
     async def start(self) -> None:
         """Opens the ports and the devices."""
         await self._start_outbox(self.asked)
-        await self._mends.end_left(self._left, self.asked.places)
+        await self._fixes.end_left(self._left, self.asked.places)
         warn(self.asked.places)
         for place in self.asked.listens:
             await self.ports.listen(place)
@@ -250,7 +250,7 @@ class Host:
         for task in self.lines.values():
             task.cancel()
         await asyncio.gather(*self.lines.values(), self._others.cancel(), return_exceptions=True)
-        await self._mends.stop()
+        await self._fixes.stop()
         self.ticks.stop()
         await self.board.close()
         if self.outbox is not None:
@@ -274,7 +274,7 @@ class Host:
             "commits": self.committer.commits,
             "failed_commits": self.committer.failed,
             "lines": self.counts.data(Counter(place.name for place in self._places.values())),
-            "would": {name: dict(one) for name, one in self._mends.would.items() if one},
+            "would": {name: dict(one) for name, one in self._fixes.would.items() if one},
             "unknown_codes": {name: one.names() for name, one in self._unknown.items() if one.names()},
             "notices": {name: dict(one) for name, one in self.notices.counts.items()},
             "not_said": {name: dict(one) for name, one in self.notices.not_said.items()},
@@ -289,7 +289,7 @@ class Host:
 
 
 async def serve(asked: Asked, store: Store, left: Left = Left([], [])) -> None:
-    """Serves until SIGTERM or SIGINT comes, and mends what was left open first. At SIGHUP it reads its file of lines
+    """Serves until SIGTERM or SIGINT comes, and fixes what was left open first. At SIGHUP it reads its file of lines
     again, if it has one."""
     sys.setswitchinterval(SWITCH)
     stop, again = asyncio.Event(), asyncio.Event()

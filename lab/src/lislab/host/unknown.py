@@ -1,4 +1,4 @@
-"""What a line's table of codes lacks: the results of its whole messages are looked up as a delivery looks them up."""
+"""What a line's table of codes lacks: the results of its complete messages are looked up as a delivery looks them up."""
 import contextlib
 from collections import Counter
 from typing import Callable, Dict, Optional, Tuple
@@ -9,7 +9,7 @@ from lislink.rows import Row
 from ..diagnosis.events import MessageEnded, Sees
 from ..diagnosis.notices import CODES
 from ..model.codes import Codes, field_and_unit
-from ..model.store import WHOLE
+from ..model.store import COMPLETE
 
 #: So many codes are counted one by one, of a line and of a message; so many of a message are named; a code is shown up
 #: to so many characters.
@@ -62,7 +62,7 @@ class Unknown:
                 self.look(key, row, encoding)
 
     def ended(self, key: str, is_whole: bool) -> Tuple[int, str]:
-        """A message is kept, or isn't whole: how many results of a whole one have codes that the table lacks, and which
+        """A message is kept, or isn't complete: how many results of a whole one have codes that the table lacks, and which
         these are."""
         found = self._ending.pop(key, None)
         if not found or not is_whole:
@@ -77,7 +77,7 @@ class Unknown:
         """What it does when a message of the line ends: it counts the codes that the table lacks, and says which."""
 
         def see(ended: MessageEnded) -> None:
-            count, names = self.ended(ended.end.key, ended.end.state == WHOLE)
+            count, names = self.ended(ended.end.key, ended.end.state == COMPLETE)
             if count:
                 counts["unknown_codes"] += count
                 say(f"message {ended.end.key} has codes that the line's table lacks: {names}", CODES)

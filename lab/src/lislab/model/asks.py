@@ -65,7 +65,7 @@ READS: Dict[str, Tuple[str, Callable[[str], Any]]] = {
     "query-all": ("all", _all),
     "echo": ("echo", _echo),
     "again": ("again", _again),
-    "ask": ("command", _command),
+    "query-command": ("command", _command),
 }
 
 
@@ -77,6 +77,6 @@ def told(asks: Asks) -> Dict[str, str]:
         "query-all": "yes" if asks.all else "",
         "echo": f"O.{field}" + (f":{first}" if first > 1 else "") if field else "",
         "again": f"{asks.again:g}s" if asks.again != DAY else "",
-        "ask": shlex.join(asks.command),
+        "query-command": shlex.join(asks.command),
     }
     return {key: word for key, word in words.items() if word}

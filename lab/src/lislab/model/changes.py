@@ -1,4 +1,4 @@
-"""The changes of records that can be asked for: of a file by `lislab normalize`, of a line by `mend=`."""
+"""The changes of records that can be asked for: of a file by `lislab normalize`, of a line by `fix=`."""
 from typing import Dict
 
 #: The changes, in the order in which they are made: the option and what it does.

@@ -4,7 +4,7 @@ import os
 import re
 from typing import Any, Callable, Dict, Iterator, List, NamedTuple, Sequence, Tuple
 
-from . import options
+from . import options, renamed
 from .asks import told
 from .codes import Codes, Read, read_codes
 from .options import Connect, Listen, Network, OptionError, Place, Serial
@@ -46,9 +46,10 @@ class _Section(configparser.RawConfigParser):
             yield row
 
     def optionxform(self, optionstr: str) -> str:
-        """A key as it is. configparser asks for it as soon as it has read the key's row."""
-        self.rows.setdefault(optionstr, self._row)
-        return optionstr
+        """A key by its present name. configparser asks for it as soon as it has read the key's row."""
+        key = renamed.key_of(optionstr)
+        self.rows.setdefault(key, self._row)
+        return key
 
 
 class _File:
@@ -131,7 +132,7 @@ class _File:
         where, values = None, {}  # type: Any, Dict[str, Any]
         for key, word in given.items():
             try:
-                if key not in ("allow", "mend") and "\n" in word:
+                if key not in ("allow", "fix") and "\n" in word:
                     raise OptionError(f"{key} takes one word, and a row that begins with a blank belongs to it")
                 if key == kind:
                     where = split(word)

@@ -7,15 +7,15 @@ from typing import Any, Callable, Dict, Iterable, List, NamedTuple, Sequence, Tu
 
 from lislink.letters import LATIN
 from lislink.link import FRAME_TEXT, LONG_FRAME_TEXT
-from . import asks
+from . import asks, renamed
 from .asks import Asks
 from .changes import CHANGES
 
 Network = Union[ipaddress.IPv4Network, ipaddress.IPv6Network]
 _MODES = re.compile(r"[5-8][NEO][12]$")
-#: When orders are sent: to an analyzer that asks, or also unasked. How an analyzer learns that there is no order: the
-#: message ends with I, its query comes back with X, or nothing comes.
-ORDERS, NOTHINGS = ("ask", "send"), ("L-I", "Q-X", "silence")
+#: When orders are sent: in reply to a host query, or also by download. How an analyzer learns that there is no order:
+#: the message ends with I, its query comes back with X, or nothing comes.
+ORDERS, NOTHINGS = ("query", "download"), ("L-I", "Q-X", "silence")
 #: Which field of an order, or of its patient, is the sample, or that there is none; what becomes of a message with
 #: letters that aren't of the line's encoding, and of one that has a test twice in an order with different contents.
 _SAMPLE = re.compile(r"(?:O\.[34]|P\.[345])(?:\.[1-9]\d?)?$|none$")
@@ -24,7 +24,7 @@ LETTERS, TWICE = ("quarantine", "mark"), ("quarantine", "deliver")
 LINKS = ("lis01", "plain")
 #: Where ENQ goes out again after NAK or ENQ in reply to the host's own: on the same connection, or on a new one.
 WAITS = ("same-line", "new-line")
-#: What is mended on each line, whatever it names; the names of the other mends, and one that means the same as another.
+#: What is fixed on each line, whatever it names; the names of the other fixes, and one that means the same as another.
 ALWAYS = frozenset(("long",))
 NAMES, SAME = tuple(name for name in CHANGES if name not in ALWAYS), {"escape": "bytes"}
 #: The flow controls of a serial line.
@@ -46,7 +46,7 @@ class Listen(NamedTuple):
     orders: str = ""
     none: str = NOTHINGS[0]
     allow: Tuple[Network, ...] = ()
-    mend: Tuple[str, ...] = ()
+    fix: Tuple[str, ...] = ()
     link: str = ""
     careful: str = ""
     telnet: str = ""
@@ -70,7 +70,7 @@ class Connect(NamedTuple):
     encoding: str = LATIN
     orders: str = ""
     none: str = NOTHINGS[0]
-    mend: Tuple[str, ...] = ()
+    fix: Tuple[str, ...] = ()
     link: str = ""
     careful: str = ""
     telnet: str = ""
@@ -96,7 +96,7 @@ class Serial(NamedTuple):
     encoding: str = LATIN
     orders: str = ""
     none: str = NOTHINGS[0]
-    mend: Tuple[str, ...] = ()
+    fix: Tuple[str, ...] = ()
     link: str = ""
     careful: str = ""
     codes: str = ""
@@ -129,8 +129,9 @@ def _split(word: str, known: Sequence[str]) -> Tuple[str, Dict[str, str]]:
     given: Dict[str, str] = {}
     for one in rest:
         name, equals, value = one.partition("=")
-        if not equals and value == "" and list(given)[-1:] == ["mend"]:  # another name of it
-            given["mend"] += "," + one
+        name = renamed.key_of(name) if equals else name
+        if not equals and value == "" and list(given)[-1:] == ["fix"]:  # another name of it
+            given["fix"] += "," + one
             continue
         if not equals or name not in known or not value or name in given:
             raise OptionError(f"{word}: options are {', '.join(f'{name}=' for name in known)}, not {one}")
@@ -154,7 +155,7 @@ def _encoding(word: str) -> str:
 
 def _orders(word: str) -> str:
     if word not in ORDERS:
-        raise OptionError(f"orders are sent {' or '.join(ORDERS)}, not {word}")
+        raise OptionError(f"orders is {' or '.join(ORDERS)}, not {word}")
     return word
 
 
@@ -180,12 +181,12 @@ def _allow(words: str) -> Tuple[Network, ...]:
     return tuple(networks_of(words.replace(",", " ").split(), "allow"))
 
 
-def _mend(words: str) -> Tuple[str, ...]:
-    """Names of mends, each once, in the order in which they are made. What is always done may be named too."""
+def _fix(words: str) -> Tuple[str, ...]:
+    """Names of fixes, each once, in the order in which they are made. What is always done may be named too."""
     given = [SAME.get(one, one) for one in words.replace(",", " ").replace("+", " ").split()]
     for one in given:
         if one not in NAMES and one not in ALWAYS:
-            raise OptionError(f"a line mends {', '.join(NAMES)}, not {one}")
+            raise OptionError(f"a line fixes {', '.join(NAMES)}, not {one}")
     return tuple(one for one in NAMES if one in given)
 
 
@@ -250,7 +251,7 @@ READS: Dict[str, Callable[[str], Any]] = {
     "allow": _allow,
     "orders": _orders,
     "none": _none,
-    "mend": _mend,
+    "fix": _fix,
     "link": _link,
     "careful": _careful,
     "telnet": _telnet,
@@ -264,12 +265,13 @@ READS: Dict[str, Callable[[str], Any]] = {
 }
 #: The settings that only a file of lines has: what a line's records mean, and how its queries are read.
 OF_FILES = ("codes", "sample", "test", "zone", "letters", "twice", *asks.READS)
-_WORDS = ("frame", "encoding", "orders", "none", "mend", "link", "careful")
+_WORDS = ("frame", "encoding", "orders", "none", "fix", "link", "careful")
 TCP_WORDS, SERIAL_WORDS = (*_WORDS, "telnet", "waits"), ("mode", "flow", *_WORDS)
 
 
 def read_setting(key: str, word: str) -> Any:
     """The value of a setting of a line."""
+    word = renamed.value_of(key, word)
     if key not in asks.READS:
         return READS[key](word)
     try:
@@ -299,9 +301,9 @@ def check_settings(place: Place) -> None:
     if place.link and place.orders:
         raise OptionError(f"a line with link={place.link} sends no orders: its sessions have no station")
     if getattr(place, "waits", "") and not place.orders:
-        raise OptionError("waits: a line on which the host asks has orders = ask or send")
+        raise OptionError("waits: a line on which the host asks has orders = query or download")
     if place.asks != Asks() and not place.orders:
-        raise OptionError(f"{', '.join(asks.told(place.asks))}: a line that answers queries has orders = ask or send")
+        raise OptionError(f"{', '.join(asks.told(place.asks))}: a line that answers queries has orders = query or download")
 
 
 def no_line(name: str, names: Iterable[str]) -> str:

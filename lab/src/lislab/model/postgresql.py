@@ -9,6 +9,7 @@ import time
 from typing import Any, Iterator, List, Optional, Sequence, Set
 from urllib.parse import urlsplit
 
+from .schema import STATES_OF_POSTGRESQL
 from .sql import SqlStore
 from .store import Stored, StoreError
 
@@ -41,7 +42,7 @@ def _driver() -> Any:
 class PostgresStore(SqlStore):
     """A store in a database. A connection that fails is given up, and the next commit makes a new one."""
 
-    blob, held_to_the_end, skip_locked = "BYTEA", False, " FOR UPDATE SKIP LOCKED"
+    blob, held_to_the_end, skip_locked, states = "BYTEA", False, " FOR UPDATE SKIP LOCKED", STATES_OF_POSTGRESQL
 
     def __init__(self, address: str) -> None:
         super().__init__()
@@ -85,6 +86,8 @@ class PostgresStore(SqlStore):
         self.refuse_later()
         if self.host:
             self._take_name()
+        else:
+            self.read_as_earlier()
 
     def _take_name(self) -> None:
         """Takes the host's name, which the server gives back when the connection ends."""
@@ -100,11 +103,26 @@ class PostgresStore(SqlStore):
             return True
         return bool(self.run("SELECT pg_try_advisory_xact_lock(?, hashtext(?))", (_HOSTS, host)).fetchone()[0])
 
+    def table_of_messages(self) -> str:
+        schema = self.read("SELECT relnamespace::regnamespace::text FROM pg_class WHERE oid = 'message'::regclass")
+        return f"{schema[0][0]}.message"
+
+    def make_tables(self) -> None:
+        self.run("DROP VIEW IF EXISTS pg_temp.message")
+        super().make_tables()
+
+    def is_held_by_another(self) -> bool:
+        return self._is_held(" AND pid <> pg_backend_pid()")
+
     def is_held(self, host: str = "") -> bool:
-        names, values = (" AND objid = (hashtext(?)::bigint & 4294967295)::oid", [host]) if host else ("", [])
+        which = " AND objid = (hashtext(?)::bigint & 4294967295)::oid" if host else ""
+        return self._is_held(which, [host] if host else [])
+
+    def _is_held(self, which: str, values: Sequence[Any] = ()) -> bool:
+        """Whether a host's name is taken for which this holds."""
         database = "(SELECT oid FROM pg_database WHERE datname = current_database())"
         where = f"locktype = 'advisory' AND granted AND objsubid = 2 AND classid = {_HOSTS} AND database = {database}"
-        return int(self.read(f"SELECT count(*) FROM pg_locks WHERE {where}{names}", values)[0][0]) > 0
+        return int(self.read(f"SELECT count(*) FROM pg_locks WHERE {where}{which}", values)[0][0]) > 0
 
     def run(self, statement: str, values: Sequence[Any] = ()) -> Any:
         if self._db is None:

@@ -261,7 +261,7 @@ class Told:
 
 
 def is_control(message: Message, order: Entry) -> bool:
-    """Whether an order, or its whole message, is a control, and no sample of a patient."""
+    """Whether an order, or the whole message, is a control, and no sample of a patient."""
     return "Q" in (order.text(12).strip().upper(), message.header.text(12).strip().upper())
 
 
@@ -365,7 +365,7 @@ def comments_of(entry: Entry) -> List[Comment]:
 
 
 def marks_of(one: Stored) -> List[str]:
-    """What is to be said of a whole message: which one it repeats, and what was mended in it."""
+    """What is to be said of a complete message: which one it repeats, and what was fixed in it."""
     again = [] if one.again_of is None else [f"repeat of message {one.again_of}"]
     return again + ([one.reason] if one.reason else [])
 

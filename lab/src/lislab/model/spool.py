@@ -1,11 +1,13 @@
 """The store in a directory: a file for each message, which other programs can take. A file is synced before each
-acknowledgement, and moved to its place when its message is whole.
+acknowledgement, and moved to its place when its message is complete.
 
-    host                      the host's lock
-    open/KEY                  the texts of a message that isn't whole, and KEY.about: its line, as JSON
-    whole/NUMBER-KEY.records  a whole message, and NUMBER-KEY.about; numbers rise with the time, in microseconds
-    unfinished/KEY.records    the acknowledged texts of one that never became whole; unreadable/ the same
-    digests/DIGEST            which whole message has these bytes first
+    host                         the host's lock
+    open/KEY                     the texts of a message that is arriving, and KEY.about: its line, as JSON
+    complete/NUMBER-KEY.records  a complete message, and NUMBER-KEY.about; numbers rise with the time, in microseconds
+    incomplete/KEY.records       the acknowledged texts of an incomplete message; invalid/ the same of an invalid one
+    digests/DIGEST               which complete message has these bytes first
+
+The version before had the folders whole, unfinished and unreadable: they are read, and a host that starts renames them.
 """
 import bisect
 import contextlib
@@ -18,14 +20,15 @@ from concurrent.futures import ThreadPoolExecutor
 from typing import Any, Dict, Iterator, List, Optional, Sequence, Set, Tuple
 
 from .files import Appended, is_locked, sync_folder, take_lock, write_whole
+from .renamed import STATES
 from .store import (
+    COMPLETE,
+    FIXED,
+    INCOMPLETE,
+    INVALID,
     LEFT,
     LISTED,
-    MENDED,
     OPEN,
-    UNFINISHED,
-    UNREADABLE,
-    WHOLE,
     Add,
     Begin,
     Change,
@@ -40,7 +43,9 @@ from .store import (
 
 #: Among how many messages the last ones of a line are looked for: a file is read for each.
 AMONG = 5000
-_FOLDERS = (OPEN, WHOLE, UNFINISHED, UNREADABLE, "digests")
+_FOLDERS = (OPEN, COMPLETE, INCOMPLETE, INVALID, "digests")
+#: The folders of the version before, by those of this one; and how the reason of a message that was fixed began there.
+_EARLIER, _EARLIER_FIXED = {state: word for word, state in STATES.items()}, "mended"
 
 
 class SpoolStore(Store):
@@ -55,7 +60,7 @@ class SpoolStore(Store):
         #: The messages that a commit ended which failed, and may be tried again.
         self._ended: Set[str] = set()
         self._number = 0
-        #: The mark that the last whole message still needs, and its key.
+        #: The mark that the last complete message still needs, and its key.
         self._unmarked: Optional[Tuple[str, str]] = None
         self._syncing: Optional[ThreadPoolExecutor] = None
 
@@ -65,6 +70,8 @@ class SpoolStore(Store):
             self._lock = take_lock(self._path("host"))
             if self._lock is None:
                 raise StoreError(f"{self.folder}: another host has this spool")
+            for state, earlier in _EARLIER.items():
+                _move_all(os.path.join(self.folder, earlier), os.path.join(self.folder, state))
             for name in _FOLDERS:
                 os.makedirs(os.path.join(self.folder, name), 0o700, exist_ok=True)
             sync_folder(self.folder)
@@ -73,8 +80,12 @@ class SpoolStore(Store):
         except OSError as error:
             raise StoreError(f"{self.folder}: {error}") from None
 
-    def _path(self, *names: str) -> str:
-        return os.path.join(self.folder, *names)
+    def _path(self, first: str, *names: str) -> str:
+        """The path of a file or folder. A reader also finds the folders of the version before."""
+        if self._lock is None and first in _EARLIER and not os.path.isdir(os.path.join(self.folder, first)):
+            earlier = _EARLIER[first]
+            first = earlier if os.path.isdir(os.path.join(self.folder, earlier)) else first
+        return os.path.join(self.folder, first, *names)
 
     def _names(self, state: str) -> List[str]:
         """The messages in a state, without the ends of their files' names; open ones of which something is kept."""
@@ -85,27 +96,27 @@ class SpoolStore(Store):
         return sorted([name for name in kept if _size_of(self._path(OPEN, name))])
 
     def _take_last(self) -> None:
-        """Goes on after the last whole message, which a host that died may have left without its mark."""
-        last = max(self._names(WHOLE), default=None)
+        """Goes on after the last complete message, which a host that died may have left without its mark."""
+        last = max(self._names(COMPLETE), default=None)
         if last is None:
             return
         number, key = last.split("-")
         self._number = int(number)
         with contextlib.suppress(StoreError):
-            one = self._stored(WHOLE, last, self._number, key)
+            one = self._stored(COMPLETE, last, self._number, key)
             mark = self._mark(one.line, hashlib.sha256(one.body).hexdigest())
             if one.again_of is None and self._first(mark) is None:
                 self._unmarked = mark, key
                 self._write_mark()
 
     def _mark(self, line: str, digest: str) -> str:
-        """The file that names the first whole message of a line with these bytes."""
+        """The file that names the first complete message of a line with these bytes."""
         return self._path("digests", hashlib.sha256(line.encode() + b"\0" + digest.encode()).hexdigest())
 
     def _first(self, mark: str) -> Optional[str]:
-        """The message that a mark names; None if it isn't whole, since an earlier program marked before it kept."""
+        """The message that a mark names; None if it isn't complete, since an earlier program marked before it kept."""
         key = _read_about(mark).get("key")
-        places = (self._path(OPEN, str(key)), self._path(UNFINISHED, f"{key}.records"))
+        places = (self._path(OPEN, str(key)), self._path(INCOMPLETE, f"{key}.records"))
         return None if any(map(os.path.exists, places)) else key
 
     def _take_left(self) -> List[Stored]:
@@ -167,7 +178,7 @@ class SpoolStore(Store):
 
     def _end(self, end: End, ended: Set[str]) -> None:
         one = self._open.get(end.key)
-        if end.key in self._ended or (one is None and end.state != WHOLE):
+        if end.key in self._ended or (one is None and end.state != COMPLETE):
             ended.add(end.key)
             return
         if one is None:
@@ -175,7 +186,7 @@ class SpoolStore(Store):
         if not one.size:  # nothing of it was kept
             os.unlink(self._path(OPEN, end.key))
             os.unlink(self._path(OPEN, end.key + ".about"))
-        elif end.state == WHOLE:
+        elif end.state == COMPLETE:
             self._write_mark()
             mark = self._mark(end.line, end.digest)
             first = self._first(mark)
@@ -191,10 +202,10 @@ class SpoolStore(Store):
 
     def _write_mark(self) -> None:
         """Marks a message as the first of its bytes, once it is kept: a repeat never names one that isn't. Until its
-        mark is written no other message becomes whole, so at most the last one has none."""
+        mark is written no other message becomes complete, so at most the last one has none."""
         if self._unmarked is not None:
             mark, key = self._unmarked
-            sync_folder(self._path(WHOLE))
+            sync_folder(self._path(COMPLETE))
             _write_about(mark, {"key": key})
             sync_folder(self._path("digests"))
             self._unmarked = None
@@ -202,7 +213,7 @@ class SpoolStore(Store):
     def _move(self, end: End, about: Dict[str, Any], first: Optional[str]) -> None:
         """Puts a message in its place; it is there when its file of records is."""
         name = end.key
-        if end.state == WHOLE:
+        if end.state == COMPLETE:
             self._number = max(self._number + 1, time.time_ns() // 1000)
             name = f"{self._number:016}-{end.key}"
         path = self._path(end.state, name)
@@ -235,16 +246,16 @@ class SpoolStore(Store):
     def messages(self, after: int = 0, limit: Optional[int] = None) -> Iterator[Stored]:
         for name in self._after(after)[:limit]:
             number, key = name.split("-")
-            yield self._stored(WHOLE, name, int(number), key)
+            yield self._stored(COMPLETE, name, int(number), key)
 
     def _after(self, number: int) -> List[str]:
-        """Whole messages with a number above this one, in order, by their names."""
-        names = self._listed(WHOLE)
+        """Complete messages with a number above this one, in order, by their names."""
+        names = self._listed(COMPLETE)
         return names[bisect.bisect(names, f"{number:016}~") :]
 
     def _others(self) -> List[Tuple[str, str]]:
-        """Messages that aren't whole: the name and the state of each, in the order in which they began."""
-        names = [(name, state) for state in (UNFINISHED, UNREADABLE) for name in self._listed(state)]
+        """Messages that aren't complete: the name and the state of each, in the order in which they began."""
+        names = [(name, state) for state in (INCOMPLETE, INVALID) for name in self._listed(state)]
         left = [] if self.is_held() else [(name, OPEN) for name in self._listed(OPEN)]
         return sorted([*names, *left])
 
@@ -253,20 +264,20 @@ class SpoolStore(Store):
             yield self._left(name) if state == OPEN else self._stored(state, name, None, name)
 
     def heads(self, after: int, most: int) -> List[Head]:
-        return [self._head(WHOLE, name) for name in self._after(after)[:most]]
+        return [self._head(COMPLETE, name) for name in self._after(after)[:most]]
 
     def last_heads(self, line: str, most: int = LISTED) -> List[Head]:
-        found = (self._head(WHOLE, name) for name in self._listed(WHOLE)[: -AMONG - 1 : -1])
+        found = (self._head(COMPLETE, name) for name in self._listed(COMPLETE)[: -AMONG - 1 : -1])
         return list(itertools.islice((one for one in found if one.line == line), most))
 
-    def not_whole(self, line: Optional[str] = None, most: int = LISTED) -> List[Head]:
+    def not_complete(self, line: Optional[str] = None, most: int = LISTED) -> List[Head]:
         found = (self._head(state, name) for name, state in reversed(self._others()))
         return list(itertools.islice((one for one in found if line in (None, one.line)), most))
 
     def message(self, key: str) -> Optional[Stored]:
-        name = next((name for name in self._listed(WHOLE) if name.endswith(f"-{key}")), None)
+        name = next((name for name in self._listed(COMPLETE) if name.endswith(f"-{key}")), None)
         if name is not None:
-            return self._stored(WHOLE, name, int(name.split("-")[0]), key)
+            return self._stored(COMPLETE, name, int(name.split("-")[0]), key)
         return next((one for one in self.others() if one.key == key), None)
 
     def count_after(self, number: int) -> int:
@@ -293,7 +304,7 @@ class SpoolStore(Store):
         """What is noted of a message that isn't open. StoreError if that can't be read."""
         try:
             with open(path + ".about", encoding="utf-8") as file:
-                return dict(json.load(file))
+                return _in_words_of_now(dict(json.load(file)))
         except (OSError, ValueError, TypeError) as error:
             raise _damaged(path, error) from None
 
@@ -326,14 +337,14 @@ class SpoolStore(Store):
             raise StoreError(str(error)) from None
         line, peer, encoding = (str(about.get(one, "")) for one in ("line", "peer", "encoding"))
         began = float(about.get("began", 0))
-        return Stored(None, key, line, peer, encoding, began, began, UNFINISHED, LEFT, None, body)
+        return Stored(None, key, line, peer, encoding, began, began, INCOMPLETE, LEFT, None, body)
 
     def counts(self) -> List[LineCount]:
         found: Dict[str, List[Tuple[str, Dict[str, Any]]]] = {}
         try:
             is_held = self.is_held()
-            for state in (OPEN, WHOLE, UNFINISHED, UNREADABLE):
-                kept = UNFINISHED if state == OPEN and not is_held else state
+            for state in (OPEN, COMPLETE, INCOMPLETE, INVALID):
+                kept = INCOMPLETE if state == OPEN and not is_held else state
                 for name in self._names(state):
                     about = _read_about(self._path(state, name + ".about"))
                     found.setdefault(str(about.get("line", "")), []).append((kept, about))
@@ -364,16 +375,16 @@ def _damaged(path: str, error: Exception) -> StoreError:
 
 
 def _count(line: str, rows: List[Tuple[str, Dict[str, Any]]]) -> LineCount:
-    states = [state for state, about in rows if not str(about.get("reason", "")).startswith(MENDED)]
+    states = [state for state, about in rows if not str(about.get("reason", "")).startswith(FIXED)]
     again = sum(1 for _, about in rows if about.get("again_of"))
-    last = max((about["ended"] for state, about in rows if state == WHOLE), default=None)
-    some = [states.count(state) for state in (UNFINISHED, UNREADABLE, OPEN)]
-    mended = sum(1 for state, about in rows if state == WHOLE and about.get("reason"))
-    return LineCount._make([line, states.count(WHOLE), again, *some, last, mended])
+    last = max((about["ended"] for state, about in rows if state == COMPLETE), default=None)
+    some = [states.count(state) for state in (INCOMPLETE, INVALID, OPEN)]
+    fixed = sum(1 for state, about in rows if state == COMPLETE and about.get("reason"))
+    return LineCount._make([line, states.count(COMPLETE), again, *some, last, fixed])
 
 
 class _Open(Appended):
-    """The file of a message that isn't whole."""
+    """The file of a message that isn't complete."""
 
     def __init__(self, path: str, about: Dict[str, Any], how: int = os.O_TRUNC) -> None:
         super().__init__(path, how)  # if it is begun, what is there is of a try that failed
@@ -406,9 +417,27 @@ def _size_of(path: str) -> int:
 def _read_about(path: str) -> Dict[str, Any]:
     try:
         with open(path, encoding="utf-8") as file:
-            return dict(json.load(file))
+            return _in_words_of_now(dict(json.load(file)))
     except (FileNotFoundError, ValueError):
         return {}
+
+
+def _in_words_of_now(about: Dict[str, Any]) -> Dict[str, Any]:
+    """What is noted of a message, perhaps by the version before."""
+    reason = str(about.get("reason", ""))
+    return {**about, "reason": "fixed" + reason[len(_EARLIER_FIXED) :]} if reason.startswith(_EARLIER_FIXED) else about
+
+
+def _move_all(earlier: str, later: str) -> None:
+    """Gives a folder its new name. If both are there, because the version before ran once more, the files are moved; a
+    message is there when its `.records` is, which comes after its `.about`."""
+    if not os.path.isdir(later):
+        with contextlib.suppress(FileNotFoundError):
+            os.rename(earlier, later)
+    elif os.path.isdir(earlier):
+        for name in sorted(os.listdir(earlier)):
+            os.rename(os.path.join(earlier, name), os.path.join(later, name))
+        os.rmdir(earlier)
 
 
 def _write_about(path: str, data: Dict[str, Any]) -> None:

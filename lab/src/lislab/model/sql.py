@@ -1,18 +1,18 @@
 """What the stores in databases share: the tables and the statements. A text, or a part of a long one, is one row; a
-message's bytes are those of its texts in order. So nothing is copied when a message becomes whole."""
+message's bytes are those of its texts in order. So nothing is copied when a message becomes complete."""
 import abc
 import functools
 from typing import Any, ContextManager, Dict, Iterator, List, Optional, Sequence, Tuple, TypeVar
 
-from .schema import LATER, ORDERS, SCHEMA, TABLES
+from .schema import EARLIER_MESSAGES, LATER, ORDERS, SCHEMA, TABLES
 from .store import (
+    COMPLETE,
+    FIXED,
+    INCOMPLETE,
+    INVALID,
     LEFT,
     LISTED,
-    MENDED,
     OPEN,
-    UNFINISHED,
-    UNREADABLE,
-    WHOLE,
     Add,
     Begin,
     End,
@@ -26,8 +26,8 @@ from .store import (
 
 #: How many rows one statement puts; among how many messages the last ones of a line are looked for.
 ROWS, AMONG = 100, 100_000
-# In the words of the index of messages that aren't whole.
-_OPEN_HOSTS = f"SELECT DISTINCT host FROM message WHERE state <> '{WHOLE}' AND state = '{OPEN}'"
+# In the words of the index of messages that aren't complete.
+_OPEN_HOSTS = f"SELECT DISTINCT host FROM message WHERE state <> '{COMPLETE}' AND state = '{OPEN}'"
 T = TypeVar("T")
 _HEADS = "SELECT number, line, began, ended, state, reason, key, size FROM message"
 _COLUMNS = "number, key, line, peer, encoding, began, ended, state, reason, again_of"
@@ -49,6 +49,8 @@ class SqlStore(Store):
 
     #: The type of bytes; what a subclass adds to the table of texts, and to a choice of rows that others may have.
     blob, tail, skip_locked = "BLOB", "", ""
+    #: The statements of the step to version 3.
+    states: Tuple[str, ...] = ()
 
     def __init__(self) -> None:
         self.host, self.label = "", "the store"
@@ -71,7 +73,7 @@ class SqlStore(Store):
 
     @abc.abstractmethod
     def lock_numbers(self) -> None:
-        """Makes the numbering of whole messages this transaction's own until it ends."""
+        """Makes the numbering of complete messages this transaction's own until it ends."""
 
     @abc.abstractmethod
     def has(self, name: str) -> bool:
@@ -95,17 +97,34 @@ class SqlStore(Store):
             later = f"version {found} of the tables, and this program knows version {SCHEMA}"
             raise StoreError(f"{self.label} has {later}: a later lislab made it")
 
+    def read_as_earlier(self) -> None:
+        """If the tables are of an earlier program, this connection reads its messages in the words of this one, from a
+        view that hides the table."""
+        if 0 < self.version() < SCHEMA:
+            self.run(f"CREATE TEMPORARY VIEW message AS {EARLIER_MESSAGES} {self.table_of_messages()}")
+
+    @abc.abstractmethod
+    def table_of_messages(self) -> str:
+        """The table of messages, with the schema that it is in."""
+
+    @abc.abstractmethod
+    def is_held_by_another(self) -> bool:
+        """Whether a host other than the one of this connection has the store."""
+
     def make_tables(self) -> None:
-        """Takes the tables from their version to this program's, step by step, inside a transaction."""
+        """Upgrades the tables from their version to this program's, step by step, inside a transaction. StoreError if a
+        host of an earlier program has them: it couldn't store what it receives any more."""
         found = self.version()
+        if 0 < found < SCHEMA and self.is_held_by_another():
+            raise StoreError(f"{self.label} is of an earlier lislab, whose host is running: stop that first")
         for version in range(found, SCHEMA):
             self._step(version)
         if found < SCHEMA:
             self.set_version(SCHEMA)
 
     def _step(self, version: int) -> None:
-        """Takes the tables from a version to the next one."""
-        for statement in (TABLES, ORDERS)[version]:
+        """Upgrades the tables from a version to the next one."""
+        for statement in (TABLES, ORDERS, self.states)[version]:
             text = statement.replace("{blob}", self.blob)
             self.run(text + (self.tail if "TABLE IF NOT EXISTS text" in text else ""))
         if version == 1:
@@ -127,7 +146,7 @@ class SqlStore(Store):
         for (host,) in self.run(_OPEN_HOSTS).fetchall():
             if host != self.host and self.is_gone(host):
                 self.run("UPDATE message SET host = ? WHERE state = ? AND host = ?", (self.host, OPEN, host))
-        where = f"state <> '{WHOLE}' AND state = '{OPEN}' AND host = ?"
+        where = f"state <> '{COMPLETE}' AND state = '{OPEN}' AND host = ?"
         rows = self.run(f"SELECT {_COLUMNS} FROM message WHERE {where} ORDER BY began, key", (self.host,)).fetchall()
         return [Stored._make([*row, b""]) for row in rows]
 
@@ -158,8 +177,8 @@ class SqlStore(Store):
         self._put("message (key, host, line, peer, encoding, began, state)", 7, begins)
         self._put("text (message, place, at, body)", 4, texts)
         if ends:
-            self._end([(one, None, None) for one in ends if one.state != WHOLE])
-            self._number([one for one in ends if one.state == WHOLE])
+            self._end([(one, None, None) for one in ends if one.state != COMPLETE])
+            self._number([one for one in ends if one.state == COMPLETE])
 
     def _put(self, table: str, width: int, values: List[Any]) -> None:
         """Puts rows of so many values into a table: those that aren't there."""
@@ -181,7 +200,7 @@ class SqlStore(Store):
             )
 
     def _number(self, ends: Sequence[End]) -> None:
-        """Ends whole messages, each with its number and the first one of its bytes. However many they are, few rows are
+        """Ends complete messages, each with its number and the first one of its bytes. However many they are, few rows are
         read: after each row this thread waits for its turn, as long as the lines are busy."""
         if not ends:
             return
@@ -205,7 +224,7 @@ class SqlStore(Store):
         for which, keys in lots:
             states.update(self.run(f"SELECT key, state FROM message WHERE {which}", keys).fetchall())
         for one in ends:
-            if states.get(one.key) not in (OPEN, WHOLE):
+            if states.get(one.key) not in (OPEN, COMPLETE):
                 raise StoreError(f"message {one.key} isn't open")
         return [one for one in ends if states[one.key] == OPEN]
 
@@ -214,7 +233,7 @@ class SqlStore(Store):
         first: Dict[Tuple[str, str], str] = {}
         for some in _lots([one for pair in pairs for one in pair], 2):
             words = f"SELECT line, digest, key FROM (VALUES {_marks(len(some), 2)}) AS v CROSS JOIN message"
-            words += f" WHERE line = v.column1 AND digest = v.column2 AND again_of IS NULL AND state = '{WHOLE}'"
+            words += f" WHERE line = v.column1 AND digest = v.column2 AND again_of IS NULL AND state = '{COMPLETE}'"
             first.update({(line, digest): key for line, digest, key in self.run(words, some).fetchall()})
         return first
 
@@ -240,18 +259,18 @@ class SqlStore(Store):
         left, gone = self._left()
         rows = self.read(
             f"SELECT {_COLUMNS} FROM message WHERE state IN (?, ?) OR {left} ORDER BY began, key",
-            (UNFINISHED, UNREADABLE, *gone),
+            (INCOMPLETE, INVALID, *gone),
         )
         for row in rows:
             one = self._stored(row)
-            yield one._replace(state=UNFINISHED, reason=LEFT) if one.state == OPEN else one
+            yield one._replace(state=INCOMPLETE, reason=LEFT) if one.state == OPEN else one
 
     def heads(self, after: int, most: int) -> List[Head]:
         rows = self.read(f"{_HEADS} WHERE number > ? ORDER BY number LIMIT ?", (after, most))
         return [Head._make(row) for row in rows]
 
     def _newest(self) -> int:
-        """The number of the last whole message; 0 if there is none."""
+        """The number of the last complete message; 0 if there is none."""
         return int(self.read("SELECT coalesce(max(number), 0) FROM message")[0][0])
 
     def last_heads(self, line: str, most: int = LISTED) -> List[Head]:
@@ -260,11 +279,11 @@ class SqlStore(Store):
         )
         return [Head._make(row) for row in rows]
 
-    def not_whole(self, line: Optional[str] = None, most: int = LISTED) -> List[Head]:
+    def not_complete(self, line: Optional[str] = None, most: int = LISTED) -> List[Head]:
         words, values = ("AND line = ?", [line]) if line is not None else ("", [])
         rows = self.read(
-            f"{_HEADS} WHERE state <> '{WHOLE}' AND state IN (?, ?) {words} ORDER BY began DESC LIMIT ?",
-            (UNFINISHED, UNREADABLE, *values, most),
+            f"{_HEADS} WHERE state <> '{COMPLETE}' AND state IN (?, ?) {words} ORDER BY began DESC LIMIT ?",
+            (INCOMPLETE, INVALID, *values, most),
         )
         return [Head._make(row) for row in rows]
 
@@ -294,9 +313,9 @@ class SqlStore(Store):
 
     def counts(self) -> List[LineCount]:
         left, gone = self._left()
-        plain = f"AND substr(reason, 1, {len(MENDED)}) <> '{MENDED}'"
-        wanted = ["number IS NOT NULL", "again_of IS NOT NULL", f"state = '{UNFINISHED}' {plain} OR {left}"]
-        wanted += [f"state = '{UNREADABLE}' {plain}", f"state = '{OPEN}' AND NOT {left}"]
+        plain = f"AND substr(reason, 1, {len(FIXED)}) <> '{FIXED}'"
+        wanted = ["number IS NOT NULL", "again_of IS NOT NULL", f"state = '{INCOMPLETE}' {plain} OR {left}"]
+        wanted += [f"state = '{INVALID}' {plain}", f"state = '{OPEN}' AND NOT {left}"]
         wanted += ["number IS NOT NULL AND reason <> ''"]
         sums = ", ".join(f"sum(CASE WHEN {one} THEN 1 ELSE 0 END)" for one in wanted)
         rows = self.read(

@@ -5,6 +5,7 @@ import sqlite3
 from typing import Any, Iterator, List, Optional, Sequence, Tuple
 
 from .files import is_locked, take_lock
+from .schema import STATES_OF_SQLITE
 from .sql import SqlStore
 from .store import Stored, StoreError
 
@@ -15,7 +16,7 @@ PATIENCE = 5.0
 class SqliteStore(SqlStore):
     """A store in a file. Next to it are its log (`-wal`), its index (`-shm`) and the host's lock (`-host`)."""
 
-    tail = " WITHOUT ROWID"
+    tail, states = " WITHOUT ROWID", STATES_OF_SQLITE
 
     def __init__(self, path: str) -> None:
         super().__init__()
@@ -28,21 +29,22 @@ class SqliteStore(SqlStore):
         self._take()
         self._open()
         with self.changing():
-            self.make_tables()
             return self.take_left()
 
     def join(self) -> None:
         self._open()
-        with self.changing():
-            self.make_tables()
 
     def _open(self) -> None:
+        """Opens the file to change it, with the tables of this version."""
         try:
             private(self.path)
             self._db = self._connect()
             self.refuse_later()
             if self._db.execute("PRAGMA journal_mode=WAL").fetchone()[0] != "wal":
                 raise StoreError(f"{self.path}: SQLite can't keep a write-ahead log here")
+            self._db.execute("PRAGMA foreign_keys=OFF")
+            with self.changing():
+                self.make_tables()
             self._prepare(self._db)
         except (sqlite3.Error, OSError) as error:
             raise StoreError(f"{self.path}: {error}") from None
@@ -70,8 +72,9 @@ class SqliteStore(SqlStore):
             if not os.path.exists(self.path):
                 raise StoreError(f"{self.path}: there is no such store")
             self._db = self._connect()
-            self._db.execute("PRAGMA query_only=ON")
             self.refuse_later()
+            self.read_as_earlier()
+            self._db.execute("PRAGMA query_only=ON")
         return self._db.execute(statement, values)
 
     def read(self, statement: str, values: Sequence[Any] = ()) -> List[Tuple[Any, ...]]:
@@ -120,6 +123,12 @@ class SqliteStore(SqlStore):
     def is_gone(self, host: str) -> bool:
         """A store in a file has one host, which is this one."""
         return True
+
+    def table_of_messages(self) -> str:
+        return "main.message"
+
+    def is_held_by_another(self) -> bool:
+        return self._lock is None and self.is_held()
 
     def is_held(self, host: str = "") -> bool:
         try:

@@ -1,14 +1,14 @@
-"""Where messages are kept: the interface of a store, and what goes into it and comes out of it."""
+"""The interface of a store of messages, the changes that a host stores, and the messages that a reader gets."""
 import abc
 import os
 import time
 from typing import Iterator, List, NamedTuple, Optional, Sequence, Union
 
-#: The states of a message; why one is unfinished that a host left open.
-OPEN, WHOLE, UNFINISHED, UNREADABLE = "open", "whole", "unfinished", "unreadable"
+#: The states of a message; and why a message is incomplete that a host left open.
+OPEN, COMPLETE, INCOMPLETE, INVALID = "open", "complete", "incomplete", "invalid"
 LEFT = "the host was stopped"
-#: How the reason begins of a message that isn't whole and of which another was made, which is.
-MENDED = "mended: "
+#: How the reason begins of a message that isn't complete and of which another was made, which is.
+FIXED = "fixed: "
 #: How many messages a page lists.
 LISTED = 100
 
@@ -37,8 +37,8 @@ class Add(NamedTuple):
 
 
 class End(NamedTuple):
-    """A message is whole, or nothing more comes of it: why, or what was mended in it, and the digest and the size of
-    all its bytes."""
+    """A message ends, with its state; the reason why it isn't complete, or what was fixed in it; and the digest and the
+    size of all its bytes."""
 
     key: str
     line: str
@@ -54,8 +54,8 @@ Unit = Sequence[Change]
 
 
 class Stored(NamedTuple):
-    """A message that is kept. A whole one has a number: numbers rise in the order in which messages became whole. The
-    reason of a whole one is what was mended in it."""
+    """A stored message. Only a complete message has a number: numbers rise in the order in which messages became
+    complete. The reason of a complete message is what was fixed in it."""
 
     number: Optional[int]
     key: str
@@ -84,17 +84,18 @@ class Head(NamedTuple):
 
 
 class LineCount(NamedTuple):
-    """What is kept of a line. Of those that aren't whole the ones don't count of which a whole one was made."""
+    """How many messages of a line are stored. An incomplete or invalid message from which a complete one was made doesn't
+    count."""
 
     line: str
-    whole: int
+    complete: int
     again: int
-    unfinished: int
-    unreadable: int
+    incomplete: int
+    invalid: int
     open: int
     last: Optional[float]
-    #: How many whole ones were mended.
-    mended: int = 0
+    #: How many complete messages were fixed.
+    fixed: int = 0
 
 
 class Store(abc.ABC):
@@ -119,17 +120,17 @@ class Store(abc.ABC):
 
     @abc.abstractmethod
     def commit(self, units: Sequence[Unit]) -> None:
-        """Keeps these changes: all are on the disk when it returns. On a StoreError none may be acknowledged. Some
-        may be on the disk nevertheless: they are an unfinished message, or the first of two that are marked."""
+        """Stores these changes: all are on the disk when it returns. After a StoreError none of them may be acknowledged,
+        although some may be on the disk: as an incomplete message, or as the first of two that are marked."""
 
     @abc.abstractmethod
     def messages(self, after: int = 0, limit: Optional[int] = None) -> Iterator[Stored]:
-        """Whole messages with a number above `after`, in order."""
+        """Complete messages with a number above `after`, in order."""
 
     @abc.abstractmethod
     def others(self) -> Iterator[Stored]:
-        """Messages that are unfinished or can't be read, in the order in which they began. What a host left open that
-        doesn't run is unfinished."""
+        """Incomplete and invalid messages, in the order in which they began. A message that a host left open is
+        incomplete once that host doesn't run."""
 
     @abc.abstractmethod
     def counts(self) -> List[LineCount]:
@@ -137,15 +138,15 @@ class Store(abc.ABC):
 
     @abc.abstractmethod
     def heads(self, after: int, most: int) -> List[Head]:
-        """Whole messages with a number above `after`, in order, without their bytes."""
+        """Complete messages with a number above `after`, in order, without their bytes."""
 
     @abc.abstractmethod
     def last_heads(self, line: str, most: int = LISTED) -> List[Head]:
-        """The last whole messages of a line, among the last ones of all; the newest first."""
+        """The last complete messages of a line, among the last ones of all; the newest first."""
 
     @abc.abstractmethod
-    def not_whole(self, line: Optional[str] = None, most: int = LISTED) -> List[Head]:
-        """The last messages that are unfinished or unreadable, of a line or of all; the newest first."""
+    def not_complete(self, line: Optional[str] = None, most: int = LISTED) -> List[Head]:
+        """The last incomplete and invalid messages, of a line or of all; the newest first."""
 
     @abc.abstractmethod
     def message(self, key: str) -> Optional[Stored]:
@@ -153,7 +154,7 @@ class Store(abc.ABC):
 
     @abc.abstractmethod
     def count_after(self, number: int) -> int:
-        """How many whole messages have a number above this one."""
+        """How many complete messages have a number above this one."""
 
     @abc.abstractmethod
     def number_at(self, at: float) -> int:

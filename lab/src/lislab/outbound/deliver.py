@@ -1,4 +1,4 @@
-"""`lislab deliver`: whole messages out of a store to a command or a directory: in order, each at least once. What was
+"""`lislab deliver`: complete messages out of a store to a command or a directory: in order, each at least once. What was
 delivered last is kept in a small file, so that a delivery that was stopped goes on where it was."""
 import contextlib
 import json
@@ -245,7 +245,7 @@ def to_command(words: List[str], write: Writer, seconds: float, lock: Optional[i
             "LISLAB_LINE": one.line,
             "LISLAB_PEER": one.peer,
             "LISLAB_AGAIN_OF": one.again_of or "",
-            "LISLAB_MENDED": one.reason,
+            "LISLAB_FIXED": one.reason,
         }
         data = write(one)
         if not data:

@@ -9,7 +9,7 @@ from lislink.message import Fault, read_all
 from ..field import table
 from ..model.codes import mark_of
 from ..model.results import Coded, Told, code_of, content_of, field_text, identities_of, is_control, sample_of
-from ..model.store import UNFINISHED, UNREADABLE, WHOLE, Store, Stored
+from ..model.store import COMPLETE, INCOMPLETE, INVALID, Store, Stored
 from . import fhir, oru
 from .oru import Wishes
 from .tables import Tables
@@ -18,7 +18,7 @@ FORMATS = ("records", "json", "csv", "tsv", "oru", "fhir")
 #: What makes the bytes of a message; of None those at the head of all.
 Writer = Callable[[Optional[Stored]], bytes]
 #: The columns of a table before those of a result, and after them; the last one of all is `control`, Q for a control.
-OWN, LAST = ("number", "line", "received", "again_of"), ("mended",)
+OWN, LAST = ("number", "line", "received", "again_of"), ("fixed",)
 #: A cell that a program for tables would take for a formula, unless it is a number.
 _FORMULA, _NUMBER = re.compile(r"\s*[=+\-@]"), re.compile(r"[+-]?[\d.,]+(?:[eE][+-]?\d+)?$", re.ASCII)
 
@@ -45,11 +45,11 @@ def time_text(at: Optional[float]) -> str:
 
 def wanted_of(store: Store, wanted: Wanted) -> Iterator[Stored]:
     """The messages that are wanted: whole ones by their numbers, then the others."""
-    if WHOLE in wanted.states:
+    if COMPLETE in wanted.states:
         for one in store.messages(wanted.after):
             if _is_wanted(one, wanted):
                 yield one
-    if UNFINISHED in wanted.states or UNREADABLE in wanted.states:
+    if INCOMPLETE in wanted.states or INVALID in wanted.states:
         for one in store.others():
             if one.state in wanted.states and _is_wanted(one, wanted):
                 yield one
@@ -100,11 +100,11 @@ def _json(data: object) -> str:
 
 
 def _message_writer(form: Form, coded: Callable[[Stored], Coded]) -> Writer:
-    """What writes each message by itself in a form of HL7. One that isn't whole, or says nothing of a patient or a
+    """What writes each message by itself in a form of HL7. One that isn't complete, or says nothing of a patient or a
     control, gives nothing."""
     write = oru.oru_of if form.form == "oru" else fhir.bundle_of
     wishes = form.wishes or oru.Wishes()
-    return lambda one: b"" if one is None or one.state != WHOLE else write(_told(form, coded(one)), wishes)
+    return lambda one: b"" if one is None or one.state != COMPLETE else write(_told(form, coded(one)), wishes)
 
 
 def _told(form: Form, coded: Coded) -> Told:
@@ -132,15 +132,15 @@ def _table_writer(form: Form, coded: Callable[[Stored], Coded]) -> Writer:
         if one is None:
             return line(None).encode()
         message = coded(one)
-        if form.is_strict and one.state == WHOLE:
+        if form.is_strict and one.state == COMPLETE:
             _told(form, message)
         columns = [*table.columns_of(list(form.fields), usual=_usual(message)), *more, control]
         own = ["" if one.number is None else str(one.number), one.line, time_text(one.ended), one.again_of or ""]
         found = table.rows_of(message.one.body, columns, one.encoding)
         wanted = {"with": ("", "Q"), "without": ("",), "only": ("Q",)}[form.controls]
         told = [row for row, _ in found if row and row[-1] in wanted]
-        mended = one.reason if one.state == WHOLE else ""
-        cells = ([*own, *row[:-1], mended, row[-1]] for row in told)
+        fixed = one.reason if one.state == COMPLETE else ""
+        cells = ([*own, *row[:-1], fixed, row[-1]] for row in told)
         return "".join(line(_harmless(row) if form.safe else row) for row in cells).encode()
 
     return rows
@@ -191,10 +191,10 @@ def _as_data(one: Stored) -> "dict[str, object]":
         "state": one.state,
         "again_of": one.again_of,
     }
-    if one.state == WHOLE:
+    if one.state == COMPLETE:
         found = [each for each in read_all(one.body, one.encoding) if not isinstance(each, Fault)]
         if one.reason:
-            row["mended"] = one.reason
+            row["fixed"] = one.reason
         row["message"] = found[0].message.to_dict() if found else None
     else:
         row["reason"] = one.reason

@@ -7,7 +7,7 @@ from ..model.codes import Codes, read_codes
 from ..model.lines import LinesError, read_lines
 from ..model.options import ANY, OptionError
 from ..model.results import Coded, Reading, in_its_letters
-from ..model.store import WHOLE, Stored
+from ..model.store import COMPLETE, Stored
 
 
 class _Read(NamedTuple):
@@ -69,12 +69,12 @@ class Tables:
         return self._read.readings.get(line, Reading())
 
     def applied(self, one: Stored) -> Coded:
-        """A message by the settings and the table of its line; as it is, if that has none or the message isn't whole.
+        """A message by the settings and the table of its line; as it is, if that has none or the message isn't complete.
         It fails as `applied` of a table does."""
         self._look()
         reading, table = self.reading(one.line), self._read.lines.get(one.line, self._read.others)
         one = in_its_letters(one, reading)
-        return Coded(one, reading) if table is None or one.state != WHOLE else table.applied(one, reading)
+        return Coded(one, reading) if table is None or one.state != COMPLETE else table.applied(one, reading)
 
 
 def _states_of(paths: Sequence[str]) -> List[Optional[Tuple[int, ...]]]:

@@ -91,7 +91,7 @@ class Keeping:
             self._part = b""
 
     def expected(self) -> "Tuple[Counter[bytes], Counter[bytes]]":
-        """The records of whole messages, which must be kept; those of others, which may be. A message that came before
+        """The records of complete messages, which must be kept; those of others, which may be. A message that came before
         may be kept again."""
         must: List[bytes] = []
         may: List[bytes] = []
@@ -123,4 +123,4 @@ class Keeping:
         for record, count in there.items():
             if count > must[record] + may[record]:
                 found.append(_of(record, must[record] + may[record], count))
-        return f"looked at what is kept: {sum(must.values())} records of whole messages", found
+        return f"looked at what is kept: {sum(must.values())} records of complete messages", found

@@ -67,7 +67,7 @@ class Host:
             "state": "bad",
             "verdict": down.verdict.key,
             "since": down.since,
-            "says": why or f"{down.text}; {many(kept.whole if kept else 0, 'whole message')}{last}",
+            "says": why or f"{down.text}; {many(kept.complete if kept else 0, 'complete message')}{last}",
             "advice": down.advice,
             "connected": 0,
             "last": at,

@@ -2,6 +2,7 @@
 from typing import Any, Dict, List, Mapping, Sequence, Tuple
 
 from ..diagnosis.pulse import BUCKETS
+from ..model.store import COMPLETE, INCOMPLETE, INVALID
 
 FORM = "text/plain; version=0.0.4; charset=utf-8"
 Labels = Sequence[Tuple[str, str]]
@@ -66,7 +67,7 @@ def metrics_of(data: Mapping[str, Any], undelivered: Mapping[str, int], orders: 
                 out.sample(name, one.get(key, 0), [("line", line)])
         _of_lines(out, lines)
         _replies(out, lines)
-    out.add("lislab_undelivered_messages", "gauge", "Whole messages that a delivery has still to do.")
+    out.add("lislab_undelivered_messages", "gauge", "Complete messages that a delivery has still to do.")
     for cursor, count in undelivered.items():
         out.sample("lislab_undelivered_messages", count, [("cursor", cursor)])
     out.add("lislab_delivery_bad", "gauge", "Whether a delivery fails, isn't running, or has set messages aside.")
@@ -97,12 +98,12 @@ def _of_lines(out: Metrics, lines: Dict[str, Any]) -> None:
             out.sample("lislab_frames_rejected_total", count, [("line", line), ("reason", reason)])
     out.add("lislab_messages_total", "counter", "Messages that ended, by their state.")
     for line, one in lines.items():
-        for state in ("whole", "unfinished", "unreadable"):
+        for state in (COMPLETE, INCOMPLETE, INVALID):
             out.sample("lislab_messages_total", one["ended"].get(state, 0), [("line", line), ("state", state)])
     out.add("lislab_connected", "gauge", "Connections that are open.")
     for line, one in lines.items():
         out.sample("lislab_connected", one["connected"], [("line", line)])
-    out.add("lislab_last_message_timestamp_seconds", "gauge", "When the last whole message was kept.")
+    out.add("lislab_last_message_timestamp_seconds", "gauge", "When the last complete message was kept.")
     for line, one in lines.items():
         if one["last"] is not None:
             out.sample("lislab_last_message_timestamp_seconds", one["last"], [("line", line)])

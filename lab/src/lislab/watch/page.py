@@ -12,7 +12,7 @@ from ..diagnosis.pulse import PAST
 from ..field.page import rows_of
 from ..model.book import Failed
 from ..model.said import many
-from ..model.store import WHOLE, Head, Stored
+from ..model.store import COMPLETE, Head, Stored
 from ..outbound.export import time_text
 from . import plot
 from .tally import DAY, HOUR, Tally, share
@@ -103,7 +103,7 @@ def page(title: str, body: str, is_live: bool = False) -> str:
 <html lang="en"><head><meta charset="utf-8"><meta name="viewport" content="width=device-width,initial-scale=1">
 <title>{html.escape(title)}</title><link rel="icon" href="data:,"><link rel="stylesheet" href="/style.css">
 {again if is_live else ""}</head><body><header><h1>{html.escape(title)}</h1><nav>{link("/", "all lines")} &middot;
-{link("/trouble", "unfinished and unreadable messages")} &middot; {link("/metrics", "metrics")}</nav></header>
+{link("/trouble", "incomplete and invalid messages")} &middot; {link("/metrics", "metrics")}</nav></header>
 <main>{body}</main><footer><p class="note">Made by lislab at {when(time.time())}. It only reads.</p></footer></body>
 </html>
 """
@@ -217,7 +217,7 @@ def line_page(name: str, one: Mapping[str, Any], tally: Tally, more: LineData) -
 {past_table([(name, *each) for each in one.get("past", [])])}
 <h2>Since the host started</h2><table>{cells}</table></section>
 <h2>From the first byte to kept</h2>{_took(tally.took(name))}{_plots(tally, name)}
-{failed_table(more.failed)}<h2>Unfinished and unreadable messages</h2>{heads_table(more.trouble)}
+{failed_table(more.failed)}<h2>Incomplete and invalid messages</h2>{heads_table(more.trouble)}
 <h2>Last messages, the newest first</h2>{heads_table(more.heads)}
 <h2>The last bytes of the line, the oldest first</h2>
 <section data-live="ladder"><div class="wide">{more.rows}</div></section>"""
@@ -269,7 +269,7 @@ def failed_table(found: Optional[Failed]) -> str:
 
 def trouble_page(found: Sequence[Head]) -> str:
     """The last messages that can't be delivered."""
-    return page("Unfinished and unreadable messages", heads_table(found))
+    return page("Incomplete and invalid messages", heads_table(found))
 
 
 def message_page(one: Stored) -> str:
@@ -279,7 +279,7 @@ def message_page(one: Stored) -> str:
     told = "".join(f"<dt>{name}</dt><dd>{safe(text)}</dd>" for name, text in about if text)
     found: List[Any] = list(read_all(one.body, one.encoding)) if len(one.body) <= RECORDS else []
     parts = [_records(each) if isinstance(each, Found) else _fault(each) for each in found]
-    if one.state != WHOLE or not found:
+    if one.state != COMPLETE or not found:
         parts.append(f"<h2>Its bytes</h2><p><code>{html.escape(words(one.body, 20 * VALUE))}</code></p>")
     return page(f"Message {one.number if one.number is not None else one.key}", f"<dl>{told}</dl>{''.join(parts)}")
 

@@ -17,12 +17,12 @@ _COLUMNS = (
     "line",
     "connected",
     "came",
-    "whole",
+    "complete",
     "queries",
     "again",
-    "mended",
-    "unfinished",
-    "unreadable",
+    "fixed",
+    "incomplete",
+    "invalid",
     "rejected",
     "late",
     "not_kept",
@@ -97,11 +97,11 @@ def rows_of(store: Store, state: Dict[str, Any]) -> List[Dict[str, Any]]:
         one = kept.get(name)
         row.update(
             {
-                "whole": one.whole if one else 0,
+                "complete": one.complete if one else 0,
                 "again": one.again if one else 0,
-                "mended": one.mended if one else 0,
-                "unfinished": one.unfinished if one else 0,
-                "unreadable": one.unreadable if one else 0,
+                "fixed": one.fixed if one else 0,
+                "incomplete": one.incomplete if one else 0,
+                "invalid": one.invalid if one else 0,
                 "last": time_text(one.last) if one else "",
             }
         )

@@ -105,7 +105,7 @@ class Pages:
         def work(store: Any) -> page.LineData:
             with reading_book(store) as book:
                 failed = book.failed(LISTED).get(name)
-            kept = (store.last_heads(name, LISTED), store.not_whole(name, LISTED))
+            kept = (store.last_heads(name, LISTED), store.not_complete(name, LISTED))
             return page.LineData(*kept, failed, self._ladder(name))
 
         more = tally.each(self.host.store, work)
@@ -130,7 +130,7 @@ class Pages:
         return made
 
     def _trouble(self, _: Dict[str, str]) -> Answer:
-        found = tally.each(self.host.store, lambda store: store.not_whole(None))
+        found = tally.each(self.host.store, lambda store: store.not_complete(None))
         return Answer(200, HTML, page.trouble_page(found))
 
     def _message(self, given: Dict[str, str]) -> Answer:

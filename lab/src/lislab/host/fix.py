@@ -1,6 +1,7 @@
-"""Messages that can't be read, mended: by the changes of `lislab normalize` that a line's setting names, and by one
-that needs none: a record that is too long is left out. What came stays as it came; each mended message is one of its
-own, with what was changed in it. A change that would give another result, or lose any other one, is not made."""
+"""Makes messages that can be delivered from messages that can't be read. A line's setting names the changes, which are
+those of `lislab normalize`. Only one needs no setting: a record that is too long is left out. The message that was
+received stays in the store as it is. Each fixed message is a message of its own, which lists what was changed. No change
+is made that would change a result, or lose any other one."""
 import hashlib
 import re
 from typing import FrozenSet, Iterator, List, NamedTuple, Optional, Sequence, Tuple
@@ -10,12 +11,12 @@ from lislink.records import RECORD_BYTES
 from ..field.compare import gone_of_results, is_joined
 from ..field.normalize import Told, normalize
 from ..model.options import ALWAYS, NAMES
-from ..model.store import LEFT, MENDED, WHOLE, Add, Begin, Change, End, new_key
+from ..model.store import COMPLETE, FIXED, LEFT, Add, Begin, Change, End, new_key
 
 #: Those of lines whose frames may hold LF.
 LINE_FEEDS = frozenset(("lf", "crlf"))
-#: The most bytes of a message that is mended, which are held until it ends, and its most records; and the most bytes of
-#: one of which it is tried which setting would mend it.
+#: The most bytes of a message that is fixed, because they are held until it ends, and its most records; and the most
+#: bytes of a message for which the host tries which setting would fix it.
 MOST, MOST_RECORDS, MOST_TRIED = 2 << 20, 100_000, 1 << 18
 #: So many changes of a message are named one by one, first of all each record that is left out since it is too long.
 MOST_NAMED = 50
@@ -23,7 +24,7 @@ MOST_NAMED = 50
 _AT_THE_END, MAKES_AN_END = frozenset(("last-l", "last-cr")), frozenset(("last-l",))
 
 
-class Mended(NamedTuple):
+class Fixed(NamedTuple):
     """The messages that are made of one that can't be read, and what was changed."""
 
     messages: List[bytes]
@@ -31,7 +32,7 @@ class Mended(NamedTuple):
 
 
 class Ended(NamedTuple):
-    """A message that ended and isn't whole: how it began, its bytes, its end, and whether the analyzer ended it."""
+    """A message that ended and isn't complete: how it began, its bytes, its end, and whether the analyzer ended it."""
 
     begin: Begin
     body: bytes
@@ -44,16 +45,16 @@ def has_long(body: bytes) -> bool:
     return len(body) > RECORD_BYTES and any(len(one) > RECORD_BYTES for one in body.split(b"\r"))
 
 
-def mended(body: bytes, names: FrozenSet[str]) -> Optional[Mended]:
-    """The messages that these changes make; None if they aren't whole then, or if a result is another or gone, but for
+def fixed(body: bytes, names: FrozenSet[str]) -> Optional[Fixed]:
+    """The messages that these changes make; None if they aren't complete then, or if a result is another or gone, but for
     one whose record is too long."""
     out, told, _ = normalize(body, {*names, *ALWAYS})
     messages = _messages(out)
     if not messages:
-        return Mended([], list(_words(body, told))) if _is_after_l(body, names) else None
+        return Fixed([], list(_words(body, told))) if _is_after_l(body, names) else None
     if gone_of_results(body, out) != _long_results(body, names) or _hides_records(body, messages, names):
         return None
-    return Mended(messages, list(_words(body, told)))
+    return Fixed(messages, list(_words(body, told)))
 
 
 def _hides_records(body: bytes, messages: Sequence[bytes], names: FrozenSet[str]) -> bool:
@@ -73,7 +74,7 @@ def _long_results(body: bytes, names: FrozenSet[str]) -> int:
 
 
 def lacking(body: bytes, names: FrozenSet[str], is_over: bool) -> List[str]:
-    """The changes without which the message isn't whole, besides these, if there are such; each is tried."""
+    """The changes without which the message isn't complete, besides these, if there are such; each is tried."""
     asked, tried = names, [one for one in NAMES if is_over or one not in MAKES_AN_END]
     while not is_whole(body, asked):
         needed = normalize(body, set(asked))[2]
@@ -88,8 +89,8 @@ def lacking(body: bytes, names: FrozenSet[str], is_over: bool) -> List[str]:
 
 
 def is_whole(body: bytes, names: FrozenSet[str]) -> bool:
-    """Whether these changes make whole messages."""
-    found = mended(body, names)
+    """Whether these changes make complete messages."""
+    found = fixed(body, names)
     return found is not None and bool(found.messages)
 
 
@@ -127,17 +128,17 @@ def _words(body: bytes, told: Sequence[Told]) -> Iterator[str]:
         yield f"{len(rows) - MOST_NAMED} changes more"
 
 
-def made_of(one: Ended, found: Mended) -> List[Change]:
-    """The changes that keep mended messages, before the one that ends what they are made of: nothing of it is lost if
+def made_of(one: Ended, found: Fixed) -> List[Change]:
+    """The changes that keep fixed messages, before the one that ends what they are made of: nothing of it is lost if
     the host dies in between."""
     changes: List[Change] = []
     keys = [new_key() for _ in found.messages]
     told = [*found.told, LEFT] if one.end.reason == LEFT else found.told
-    reason = f"mended from {one.end.key}: " + "; ".join(told)
+    reason = f"fixed from {one.end.key}: " + "; ".join(told)
     for key, body in zip(keys, found.messages):
         digest = hashlib.sha256(body).hexdigest()
         changes.append(one.begin._replace(key=key))
         changes.append(Add(key, 0, one.end.at, body))
-        changes.append(End(key, one.end.line, WHOLE, reason, digest, len(body), one.end.at))
+        changes.append(End(key, one.end.line, COMPLETE, reason, digest, len(body), one.end.at))
     made = f"delivered as {', '.join(keys)}" if keys else "what came after L is left out"
-    return [*changes, one.end._replace(reason=f"{MENDED}{made}; {one.end.reason}")]
+    return [*changes, one.end._replace(reason=f"{FIXED}{made}; {one.end.reason}")]

@@ -1,5 +1,5 @@
-"""Makers' deviations that a line mends: a message that can't be read without a setting and is delivered with it, what
-came kept as it came. Each sample of samples/mends is an analyzer's session, named by the mend that it needs."""
+"""Makers' deviations that a line fixes: a message that can't be read without a setting and is delivered with it, what
+came kept as it came. Each sample of samples/fixes is an analyzer's session, named by the fix that it needs."""
 import asyncio
 import csv
 import glob
@@ -19,18 +19,18 @@ import lislink
 from lislink import Receiver, frame_bytes, read_all
 from lislink.capture import read_capture
 from lislab.model import lines, options
-from lislab.host import mend
+from lislab.host import fix
 from lislab.host.feeds import LineFeeds
 from lislab.host.intake import Held, Intake
-from lislab.host.mender import Mender, Workers
-from lislab.model.store import WHOLE, Add, Begin, End
+from lislab.host.fixer import Fixer, Workers
+from lislab.model.store import COMPLETE, Add, Begin, End
 from lislink.link import FRAME_TEXT, LONG_FRAME_TEXT
 from tests.host.hosts import ROOT, Found, Host, HostTest, lislab, wait_for
 from tests.host.plain import frame
 from tests.host.test_intake import random_stream, random_texts
 from tests.host.test_lines import ACK, ENQ, EOT, NAK, Client, frames
 
-SAMPLES = os.path.join(ROOT, "samples", "mends")
+SAMPLES = os.path.join(ROOT, "samples", "fixes")
 GOOD = (b"H|\\^&|||Analyzer\r", b"P|1||4711\r", b"O|1|S7||^^^GLU\r", b"R|1|^^^GLU|5.4|mmol/L\r", b"L|1|N\r")
 
 
@@ -38,7 +38,7 @@ class Case(NamedTuple):
     """A deviation: the settings without which it can't be read, the message that is delivered, and a part of its mark;
     whether it is acknowledged without them."""
 
-    mend: str
+    fix: str
     mark: str
     message: bytes = b"".join(GOOD)
     is_taken: bool = True
@@ -181,17 +181,17 @@ def play(port, sent, seconds=60):
     return replies
 
 
-class Mends(HostTest):
-    """A host whose lines mend, and others that don't."""
+class Fixes(HostTest):
+    """A host whose lines fix, and others that don't."""
 
     def test_each(self):
-        """Each mend: without it the message isn't delivered, with it it is; what came is kept as it came."""
+        """Each fix: without it the message isn't delivered, with it it is; what came is kept as it came."""
         self.same("each name has a sample", sorted(CASES), sorted(options.NAMES))
         self.are_samples()
         words = []
         for name, case in CASES.items():
-            words += ["--listen", f"0,name={name} bare" + (f",mend={case.without}" if case.without else "")]
-            words += ["--listen", f"0,name={name},mend={case.mend}"]
+            words += ["--listen", f"0,name={name} bare" + (f",fix={case.without}" if case.without else "")]
+            words += ["--listen", f"0,name={name},fix={case.fix}"]
         host = Host(self.path("each.db"), *words, scale=1.0, listen=False)
         ports = ports_of(host)
         for name, case in CASES.items():
@@ -205,10 +205,10 @@ class Mends(HostTest):
         self.same("the host's status", host.stop(), 0)
         found = Found(host.store)
         for name, case in CASES.items():
-            self.is_mended(name, case, found)
+            self.is_fixed(name, case, found)
         self.are_shown(host.store, found)
 
-    def is_mended(self, name, case, found):
+    def is_fixed(self, name, case, found):
         """Whether the message is delivered with the setting, and not without it; what came is there as it came."""
         came = b"".join(text_of(unit) for unit in units(name)[1:-1])
         whole = [one for one in found.whole if one.line in (name, f"{name} bare")]
@@ -217,29 +217,29 @@ class Mends(HostTest):
             self.has(f"{name}: it is marked", one.reason, case.mark)
         kept = {one.line: one for one in found.others if one.line.split(" ")[0] == name}
         self.same(f"{name}: what came", kept[name].body, came)
-        self.has(f"{name}: what was made of it", kept[name].reason, f"mended: delivered as {whole[0].key}; ")
+        self.has(f"{name}: what was made of it", kept[name].reason, f"fixed: delivered as {whole[0].key}; ")
         if case.is_taken:
             self.same(f"{name}: what came without the setting", kept[f"{name} bare"].body, came)
-            named = f"; mend={case.mend} would deliver it"
+            named = f"; fix={case.fix} would deliver it"
             self.has(f"{name}: the setting is named", kept[f"{name} bare"].reason, named)
 
     def are_shown(self, store, found):
         """Whether the status counts them, and an export marks them."""
         data = json.loads(lislab("status", "--store", store, "--json").stdout)
-        wanted = "whole", "mended", "unfinished", "unreadable"
+        wanted = "complete", "fixed", "incomplete", "invalid"
         rows = {row["line"]: [row[one] for one in wanted] for row in data["lines"]}
         for name, case in CASES.items():
             self.same(f"{name}: {wanted}", rows[name], [1, 1, 0, 0])
             *counts, first, second = rows[f"{name} bare"]
-            self.same(f"{name} bare: whole, mended, others", [*counts, first + second], [0, 0, int(case.is_taken)])
+            self.same(f"{name} bare: complete, fixed, others", [*counts, first + second], [0, 0, int(case.is_taken)])
             if case.is_taken:
-                self.same(f"{name}: what would", data["would"][f"{name} bare"], {f"mend={case.mend}": 1})
+                self.same(f"{name}: what would", data["would"][f"{name} bare"], {f"fix={case.fix}": 1})
         shown = lislab("status", "--store", store).stdout
-        self.has("for a reader", shown, "\nbytes bare: mend=bytes would deliver 1 message\n")
+        self.has("for a reader", shown, "\nbytes bare: fix=bytes would deliver 1 message\n")
         exported = [json.loads(row) for row in lislab("export", "--store", store).stdout.splitlines()]
-        self.same("marks of an export", [one["mended"] for one in exported], [one.reason for one in found.whole])
+        self.same("marks of an export", [one["fixed"] for one in exported], [one.reason for one in found.whole])
         table = list(csv.reader(io.StringIO(lislab("export", "--store", store, "--format", "csv").stdout)))
-        place = table[0].index("mended")
+        place = table[0].index("fixed")
         self.same("marks of a table", [row[place] for row in table[1:]], [one.reason for one in found.whole])
 
     def are_samples(self):
@@ -255,7 +255,7 @@ class Mends(HostTest):
         """A record of over 65,536 bytes is left out without a setting if nothing but comments belongs to it: the others
         are delivered, it is named with its place, and what came is kept. Else nothing is delivered."""
         words = [word for name in LONG for word in ("--listen", f"0,name={name},frame=63993")]
-        words += ["--listen", "0,name=named,frame=63993,mend=long"]
+        words += ["--listen", "0,name=named,frame=63993,fix=long"]
         host = Host(self.path("long.db"), *words, scale=1.0, listen=False)
         ports = ports_of(host)
         for name, case in {**LONG, "named": LONG["R"]}.items():
@@ -273,8 +273,8 @@ class Mends(HostTest):
         for name, case in {**LONG, "named": LONG["R"]}.items():
             self.is_left_out(name, case, found)
         shown = lislab("status", "--store", host.store).stdout
-        self.true("no setting is named", "mend=" not in shown + host.errors[-1], shown)
-        self.has("it is said", host.errors[-1], "is mended: delivered as ")
+        self.true("no setting is named", "fix=" not in shown + host.errors[-1], shown)
+        self.has("it is said", host.errors[-1], "is fixed: delivered as ")
 
     def is_left_out(self, name, case, found):
         """Whether a message is delivered without its long record, if one may be left out."""
@@ -285,7 +285,7 @@ class Mends(HostTest):
         self.same(f"{name}: what came", [one.body for one in kept], [b"".join(case.came)])
         for one in whole:
             self.same(f"{name}: it is marked", one.reason.partition(": ")[2], case.mark)
-            self.has(f"{name}: what was made of it", kept[0].reason, f"mended: delivered as {one.key}; {case.why}")
+            self.has(f"{name}: what was made of it", kept[0].reason, f"fixed: delivered as {one.key}; {case.why}")
         if not case.left:
             self.same(f"{name}: why it isn't delivered", kept[0].reason, case.why)
 
@@ -303,7 +303,7 @@ class Mends(HostTest):
             ("other changes", [*GOOD[:4], *many, M2, *GOOD[4:]],
              [*GOOD[:4], *(one.replace(b"\xff", b"&XFF&") for one in many), *GOOD[4:]], "record 125, from byte"),
         ):
-            found = mend.mended(b"".join(came), frozenset(("bytes",)))
+            found = fix.fixed(b"".join(came), frozenset(("bytes",)))
             self.same(f"{name}: what is left", found and found.messages, [b"".join(left)])
             self.true(f"{name}: it is named", found and any(mark in one for one in found.told), repr(found)[-900:])
         for name, came, setting in (
@@ -318,19 +318,19 @@ class Mends(HostTest):
             ("another one that can't be read", [*GOOD[:4], R2, b"Z|1\r", GOOD[4]], []),
             ("no L", [*GOOD[:4], R2], ["last-l"]),
         ):
-            self.same(f"{name}: not left out", mend.mended(b"".join(came), frozenset()), None)
-            self.same(f"{name}: the setting", mend.lacking(b"".join(came), frozenset(), True), setting)
+            self.same(f"{name}: not left out", fix.fixed(b"".join(came), frozenset()), None)
+            self.same(f"{name}: the setting", fix.lacking(b"".join(came), frozenset(), True), setting)
 
     def test_limits(self):
-        """A message with very many records isn't mended."""
+        """A message with very many records isn't fixed."""
         body = b"".join([*GOOD[:4], R2, GOOD[4]])
-        many = b"".join([*GOOD[:4], R2, *[b"C|\r"] * mend.MOST_RECORDS, GOOD[4]])
-        begin, end = Begin("k", "a", "p", "latin-1", 0.0), End("k", "a", "unreadable", "too long", "", 1, 0.0)
+        many = b"".join([*GOOD[:4], R2, *[b"C|\r"] * fix.MOST_RECORDS, GOOD[4]])
+        begin, end = Begin("k", "a", "p", "latin-1", 0.0), End("k", "a", "invalid", "too long", "", 1, 0.0)
 
         async def changes_of(data):
-            return len(await mender_of(()).changes(mend.Ended(begin, data, end, True)))
+            return len(await fixer_of(()).changes(fix.Ended(begin, data, end, True)))
 
-        self.same("one that is mended", asyncio.run(changes_of(body)), 4)
+        self.same("one that is fixed", asyncio.run(changes_of(body)), 4)
         self.same("many records", asyncio.run(changes_of(many)), 1)
 
     def test_long_random(self):
@@ -339,7 +339,7 @@ class Mends(HostTest):
         rng, delivered = random.Random(23), 0
         for turn in range(300):
             records = random_records(rng)
-            found = mend.mended(b"".join(records), frozenset())
+            found = fix.fixed(b"".join(records), frozenset())
             if any(len(one) > 65537 and one[:1] in b"HPOQL" for one in records):
                 self.same(f"{turn}: a long record that others belong to", found, None)
                 continue
@@ -351,7 +351,7 @@ class Mends(HostTest):
 
     def test_long_query(self):
         """A query with a comment that is too long is answered."""
-        host = Host(self.path("asks.db"), "--listen", "0,name=q,orders=ask,frame=63993", scale=1.0, listen=False)
+        host = Host(self.path("asks.db"), "--listen", "0,name=q,orders=query,frame=63993", scale=1.0, listen=False)
         with Client(ports_of(host)["q"]) as client:
             *units, end = long_units([GOOD[0], b"Q|1|^S7||ALL\r", C2, GOOD[4]])
             self.same("a query", {client.asks(unit, seconds=60) for unit in units}, {ACK})
@@ -359,11 +359,11 @@ class Mends(HostTest):
             self.same("the host answers", client.heard(1, 60), ENQ)
         self.same("the host's status", host.stop(), 0)
 
-    def test_not_mended(self):
-        """What would change a result isn't mended; a session that breaks off, or a frame that stays rejected, isn't the
+    def test_not_fixed(self):
+        """What would change a result isn't fixed; a session that breaks off, or a frame that stays rejected, isn't the
         end of a message."""
         value = [*GOOD[:3], b"R|1|^^^GLU|5\x004|mmol/L\r", GOOD[4]]
-        words = ["--listen", "0,name=nul,mend=nul", "--listen", "0,name=last-l,mend=last-l"]
+        words = ["--listen", "0,name=nul,fix=nul", "--listen", "0,name=last-l,fix=last-l"]
         host = Host(self.path("not.db"), *words, "--listen", "0,name=bare", scale=1.0, listen=False)
         ports, sent = ports_of(host), frames(GOOD[:4])
         play(ports["nul"], [ENQ, *frames(value), EOT])
@@ -379,19 +379,19 @@ class Mends(HostTest):
         self.same("the host's status", host.stop(), 0)
         found = Found(host.store)
         self.same("none is delivered", found.whole, [])
-        self.same("none is said to be", [one.reason for one in found.others if "mend" in one.reason], [])
+        self.same("none is said to be", [one.reason for one in found.others if "fix" in one.reason], [])
 
     def test_repeats(self):
-        """A message that comes again is mended again, and marked, whenever a host is killed in between."""
+        """A message that comes again is fixed again, and marked, whenever a host is killed in between."""
         for store in (self.path("again.db"), "spool:" + self.path("again.spool")):
-            mends_again(self, store)
+            fixes_again(self, store)
         case = LONG["R"]
-        mends_again(self, self.path("long again.db"), ",frame=63993", long_units(case.came), b"".join(case.left))
+        fixes_again(self, self.path("long again.db"), ",frame=63993", long_units(case.came), b"".join(case.left))
 
     def test_left(self):
-        """A host that is killed as soon as a session has ended: the next one makes of it what its line mends, also of a
+        """A host that is killed as soon as a session has ended: the next one makes of it what its line fixes, also of a
         message that has no L; a record that isn't whole gets no end."""
-        words = ["--listen", "0,name=last-l,mend=last-l,last-cr", "--listen", "0,name=bare"]
+        words = ["--listen", "0,name=last-l,fix=last-l,last-cr", "--listen", "0,name=bare"]
         host = Host(self.path("left.db"), *words, scale=1.0, listen=False)
         for turn in range(4):
             records = changed(0, b"H|\\^&|||%d\r" % turn)[:-len(GOOD[4])]
@@ -407,13 +407,13 @@ class Mends(HostTest):
         self.same("the host's status", host.stop(), 0)
         found = Found(host.store)
         self.same("whole", len(found.whole), 4)
-        self.same("left", sorted(one.line for one in found.others if "mended" not in one.reason), ["bare", "last-l"])
+        self.same("left", sorted(one.line for one in found.others if "fixed" not in one.reason), ["bare", "last-l"])
         self.true("said", "messages were open when the host stopped" in "".join(host.errors), host.errors)
 
     def test_order(self):
         """A correction comes after the message that it corrects, which needs an end: whatever another line's messages
         need, its number is greater."""
-        words = ["--listen", "0,name=last-l,mend=last-l", "--listen", "0,name=busy,mend=bytes,last-l"]
+        words = ["--listen", "0,name=last-l,fix=last-l", "--listen", "0,name=busy,fix=bytes,last-l"]
         host = Host(self.path("order.db"), *words, scale=1.0, listen=False)
         ports, heavy = ports_of(host), heavy_units(150_000)
         for turn in range(3):
@@ -428,10 +428,10 @@ class Mends(HostTest):
         self.same("in order", bodies, [b"first", b"second"] * 3)
 
     def test_tries_delay_nobody(self):
-        """Which setting would deliver the messages of a line is tried: meanwhile another line's messages are mended and
+        """Which setting would deliver the messages of a line is tried: meanwhile another line's messages are fixed and
         acknowledged, and a stop doesn't wait for it."""
-        asyncio.run(self.mended_while_tried())
-        words = ["--listen", "0,name=bytes,mend=bytes", "--listen", "0,name=tried"]
+        asyncio.run(self.fixed_while_tried())
+        words = ["--listen", "0,name=bytes,fix=bytes", "--listen", "0,name=tried"]
         host = Host(self.path("tries.db"), *words, scale=1.0, listen=False)
         ports, heavy = ports_of(host), heavy_units(250_000)
         for _ in range(5):
@@ -443,18 +443,18 @@ class Mends(HostTest):
         self.true("delivered", wait_for(lambda: whole() == ["bytes"] * 3), whole())
         self.same("the host's status", host.stop(), 0)
         found = [one for one in Found(host.store).others if one.line == "tried"]
-        self.same("those that were tried are kept", [one.state for one in found], ["unreadable"] * 5)
+        self.same("those that were tried are kept", [one.state for one in found], ["invalid"] * 5)
 
-    async def mended_while_tried(self):
-        """A message is mended while another one is tried, which ends after it."""
-        is_mended, workers = threading.Event(), Workers(lambda: ThreadPoolExecutor(1))
-        with mock.patch.object(mend, "lacking", lambda *given: is_mended.wait(60)):
+    async def fixed_while_tried(self):
+        """A message is fixed while another one is tried, which ends after it."""
+        is_fixed, workers = threading.Event(), Workers(lambda: ThreadPoolExecutor(1))
+        with mock.patch.object(fix, "lacking", lambda *given: is_fixed.wait(60)):
             tried = asyncio.ensure_future(workers.lacking(b"L|1\r", frozenset(), True))
             await asyncio.sleep(0)
-            work = asyncio.ensure_future(workers.mended(b"L|1\r", frozenset()))
+            work = asyncio.ensure_future(workers.fixed(b"L|1\r", frozenset()))
             done, _ = await asyncio.wait([work], timeout=30)
-            self.same("mended while another one is tried", len(done), 1)
-            is_mended.set()
+            self.same("fixed while another one is tried", len(done), 1)
+            is_fixed.set()
             await asyncio.wait([work, tried])
         workers.stop()
 
@@ -472,12 +472,12 @@ class Mends(HostTest):
 
         workers = Workers(pool)
         with self.assertRaises(asyncio.CancelledError):
-            asyncio.run(workers.mended(b"L|1\r", frozenset()))
+            asyncio.run(workers.fixed(b"L|1\r", frozenset()))
         self.same("processes", len(made), 1)
 
     def test_query(self):
-        """A query that is mended is answered."""
-        words = ["--listen", "0,name=q,orders=ask,mend=header-3,crlf"]
+        """A query that is fixed is answered."""
+        words = ["--listen", "0,name=q,orders=query,fix=header-3,crlf"]
         host = Host(self.path("query.db"), *words, scale=1.0, listen=False)
         with Client(ports_of(host)["q"]) as client:
             texts = [b"H|\\^\r\n", b"Q|1|^S7||ALL\r\n", b"L|1|N\r\n"]
@@ -501,30 +501,30 @@ class Mends(HostTest):
             self.true(f"{turn}: a damaged frame {bytes(one)}", found in (texts[: damaged - 1], texts), repr(found))
 
     def test_streams(self):
-        """Of random texts every byte is kept as it came, whatever is mended, and what is made of them can be read."""
+        """Of random texts every byte is kept as it came, whatever is fixed, and what is made of them can be read."""
         rng, made = random.Random(17), 0
         for turn in range(300):
             stream = random_stream(rng).replace(b"|5", rng.choice((b"|5", b"|\x1d", b"|5\0")))
             names = rng.sample(options.NAMES, rng.randrange(len(options.NAMES)))
-            came, whole, mended = asyncio.run(kept(random_texts(rng, stream), names))
+            came, whole, fixed = asyncio.run(kept(random_texts(rng, stream), names))
             self.same(f"{turn}: {names}: what came", came, stream)
-            found = [[type(one) for one in read_all(body)] for body in [*whole, *mended]]
+            found = [[type(one) for one in read_all(body)] for body in [*whole, *fixed]]
             self.same(f"{turn}: {names}: what can be read", found, [[lislink.Found]] * len(found))
-            made += len(mended)
-        self.true("some are mended", made > 50, str(made))
+            made += len(fixed)
+        self.true("some are fixed", made > 50, str(made))
 
     def test_words(self):
-        """The names of a line's mends, in its words and in a file of lines."""
-        place = options.listen_of("0,mend=last-l,escape,name=a")
-        self.same("names in their order", (place.mend, place.name), (("bytes", "last-l"), "a"))
-        self.same("with a sign between them", options.serial_of("/dev/x:9600,mend=crlf+lf").mend, ("crlf", "lf"))
-        self.same("what is always done", options.listen_of("0,mend=long,nul").mend, ("nul",))
-        with open(self.path("mends.lines"), "w", encoding="ascii") as file:
-            file.write("[a]\nlisten = 1\nmend = last-l, bytes\n  nul\n[b]\nlisten = 2\nmend = lfs\n")
+        """The names of a line's fixes, in its words and in a file of lines."""
+        place = options.listen_of("0,fix=last-l,escape,name=a")
+        self.same("names in their order", (place.fix, place.name), (("bytes", "last-l"), "a"))
+        self.same("with a sign between them", options.serial_of("/dev/x:9600,fix=crlf+lf").fix, ("crlf", "lf"))
+        self.same("what is always done", options.listen_of("0,fix=long,nul").fix, ("nul",))
+        with open(self.path("fixes.lines"), "w", encoding="ascii") as file:
+            file.write("[a]\nlisten = 1\nfix = last-l, bytes\n  nul\n[b]\nlisten = 2\nfix = lfs\n")
         found = lines.read_lines(file.name, [])
-        shown = "a: listen=127.0.0.1:1 frame=240 encoding=iso8859-1 mend=nul,bytes,last-l"
+        shown = "a: listen=127.0.0.1:1 frame=240 encoding=iso8859-1 fix=nul,bytes,last-l"
         self.same("as it is shown", [lines.text_of(one) for one in found.places], [shown])
-        self.same("a fault", found.faults, [f"{file.name}:7: a line mends {', '.join(options.NAMES)}, not lfs"])
+        self.same("a fault", found.faults, [f"{file.name}:7: a line fixes {', '.join(options.NAMES)}, not lfs"])
 
 
 def heavy_units(size):
@@ -533,8 +533,8 @@ def heavy_units(size):
     return [ENQ, *(frame(at + 1, body[at * 200 : at * 200 + 200]) for at in range(0, (len(body) + 199) // 200)), EOT]
 
 
-def mends_again(test, store, setting=",mend=escape", sent=None, wanted=None):
-    """Sends a message that is mended three times, and kills the host each time before EOT."""
+def fixes_again(test, store, setting=",fix=escape", sent=None, wanted=None):
+    """Sends a message that is fixed three times, and kills the host each time before EOT."""
     host, name = Host(store, "--listen", f"0,name=bytes{setting}", scale=1.0, listen=False), store[:5]
     for turn in range(3):
         with Client(ports_of(host)["bytes"]) as client:
@@ -547,27 +547,27 @@ def mends_again(test, store, setting=",mend=escape", sent=None, wanted=None):
     found = Found(store)
     test.same(f"{name}: delivered", {one.body for one in found.whole}, {wanted or CASES["bytes"].message})
     test.same(f"{name}: unmarked repeats", found.unmarked(), [])
-    test.same(f"{name}: counted", [(one.mended, one.unreadable) for one in found.counts], [(3, 0)])
+    test.same(f"{name}: counted", [(one.fixed, one.invalid) for one in found.counts], [(3, 0)])
     test.same(f"{name}: kept as they came", len({one.body for one in found.others}), 1)
 
 
-def mender_of(names):
-    """What mends so, in a thread."""
-    return Mender(names, Workers(lambda: ThreadPoolExecutor(1)), Counter())
+def fixer_of(names):
+    """What fixes so, in a thread."""
+    return Fixer(names, Workers(lambda: ThreadPoolExecutor(1)), Counter())
 
 
 async def kept(texts, names):
     """What is kept of texts: all bytes as they came, the messages that are whole as they came, and those that are
-    mended."""
-    intake, mender = Intake("line", "peer", "latin-1", 1 << 20, lambda: 0.0, Held(1 << 20)), mender_of(names)
+    fixed."""
+    intake, fixer = Intake("line", "peer", "latin-1", 1 << 20, lambda: 0.0, Held(1 << 20)), fixer_of(names)
     changes = []
     for some in [*(some for text in texts for some in intake.take(text)), intake.drop("the end")]:
-        changes += await mender.of_all(some, intake.bodies, True, None)
+        changes += await fixer.of_all(some, intake.bodies, True, None)
     bodies, whole = {}, {}
     for change in changes:
         if isinstance(change, Add):
             bodies[change.key] = bodies.get(change.key, b"") + change.body
-        elif isinstance(change, End) and change.state == WHOLE:
+        elif isinstance(change, End) and change.state == COMPLETE:
             whole[change.key] = change.reason
     came = b"".join(body for key, body in bodies.items() if not whole.get(key))
     return came, *([bodies[key] for key in whole if bool(whole[key]) is is_made] for is_made in (False, True))

@@ -1,4 +1,4 @@
-"""What becomes of a line's messages that aren't whole: in their order, by processes of their own, so that no reply of
+"""What becomes of a line's messages that aren't complete: in their order, by processes of their own, so that no reply of
 another line waits for it. A host that dies makes good at its next start what it left."""
 import asyncio
 import contextlib
@@ -14,18 +14,18 @@ from concurrent.futures.process import BrokenProcessPool
 from typing import Any, Awaitable, Callable, Dict, FrozenSet, List, Mapping, Optional, Sequence, Tuple, TypeVar
 
 from ..model.options import NAMES
-from ..model.store import WHOLE, Add, Begin, Change, End
-from . import mend
-from .mend import MAKES_AN_END, MOST_RECORDS, MOST_TRIED, Ended, Mended, has_long, made_of
+from ..model.store import COMPLETE, Add, Begin, Change, End
+from . import fix
+from .fix import MAKES_AN_END, MOST_RECORDS, MOST_TRIED, Ended, Fixed, has_long, made_of
 from .tasks import Tasks
 from .unknown import Unknown
 
 #: So many messages of a line are tried at once, and then one each so many seconds; of all lines so many bytes wait to be
 #: tried.
 AT_ONCE, SECONDS, TRIED = 5, 10.0, 2 * MOST_TRIED
-#: Up to so many bytes a message is mended by a process that has no long work.
+#: Up to so many bytes a message is fixed by a process that has no long work.
 SMALL = 1 << 16
-#: How messages began that aren't whole, and their bytes, by their keys.
+#: How messages began that aren't complete, and their bytes, by their keys.
 Bodies = Mapping[str, Tuple[Begin, bytes]]
 T = TypeVar("T")
 
@@ -52,7 +52,7 @@ def _pool() -> Executor:
 
 
 class Workers:
-    """The processes that mend: one for short work, one for long, and one that only tries. Each is started when there is
+    """The processes that fix: one for short work, one for long, and one that only tries. Each is started when there is
     work for it, and anew if it dies."""
 
     def __init__(self, pool: Callable[[], Executor] = _pool) -> None:
@@ -60,19 +60,19 @@ class Workers:
         self._pools: Dict[str, Executor] = {}
         self._tried, self._is_stopped = 0, False
 
-    async def mended(self, body: bytes, names: FrozenSet[str]) -> Optional[Mended]:
-        """As `mend.mended`."""
-        return await self._run("short" if len(body) <= SMALL else "long", mend.mended, body, names)
+    async def fixed(self, body: bytes, names: FrozenSet[str]) -> Optional[Fixed]:
+        """As `fix.fixed`."""
+        return await self._run("short" if len(body) <= SMALL else "long", fix.fixed, body, names)
 
     def may_try(self, size: int) -> bool:
         """Whether a message of this size may be tried, or too much is waiting to be."""
         return self._tried + size <= TRIED
 
     async def lacking(self, body: bytes, names: FrozenSet[str], is_over: bool) -> List[str]:
-        """As `mend.lacking`."""
+        """As `fix.lacking`."""
         self._tried += len(body)
         try:
-            return await self._run("tries", mend.lacking, body, names, is_over)
+            return await self._run("tries", fix.lacking, body, names, is_over)
         finally:
             self._tried -= len(body)
 
@@ -102,8 +102,8 @@ class Workers:
 
 
 class InOrder:
-    """What is made of a line's messages after their sessions: each is kept before the next one is mended, and before a
-    message that comes later is whole."""
+    """What is made of a line's messages after their sessions: each is kept before the next one is fixed, and before a
+    message that comes later is complete."""
 
     def __init__(self) -> None:
         self._tasks = Tasks()
@@ -131,8 +131,8 @@ class InOrder:
         await self._tasks.cancel()
 
 
-class Mender:
-    """What is made of a line's messages that aren't whole."""
+class Fixer:
+    """What is made of a line's messages that aren't complete."""
 
     def __init__(
         self,
@@ -152,7 +152,7 @@ class Mender:
     async def of_all(
         self, changes: Sequence[Change], bodies: Bodies, is_over: bool, tries: List[Ended]
     ) -> List[Change]:
-        """These changes, with those of the messages that are made of the ones that end and aren't whole. The ends of
+        """These changes, with those of the messages that are made of the ones that end and aren't complete. The ends of
         those are left out of which it is to be tried which setting would deliver them: they go to `tries`."""
         made: List[Change] = []
         for one in changes:
@@ -166,8 +166,8 @@ class Mender:
         """The changes that end a message, with those of the messages that are made of it; none if it goes to `tries`."""
         try:
             found = await self._made(one)
-        except Exception as error:  # a fault of the mending's own is no reason to lose what came
-            return [one.end._replace(reason=f"{one.end.reason}; it could not be mended: {type(error).__name__}")]
+        except Exception as error:  # a fault of the fixing's own is no reason to lose what came
+            return [one.end._replace(reason=f"{one.end.reason}; it could not be fixed: {type(error).__name__}")]
         if found is not None:
             return await self._looked_up(made_of(one, found), one.begin.encoding)
         if tries is None or not one.is_over or not self._may_try(len(one.body)):
@@ -175,11 +175,11 @@ class Mender:
         tries.append(one)
         return []
 
-    async def _made(self, one: Ended) -> Optional[Mended]:
+    async def _made(self, one: Ended) -> Optional[Fixed]:
         """What is made of a message by the line's changes, and by what is always done."""
         names = self.names if one.is_over else self.names - MAKES_AN_END
         is_small = one.body.count(b"\r") + one.body.count(b"\n") <= MOST_RECORDS
-        return await self._workers.mended(one.body, names) if is_small and (names or has_long(one.body)) else None
+        return await self._workers.fixed(one.body, names) if is_small and (names or has_long(one.body)) else None
 
     async def _looked_up(self, made: List[Change], encoding: str) -> List[Change]:
         """The same changes: the codes of the messages that they keep are looked up."""
@@ -209,7 +209,7 @@ class Mender:
             with contextlib.suppress(Exception):
                 more = await self._workers.lacking(one.body, self.names, one.is_over)
                 if more:
-                    setting = "mend=" + ",".join(name for name in NAMES if name in self.names or name in more)
+                    setting = "fix=" + ",".join(name for name in NAMES if name in self.names or name in more)
                     self._would[setting] += 1
                     end = end._replace(reason=f"{end.reason}; {setting} would deliver it")
         finally:
@@ -220,6 +220,6 @@ class Mender:
         await self._tries.cancel()
 
 
-def is_mended(changes: Sequence[Change]) -> List[End]:
+def fixed_ends(changes: Sequence[Change]) -> List[End]:
     """The ends of the messages that were made of others."""
-    return [one for one in changes if isinstance(one, End) and one.state == WHOLE and one.reason]
+    return [one for one in changes if isinstance(one, End) and one.state == COMPLETE and one.reason]
