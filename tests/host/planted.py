@@ -38,7 +38,7 @@ WITH_THEIR_OWN = (
 #: The other tests, and what each must notice.
 FAULTS = {
     "test_backup.Copies.test_under_load": Edit(
-        "cli/store.py", '"backup_file", ("", ".aside")', '"backup_file", ("",)'
+        "cli/store.py", '"backup_file", ("", QUARANTINE, EARLIER)', '"backup_file", ("",)'
     ),
     "test_backup.Copies.test_refusals": Edit("cli/store.py", "        if unnamed:\n", "        if not files:\n"),
     "test_commits.Owed.test_one_that_fails": Edit(
@@ -634,7 +634,7 @@ HARMLESS = (
         "        if len(ends) == 0:\n            return\n        self.lock",
     ),
     Edit("outbound/deliver.py", "        elif not found:\n", "        elif found == 0:\n"),
-    Edit("outbound/aside.py", "sorted([*others, row])", "sorted([row, *others])"),
+    Edit("outbound/quarantine.py", "sorted([*others, row])", "sorted([row, *others])"),
     Edit(
         "model/numbers.py",
         'turned.get(one.comparator, "") if factor < 0 else one.comparator',

@@ -1,46 +1,49 @@
 """Faults in what brings messages out of a store (`planted.py`): in this file of lislink, this text becomes that."""
 
 FAULTS = {
-    "test_aside.Asides.test_aside": (
-        "outbound/aside.py", "or self._tries < self.most:", "or self._tries <= self.most:"
+    "test_quarantine.Quarantines.test_quarantine": (
+        "outbound/quarantine.py", "or self._tries < self.most:", "or self._tries <= self.most:"
     ),
-    "test_aside.Asides.test_aside_of_a_spool": (
+    "test_quarantine.Quarantines.test_quarantine_of_a_spool": (
         "outbound/deliver.py", "self._to.store.messages(held.number - 1, 1)", "self._to.store.messages(held.number, 1)"
     ),
-    "test_aside.Asides.test_again_of_one_that_runs": (
+    "test_quarantine.Quarantines.test_again_of_one_that_runs": (
         "outbound/deliver.py", "            grant(self._cursor.path, key)\n", ""
     ),
-    "test_aside.Asides.test_each_write": (
+    "test_quarantine.Quarantines.test_each_write": (
         "outbound/deliver.py",
-        "            if self._to.wants(one) and (self._aside is None or not self._aside.takes(one)):\n"
+        "            if self._to.wants(one) and (self._quarantine is None or not self._quarantine.takes(one)):\n"
         "                self._next(one)\n            self._note(one)\n",
-        "            self._note(one)\n            if self._aside is None or not self._aside.takes(one):\n"
+        "            self._note(one)\n            if self._quarantine is None or not self._quarantine.takes(one):\n"
         "                self._next(one)\n",
     ),
-    "test_aside.Asides.test_random": (
+    "test_quarantine.Quarantines.test_random": (
         "outbound/deliver.py",
         "                blocked |= set(held.samples)\n                continue\n            try",
         "                continue\n            try",
     ),
-    "test_aside.Asides.test_what_is_not_counted": (
+    "test_quarantine.Quarantines.test_what_is_not_counted": (
         "outbound/deliver.py",
         "raise Unreachable(str(error)) from None\n    try:",
         "raise Refused(str(error)) from None\n    try:",
     ),
-    "test_aside.Cursors.test_aside_that_cannot_be_written": (
+    "test_quarantine.Cursors.test_quarantine_that_cannot_be_written": (
         "outbound/deliver.py", "                if held.key not in self._sent:\n    ", "                if held:\n    "
     ),
-    "test_aside.Cursors.test_damaged": (
-        "outbound/aside.py",
+    "test_quarantine.Cursors.test_damaged": (
+        "outbound/quarantine.py",
         "    except (OSError, ValueError) as error:\n        raise StoreError(f\"{path}: {error}\") from None",
         "    except (OSError, ValueError):\n        return {}",
     ),
-    "test_aside.Cursors.test_once": (
+    "test_quarantine.Cursors.test_version_before": (
+        "outbound/quarantine.py", "which = earlier if not", "which = path if not"
+    ),
+    "test_quarantine.Cursors.test_once": (
         "outbound/deliver.py",
         "            if once:\n                raise\n            failed = str(error)",
         "            failed = str(error)",
     ),
-    "test_aside.Cursors.test_service": (
+    "test_quarantine.Cursors.test_service": (
         "outbound/deliver.py",
         "        if self._unnoted is not None:\n            self._note(self._unnoted)\n",
         "",
@@ -227,7 +230,7 @@ FAULTS = {
     "test_deliver.Deliver.test_letters": ("model/results.py", "self.marks += [why] if why else []", "del why"),
     "test_deliver.Deliver.test_left_out": ("outbound/deliver.py", "self.empty += not is_handed", "self.empty += 0"),
     "test_deliver.Deliver.test_filters": ("outbound/export.py", "line(_harmless(row) if form.safe else row)", "line(row)"),
-    "test_deliver.Deliver.test_ends_the_process": ("outbound/aside.py", "self._count(one.key, tries + 1)", "pass"),
+    "test_deliver.Deliver.test_ends_the_process": ("outbound/quarantine.py", "self._count(one.key, tries + 1)", "pass"),
     "test_deliver.Deliver.test_a_stop_is_no_try": (
         "outbound/deliver.py", "except (Unreachable, Stopped):", "except Unreachable:"
     ),

@@ -27,7 +27,7 @@ class Copies(HostTest):
         self.true("delivered", wait_for(lambda: len(glob.glob(f"{first}/*")) > 10))
         delivery.terminate()
         delivery.wait()
-        with open(cursor + ".aside", "w", encoding="ascii") as file:
+        with open(cursor + ".quarantine", "w", encoding="ascii") as file:
             file.write("[]\n")
         before, copy = acknowledged(log), self.path("load.copy")
         done = lislab("store", "backup", "--store", store, "--cursor", cursor, copy)
@@ -42,8 +42,8 @@ class Copies(HostTest):
         host = Host(again)
         found = Found(again)
         self.same("acknowledged before, and not there", [row for row in before if row[2] not in found.digests], [])
-        with open(mine + ".aside", encoding="ascii") as file:
-            self.same("what was set aside", file.read(), "[]\n")
+        with open(mine + ".quarantine", encoding="ascii") as file:
+            self.same("what was in quarantine", file.read(), "[]\n")
         second = self.path("second")
         done = lislab("deliver", "--store", again, "--cursor", mine, "--once", "--directory", second)
         self.same("delivered on", done.returncode, 0)

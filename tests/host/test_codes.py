@@ -19,7 +19,7 @@ from lislab.model.options import OptionError
 from lislink.message import Found, read_all
 from tests.host import fhir_r4
 from tests.host.hosts import HostTest, lislab
-from tests.host.test_aside import keep
+from tests.host.test_quarantine import keep
 from tests.host.test_fhir import observations
 from tests.host.test_mllp import WithLibrary, message, stored
 

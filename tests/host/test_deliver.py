@@ -16,14 +16,14 @@ import threading
 import time
 import unittest.mock
 
-from lislab.outbound import aside, https, oru
+from lislab.outbound import quarantine, https, oru
 from lislab.model.failures import Refused, Unreachable
 from lislab.outbound import deliver
 from lislab.model.store import COMPLETE, Add, Begin, End
 from lislab.model.stores import open_store
 from tests.host import hosts
 from tests.host.hosts import ENV, HostTest, lislab, process, wait_for
-from tests.host.test_aside import keep, records
+from tests.host.test_quarantine import keep, records
 from tests.host.test_fhir import Certified
 from tests.host.test_mllp import Scripted, ack
 from tests.host.test_told import message
@@ -56,7 +56,7 @@ class Deliver(HostTest):
     """`lislab deliver`."""
 
     def deliver(self, name, bodies, *words, line="fire"):
-        """Delivers these messages: how it ended, the files that it made, and what is set aside."""
+        """Delivers these messages: how it ended, the files that it made, and what is in quarantine."""
         store, cursor, folder = (self.path(f"{name}.{what}") for what in ("db", "cursor", "d"))
         if not os.path.exists(store):
             keep(store, bodies, line)
@@ -65,17 +65,17 @@ class Deliver(HostTest):
         for one in sorted(os.listdir(folder)):
             with open(os.path.join(folder, one), encoding="utf-8") as file:
                 files.append(file.read())
-        return done, files, aside.held_of(cursor)
+        return done, files, quarantine.held_of(cursor)
 
     def test_quarantine(self):
-        """What isn't sure is set aside at once, with its reason, and never counted as delivered; the line's setting
+        """What isn't sure is quarantined at once, with its reason, and never counted as delivered; the line's setting
         makes it sure, and then it can be sent again."""
         later = message("P|1", "O|1|A", "R|1|^^^GLU|2")
         for form in ("oru", "fhir", "csv", "tsv"):
             done, files, held = self.deliver(form, [RACK, GOOD, later], "--format", form)
             self.same(f"{form}: the others go out", (done.returncode, len(files)), (1, 2))
-            self.same(f"{form}: it is set aside", [(one.number, one.tries) for one in held], [(1, 0)])
-            self.has(f"{form}: why", done.stderr, "is set aside: order, record 3 of the message: which part of O-4 is")
+            self.same(f"{form}: it is quarantined", [(one.number, one.tries) for one in held], [(1, 0)])
+            self.has(f"{form}: why", done.stderr, "is quarantined: order, record 3 of the message: which part of O-4 is")
             self.has(f"{form}: what is counted", done.stderr, "2 messages delivered\n")
         done, files, held = self.deliver("records", [RACK], "--format", "records")
         self.same("as it came it goes out", (done.returncode, len(files), held), (0, 1, []))
@@ -164,7 +164,7 @@ class Deliver(HostTest):
         self.has("a control's patient", self.deliver("all", [])[1][1], ",QC1,,GLU,")
 
     def test_ends_the_process(self):
-        """A message that ends the delivery's process is counted before it is tried, and set aside."""
+        """A message that ends the delivery's process is counted before it is tried, and quarantined."""
         store, cursor = self.path("ends.db"), self.path("ends.cursor")
         keys = keep(store, [records(["A"]), records(["B"])])
         log = self.path("ends.log")
@@ -175,8 +175,8 @@ class Deliver(HostTest):
         for wanted in (-signal.SIGKILL, -signal.SIGKILL, 1):
             done = lislab(*words, code)
             self.same("how it ended", done.returncode, wanted)
-        self.same("it is set aside", [one.key for one in aside.held_of(cursor)], [keys[0]])
-        self.has("why", aside.held_of(cursor)[0].why, "each try ended the delivery itself")
+        self.same("it is quarantined", [one.key for one in quarantine.held_of(cursor)], [keys[0]])
+        self.has("why", quarantine.held_of(cursor)[0].why, "each try ended the delivery itself")
         self.true("the other one is delivered", rows_of(log)[0].endswith("2"), str(rows_of(log)))
 
     def test_a_stop_is_no_try(self):
@@ -190,7 +190,7 @@ class Deliver(HostTest):
             self.true("it tries", wait_for(lambda count=count: len(rows_of(log)) > count, 30))
             one.send_signal(signal.SIGTERM)
             self.same("it ends", one.wait(30), 128 + signal.SIGTERM)
-        self.same("nothing is set aside", aside.held_of(cursor), [])
+        self.same("nothing is in quarantine", quarantine.held_of(cursor), [])
 
     def test_killed(self):
         """A delivery that is killed while its command runs: the next one waits until that ends, so no old value comes

@@ -11,7 +11,7 @@ from lislab.watch.deliveries import deliveries_of
 from lislab.watch.tally import Tally
 from lislab.watch.web import Pages
 from tests.host.hosts import Host, HostTest, lislab, process, wait_for
-from tests.host.test_aside import TAKER, keep, records
+from tests.host.test_quarantine import TAKER, keep, records
 from tests.host.test_deliver import RACK
 from tests.host.test_told import message
 
@@ -29,7 +29,7 @@ class Deliveries(HostTest):
             one.close()
 
     def test_rows(self):
-        """A delivery that isn't there, fails, goes on again, is stopped, has set a message aside."""
+        """A delivery that isn't there, fails, goes on again, is stopped, has a quarantine."""
         store, cursor, bad = self.path("rows.db"), self.path("rows.cursor"), self.path("rows.bad")
         twice = message("P|1", "O|1|S", "R|1|^^^A|1", "R|2|^^^A|2")
         keys = keep(store, [records(["A"]), RACK, twice])
@@ -53,13 +53,13 @@ class Deliveries(HostTest):
         self.true("what is to be looked at is counted", wait_for(
             lambda: "1 tests twice in an order, with different values" in self.rows(store, cursor)[name][2], 60))
         rows = self.rows(store, cursor)
-        self.same("what is set aside is a row", rows[f"{name}: aside"][:2], ("bad", "set-aside"))
-        self.has("why", rows[f"{name}: aside"][2], "1 message set aside; message 2: order, record 3 of the message")
+        self.same("what is in quarantine is a row", rows[f"{name}: quarantine"][:2], ("bad", "quarantined"))
+        self.has("why", rows[f"{name}: quarantine"][2], "1 message in quarantine; message 2: order, record 3 of the message")
         one.send_signal(signal.SIGTERM)
         one.wait(30)
         self.same("stopped with nothing left to do", self.rows(store, cursor)[name][0], "quiet")
         done = lislab("watch", "--store", store, "--once", "--cursor", cursor)
-        self.has("watch", done.stdout, f"{name}: aside  bad    1 message set aside")
+        self.has("watch", done.stdout, f"{name}: quarantine  bad    1 message in quarantine")
 
     def test_another_store(self):
         """A cursor that is ahead of the store, or of another one, is bad: in deliver's own words, of all who show it."""

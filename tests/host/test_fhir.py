@@ -16,11 +16,11 @@ import urllib.parse
 
 from lislab.outbound import deliver
 from lislab.model.options import OptionError
-from lislab.outbound import aside, fhir, https, mllp, oru
+from lislab.outbound import quarantine, fhir, https, mllp, oru
 from lislab.model.results import Coded, Reading, Told
 from tests.host import fhir_r4
 from tests.host.hosts import HostTest, lislab
-from tests.host.test_aside import keep, records
+from tests.host.test_quarantine import keep, records
 from tests.host.test_mllp import Scripted, WithLibrary, ack, message, stored
 
 
@@ -443,7 +443,7 @@ class Https(Certified, WithLibrary):
             said = "certificate verify failed" in done.stderr
             self.same(f"{name}: it is said", (done.returncode, said), (1, True))
             self.same(f"{name}: nothing was sent", server.taken, [])
-        self.same("nothing is set aside", aside.held_of(self.path("certificate.cursor")), [])
+        self.same("nothing is in quarantine", quarantine.held_of(self.path("certificate.cursor")), [])
         good = self.deliver("certificate.cursor", server, "--ca", files[0])
         self.same("with the right one it is", (good.returncode, len(server.taken)), (0, 4))
 

@@ -20,7 +20,7 @@ from lislab.model.stores import open_store
 from lislab.host.unknown import Unknown
 from lislink.message import Found, read_all
 from tests.host.hosts import HostTest, Host, lislab, process, wait_for
-from tests.host.test_aside import keep
+from tests.host.test_quarantine import keep
 from tests.host.test_codes import HEAD, random_body, results
 from tests.host.test_intake import random_texts
 from tests.host.test_lines import Client

@@ -23,7 +23,7 @@ from tests import kit
 from tests.host import fhir_r4, hosts, test_told, told
 from tests.host.hosts import ENV, HostTest, lislab, process, wait_for
 from tests.host.receiver import MISSING, folder_of_hl7
-from tests.host.test_aside import keep, records
+from tests.host.test_quarantine import keep, records
 from tests.host.test_told import message
 
 RECEIVER = os.path.join(os.path.dirname(os.path.abspath(__file__)), "receiver.py")
@@ -431,7 +431,7 @@ class Receivers(WithLibrary):
         self.raises("nobody listens", deliver.Unreachable, lambda: one.deliver(b"MSH|", "k"))
 
     def test_rejected(self):
-        """A message that a receiver rejects is set aside by --quarantine, and the others go on."""
+        """A message that a receiver rejects is quarantined by --quarantine, and the others go on."""
         store, cursor = self.path("rejected.db"), self.path("rejected.cursor")
         keys = keep(store, [records([one]) for one in "ABAC"])
         ids = [oru.control_id(key) for key in keys]
@@ -440,7 +440,7 @@ class Receivers(WithLibrary):
         done = self.run_it("deliver", "--store", store, *words)
         receiver.close()
         self.same("the status", done.returncode, 1)
-        self.has("it is said", done.stderr, f"{keys[0]} is set aside: 127.0.0.1:{receiver.port}: AR\n")
+        self.has("it is said", done.stderr, f"{keys[0]} is quarantined: 127.0.0.1:{receiver.port}: AR\n")
         self.same("what was sent", receiver.taken, [ids[0], ids[1], ids[3]])
         wrong = self.run_it("deliver", "--store", store, "--cursor", cursor, "--to", "mllp://h:1", "--format", "csv")
         self.same("another format", (wrong.returncode, "--format oru" in wrong.stderr), (2, True))

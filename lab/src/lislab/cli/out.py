@@ -15,7 +15,7 @@ from ..model.options import OptionError, split_peer
 from ..model.said import many, say
 from ..model.store import StoreError, Stored
 from ..model.stores import open_store
-from ..outbound import aside, https, mllp
+from ..outbound import https, mllp, quarantine
 from ..outbound import deliver, export
 from ..outbound.tables import tables_of
 from .common import add_renamed
@@ -112,17 +112,17 @@ def _target_of(ask: argparse.Namespace, form: export.Form, lock: int) -> deliver
 
 
 def run_deliver(ask: argparse.Namespace) -> int:
-    """Delivers until it is stopped, or what there is, or what was set aside."""
+    """Delivers until it is stopped, or what there is, or what is in quarantine."""
     if ask.resend is not None:
         return _run_again(ask)
     form = _form_of(ask)
     store = open_store(ask.store)
     cursor = deliver.Cursor(ask.cursor, say)
     try:
-        kept = _aside_of(ask, form)
+        kept = _quarantine_of(ask, form)
         target = _target_of(ask, form, cursor.lock)
         one = deliver.Delivery(
-            store, cursor, target, say, aside=kept, wants=_wants(ask), counts=lambda: dict(form.counts)
+            store, cursor, target, say, quarantine=kept, wants=_wants(ask), counts=lambda: dict(form.counts)
         )
         signal.signal(signal.SIGTERM, _stop)
         count = deliver.run(one, ask.once)
@@ -132,7 +132,7 @@ def run_deliver(ask: argparse.Namespace) -> int:
         for text in export.counted_texts(form):
             say(text)
         if kept.held:
-            say(f"{many(len(kept.held), 'message is', 'messages are')} set aside")
+            say(f"{many(len(kept.held), 'message is', 'messages are')} in quarantine")
         return WRONG if kept.held else GOOD
     except Refused:
         return WRONG
@@ -154,23 +154,24 @@ def _wants(ask: argparse.Namespace) -> "deliver.Wants":
     return lambda one: (line is None or one.line == line) and (repeats or one.again_of is None)
 
 
-def _aside_of(ask: argparse.Namespace, form: export.Form) -> aside.Aside:
-    kept = aside.Aside(ask.cursor, int(ask.quarantine), *([form.tables.reading] if form.tables else []))
+def _quarantine_of(ask: argparse.Namespace, form: export.Form) -> quarantine.Quarantine:
+    kept = quarantine.Quarantine(ask.cursor, int(ask.quarantine), *([form.tables.reading] if form.tables else []))
     if kept.most or kept.held:
         calls()  # without the library no sample could be read
     return kept
 
 
 def _run_again(ask: argparse.Namespace) -> int:
-    """Sends what is set aside; if a delivery has the cursor, that one is asked to."""
-    if not aside.is_key(ask.resend):
+    """Sends quarantined messages; if another process delivers with this cursor, asks that one to do it."""
+    if not quarantine.is_key(ask.resend):
         raise OptionError(f"--resend {ask.resend}: the key of a message is wanted, or the word all")
-    named = aside.Aside(ask.cursor).together(ask.resend)
+    named = quarantine.Quarantine(ask.cursor).together(ask.resend)
     if not named:
-        say(f"{ask.cursor}: nothing is set aside" + ("" if ask.resend == aside.ALL else f" by the key {ask.resend}"))
+        which = "" if ask.resend == quarantine.ALL else f" under the key {ask.resend}"
+        say(f"{ask.cursor}: nothing is in quarantine{which}")
         return WRONG
     if _is_taken(ask.cursor):
-        aside.wish(ask.cursor, ask.resend)
+        quarantine.wish(ask.cursor, ask.resend)
         say(f"{many(len(named), 'message is', 'messages are')} sent by the delivery that has {ask.cursor}")
         return GOOD
     form = _form_of(ask)
@@ -178,7 +179,7 @@ def _run_again(ask: argparse.Namespace) -> int:
     cursor = deliver.Cursor(ask.cursor, say)
     try:
         target = _target_of(ask, form, cursor.lock)
-        one = deliver.Delivery(store, cursor, target, say, aside=_aside_of(ask, form))
+        one = deliver.Delivery(store, cursor, target, say, quarantine=_quarantine_of(ask, form))
         return GOOD if deliver.run_again(one, ask.resend) else WRONG
     finally:
         cursor.close()

@@ -1,6 +1,5 @@
-"""`lislab store`: a copy of an SQLite store as one file, with the cursors of its deliveries and what they have set aside,
-made while a host runs; and a store made of such a copy. What version a store's tables have, and the steps to this
-program's."""
+"""`lislab store`: copies an SQLite store into one file while a host runs, with the cursors and the quarantine of its
+deliveries, and makes a store from such a copy. It prints the version of a store's tables, and upgrades them."""
 import argparse
 import contextlib
 import os
@@ -14,10 +13,11 @@ from ..model.schema import SCHEMA
 from ..model.sql import SqlStore
 from ..model.store import StoreError
 from ..model.stores import open_store
+from ..outbound.quarantine import EARLIER, QUARANTINE
 
-#: The table of a copy that has its cursors, and what a cursor's files end in.
-_FILES, _ENDS = "backup_file", ("", ".aside")
-#: What is next to a store while a host runs, and after it was killed.
+#: The table of a copy that has its cursors, and the ends of the names of a cursor's files.
+_FILES, _ENDS = "backup_file", ("", QUARANTINE, EARLIER)
+#: The ends of the names of a store's files, while a host runs and after it was killed.
 _BESIDE = ("", "-wal", "-shm")
 
 

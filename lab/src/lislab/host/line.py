@@ -483,7 +483,7 @@ class Line:
                 continue
             self._tell(MessageEnded(change))
             self._note_letters(change)
-            self._counts["messages" if change.state == COMPLETE else "quarantined"] += 1
+            self._counts["messages" if change.state == COMPLETE else "not_complete"] += 1
             if change.state == COMPLETE:
                 self.last = change.at
                 if change.reason:

@@ -15,4 +15,4 @@ class Unreachable(Refused):
 
 
 class Quarantined(Refused):
-    """What a message says can't be said surely, as a result without a sample: it is set aside at once."""
+    """A message can't be delivered with certainty, for example because a result has no sample: it is quarantined at once."""

@@ -40,7 +40,7 @@ class FolderBook(OrderBook):
         except OSError as error:
             raise StoreError(f"{self._files}: {error}") from None
         said = []
-        for name in names:  # a file that can't be taken in, nor set aside, stops no other
+        for name in names:  # a file that can't be read, nor renamed, stops no other
             try:
                 said.append(self._take_file(name))
             except OSError as error:

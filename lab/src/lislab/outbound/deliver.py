@@ -12,7 +12,7 @@ from ..model.failures import Quarantined, Refused, Unreachable
 from ..model.files import Unsynced, take_lock, write_synced
 from ..model.said import many
 from ..model.store import Store, StoreError, Stored
-from .aside import Aside, Held, grant, wishes
+from .quarantine import Held, Quarantine, grant, wishes
 from .export import Writer
 
 #: How long a store without new messages is left alone, and how long a delivery that failed waits: at first, at most.
@@ -278,14 +278,14 @@ def _run(words: List[str], data: bytes, seconds: float, about: Dict[str, str], l
 
 
 class Delivery(NamedTuple):
-    """A delivery: out of which store, to whom, who hears of what went wrong, and what it has set aside."""
+    """A delivery: from which store, to whom, who reports what went wrong, and its quarantine."""
 
     store: Store
     cursor: Cursor
     deliver: Target
     say: Callable[[str], None]
     sleep: Callable[[float], None] = time.sleep
-    aside: Optional[Aside] = None
+    quarantine: Optional[Quarantine] = None
     wants: Wants = lambda one: True
     #: What it has counted.
     counts: Callable[[], Dict[str, int]] = dict
@@ -295,10 +295,10 @@ class _Round:
     """What a delivery does again and again: what is asked for, then what came."""
 
     def __init__(self, delivery: Delivery) -> None:
-        self._to, self._aside, self._cursor = delivery, delivery.aside, delivery.cursor
+        self._to, self._quarantine, self._cursor = delivery, delivery.quarantine, delivery.cursor
         #: How many messages are delivered, how many had nothing to hand over, and how many are done with.
         self.delivered = self.empty = self.done = 0
-        #: What is done with, and isn't noted in the cursor; which messages were sent again, and still are set aside.
+        #: What is done with, and isn't noted in the cursor; which messages were sent again, and are still in quarantine.
         self._unnoted: Optional[Stored] = None
         self._sent: Set[str] = set()
 
@@ -306,14 +306,14 @@ class _Round:
         """One of these rounds: how many messages were found. It ends with `Refused` or StoreError."""
         if self._unnoted is not None:
             self._note(self._unnoted)
-        for key in wishes(self._cursor.path) if self._aside is not None else ():
+        for key in wishes(self._cursor.path) if self._quarantine is not None else ():
             self.again(key)
             grant(self._cursor.path, key)
         found = 0
         self._cursor.check(self._to.store)
         for one in self._to.store.messages(self._cursor.number, 100):
             found += 1
-            if self._to.wants(one) and (self._aside is None or not self._aside.takes(one)):
+            if self._to.wants(one) and (self._quarantine is None or not self._quarantine.takes(one)):
                 self._next(one)
             self._note(one)
             self.done += 1
@@ -327,10 +327,10 @@ class _Round:
         self._unnoted = None
 
     def _next(self, one: Stored) -> None:
-        """Delivers a message, or sets it aside."""
-        kept = self._aside
+        """Delivers a message, or quarantines it."""
+        kept = self._quarantine
         if kept is not None and not kept.begins(one):
-            self._to.say(f"message {one.number} {one.key} is set aside: each try ended the delivery itself")
+            self._to.say(f"message {one.number} {one.key} is quarantined: each try ended the delivery itself")
             return
         try:
             self._handed(self._delivered(one))
@@ -342,8 +342,8 @@ class _Round:
             if kept is None or not (isinstance(error, Quarantined) or kept.failed(one, str(error))):
                 raise
             if isinstance(error, Quarantined):
-                kept.quarantine(one, str(error))
-            self._to.say(f"message {one.number} {one.key} is set aside: {error}")
+                kept.hold(one, str(error))
+            self._to.say(f"message {one.number} {one.key} is quarantined: {error}")
 
     def _delivered(self, one: Stored) -> bool:
         """Delivers a message; whether there was something to hand over."""
@@ -357,11 +357,11 @@ class _Round:
         self.empty += not is_handed
 
     def again(self, key: str) -> bool:
-        """Sends a message that is set aside, with those of its samples, in order; whether none of them is left. One
-        that fails holds up those of its samples."""
-        assert self._aside is not None
+        """Sends a quarantined message, with those of its samples, in order; whether none of them is left. One that fails
+        holds up those of its samples."""
+        assert self._quarantine is not None
         blocked: Set[str] = set()
-        asked = self._aside.together(key)
+        asked = self._quarantine.together(key)
         for held in asked:
             if blocked & set(held.samples):  # it waits, and so do later ones of its other samples
                 blocked |= set(held.samples)
@@ -373,13 +373,13 @@ class _Round:
                 raise
             except Refused as error:
                 blocked |= set(held.samples)
-                self._aside.failed_again(held, str(error))
-                self._to.say(f"message {held.number} {held.key} stays aside: {error}")
+                self._quarantine.failed_again(held, str(error))
+                self._to.say(f"message {held.number} {held.key} stays in quarantine: {error}")
                 continue
             self._sent.add(held.key)
-            self._aside.sent(held)
+            self._quarantine.sent(held)
             self._sent.remove(held.key)
-        return not {held.key for held in asked} & {held.key for held in self._aside.held}
+        return not {held.key for held in asked} & {held.key for held in self._quarantine.held}
 
     def _found(self, held: Held) -> Stored:
         one = next(iter(self._to.store.messages(held.number - 1, 1)), None)
@@ -428,7 +428,7 @@ def run(delivery: Delivery, once: bool) -> Count:
 
 
 def run_again(delivery: Delivery, key: str) -> bool:
-    """Sends what is set aside and asked for by this key; whether none of it is left."""
+    """Sends what is in quarantine and is named by this key; whether none of it is left."""
     one, done = _Round(delivery), False
     try:
         done = one.again(key)

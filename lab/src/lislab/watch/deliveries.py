@@ -1,5 +1,5 @@
-"""How deliveries do: whether one goes on, since when nothing goes and why, how many messages wait, and what is set
-aside. A delivery is known by its cursor."""
+"""The state of deliveries: whether one goes on, since when nothing goes and why, how many messages wait, and how many are in
+quarantine. A delivery is known by its cursor."""
 import os
 import time
 from typing import Any, Dict, Sequence
@@ -8,18 +8,18 @@ from ..diagnosis.pulse import clock
 from ..model.files import is_locked
 from ..model.said import many
 from ..model.store import Store, StoreError
-from ..outbound.aside import held_of
+from ..outbound.quarantine import held_of
 from ..outbound.deliver import WrongStore, read_cursor, read_state
 from .tally import undelivered
 
 #: So many seconds a message may wait for a delivery that isn't running, before this is bad.
 PATIENCE = 60.0
-#: What a delivery is that fails, isn't running, or has set messages aside.
-FAILS, DOWN, ASIDE, GOOD = "delivery-fails", "delivery-down", "set-aside", "delivers"
+#: The verdict on a delivery that fails, isn't running, has a quarantine, or delivers.
+FAILS, DOWN, QUARANTINED, GOOD = "delivery-fails", "delivery-down", "quarantined", "delivers"
 
 
 def deliveries_of(store: Store, cursors: Sequence[str]) -> Dict[str, Dict[str, Any]]:
-    """A row for each delivery, and one for what it has set aside, as those of lines are."""
+    """A row for each delivery, and one for its quarantine, in the form of the rows of lines."""
     rows: Dict[str, Dict[str, Any]] = {}
     for path in cursors:
         name = f"delivery {os.path.basename(path)}"
@@ -31,8 +31,8 @@ def deliveries_of(store: Store, cursors: Sequence[str]) -> Dict[str, Dict[str, A
             continue
         if held:
             first = held[0]
-            text = f"{many(len(held), 'message')} set aside; message {first.number}: {first.why}"
-            rows[f"{name}: aside"] = _row("bad", ASIDE, first.at, text, len(held))
+            text = f"{many(len(held), 'message')} in quarantine; message {first.number}: {first.why}"
+            rows[f"{name}: quarantine"] = _row("bad", QUARANTINED, first.at, text, len(held))
     return rows
 
 

@@ -70,7 +70,7 @@ def metrics_of(data: Mapping[str, Any], undelivered: Mapping[str, int], orders: 
     out.add("lislab_undelivered_messages", "gauge", "Complete messages that a delivery has still to do.")
     for cursor, count in undelivered.items():
         out.sample("lislab_undelivered_messages", count, [("cursor", cursor)])
-    out.add("lislab_delivery_bad", "gauge", "Whether a delivery fails, isn't running, or has set messages aside.")
+    out.add("lislab_delivery_bad", "gauge", "Whether a delivery fails, isn't running, or has a quarantine.")
     for name, one in data.get("deliveries", {}).items():
         out.sample("lislab_delivery_bad", int(one["state"] == "bad"), [("delivery", name)])
     out.add("lislab_orders", "gauge", "Orders in the store, by their state.")

@@ -135,7 +135,7 @@ def lines_page(data: Mapping[str, Any], tally: Tally, delivered: Mapping[str, Se
 
 
 def _deliveries(found: Mapping[str, Any]) -> str:
-    """A row for each delivery, and for what it has set aside."""
+    """A row for each delivery, and for its quarantine."""
     rows = "".join(
         f"<tr><td>{safe(name)}</td><td>{state(one)}</td><td>{safe(one['says'])}</td></tr>"
         for name, one in found.items()

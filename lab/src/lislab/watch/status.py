@@ -7,7 +7,7 @@ from ..model.book import Failed
 from ..model.books import reading_book
 from ..model.said import many, shown
 from ..model.store import Store
-from ..outbound.aside import held_of
+from ..outbound.quarantine import held_of
 from ..outbound.deliver import WrongStore, checked_number
 from ..outbound.export import time_text
 
@@ -36,7 +36,7 @@ class Waiting(NamedTuple):
     cursor: str
     messages: int
     oldest: Optional[float]
-    aside: List[Dict[str, Any]]
+    quarantined: List[Dict[str, Any]]
     #: Why nothing can go, if that is so: the cursor is of another store.
     why: str = ""
 
@@ -77,8 +77,8 @@ def waiting_of(store: Store, path: str, most: int = 1000) -> Waiting:
             count += 1
     except WrongStore as error:
         why = str(error)
-    aside = [{"key": held.key, "number": held.number, "tries": held.tries, "why": held.why} for held in held_of(path)]
-    return Waiting(path, count, oldest, aside, why)
+    held = [{"key": one.key, "number": one.number, "tries": one.tries, "why": one.why} for one in held_of(path)]
+    return Waiting(path, count, oldest, held, why)
 
 
 def rows_of(store: Store, state: Dict[str, Any]) -> List[Dict[str, Any]]:
@@ -172,10 +172,10 @@ def text_of(data: Dict[str, Any]) -> str:
     rows = ["  ".join(cell.ljust(width) for cell, width in zip(row, widths)).rstrip() for row in cells]
     for one in data["undelivered"]:
         oldest = f", the oldest of {one['oldest']}" if one["messages"] else ""
-        aside = f"; {len(one['aside'])} set aside" if one["aside"] else ""
-        rows.append(one["why"] or f"{one['cursor']}: {many(one['messages'], 'message')} not delivered{oldest}{aside}")
-        for held in one["aside"]:
-            rows += [f"  {held['key']} failed {many(held['tries'], 'time')}: {held['why']}"] if held["tries"] else []
+        held = f"; {len(one['quarantined'])} in quarantine" if one["quarantined"] else ""
+        rows.append(one["why"] or f"{one['cursor']}: {many(one['messages'], 'message')} not delivered{oldest}{held}")
+        for each in one["quarantined"]:
+            rows += [f"  {each['key']} failed {many(each['tries'], 'time')}: {each['why']}"] if each["tries"] else []
     for name, settings in sorted(data["would"].items()):
         rows += [f"{name}: {setting} would deliver {many(count, 'message')}" for setting, count in sorted(settings.items())]
     for name, codes in sorted(data["unknown_codes"].items()):

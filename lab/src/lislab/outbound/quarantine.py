@@ -1,6 +1,6 @@
-"""Messages that a delivery has set aside, since they failed too often, and those of the same samples after them. They
-are in a file next to the delivery's cursor. Who wants one sent again leaves a wish there, an empty file; the delivery
-takes it up."""
+"""The quarantine of a delivery: messages that failed too often, and later messages about the same samples. It is a file
+next to the delivery's cursor. `lislab deliver --resend` leaves a wish there, an empty file, and the delivery that is
+running sends the message."""
 import contextlib
 import glob
 import json
@@ -14,12 +14,14 @@ from ..model.results import Reading
 from ..model.samples import samples_of
 from ..model.store import StoreError, Stored
 
-#: The wish for all of them; and what a key looks like.
+#: The wish for all of them; and the form of a key.
 ALL, _KEY = "all", re.compile(r"[0-9a-z]{1,64}$")
+#: The ends of the names of the file next to a cursor: of this version, and of the version before.
+QUARANTINE, EARLIER = ".quarantine", ".aside"
 
 
 class Held(NamedTuple):
-    """A message that is set aside: how often it failed, why last, and since when."""
+    """A quarantined message: how often it failed, why last, and since when."""
 
     number: int
     key: str
@@ -29,17 +31,17 @@ class Held(NamedTuple):
     at: float
 
 
-class Aside:
-    """What a delivery has set aside. Only the process that has the cursor changes it."""
+class Quarantine:
+    """The quarantine of a delivery. Only the process that has the cursor changes it."""
 
     def __init__(
         self, cursor: str, most: int = 0, reading: Callable[[str], Reading] = lambda line: Reading()
     ) -> None:
-        #: Set aside after so many failures; never if it is 0.
+        #: A message is quarantined after so many failures; never if it is 0.
         self.most = most
-        self.path = cursor + ".aside"
-        #: What is set aside, in order; the keys of these, the first one of each sample, and each as it is written.
-        self.held = _held_of(self.path, _read(self.path))
+        self.path, self._earlier = cursor + QUARANTINE, cursor + EARLIER
+        #: What is in quarantine, in order; the keys of these, the first one of each sample, and each as it is written.
+        self.held = _read_held(self.path, self._earlier)
         self._keys, self._firsts = {one.key for one in self.held}, _firsts_of(self.held)
         self._rows: Dict[str, Tuple[Held, str]] = {}
         #: Which message is tried, and for which time: a try that ends the process is counted too.
@@ -49,7 +51,7 @@ class Aside:
         self._reading = reading
 
     def _write(self, held: Sequence[Held]) -> None:
-        """On the disk first, then here; StoreError if it can't be."""
+        """Writes them to the disk first, then keeps them here. StoreError if they can't be written."""
         for one in held:
             if one.key not in self._rows or self._rows[one.key][0] is not one:
                 self._rows[one.key] = one, json.dumps(one._asdict())
@@ -59,6 +61,8 @@ class Aside:
             write_synced(self.path, f'{{"held": [{rows}]}}\n'.encode())
         except OSError as error:
             raise StoreError(f"{self.path}: {error.strerror or error}") from None
+        with contextlib.suppress(OSError):  # one that stays is no longer read
+            os.unlink(self._earlier)
         self.held, self._keys, self._firsts = list(held), {one.key for one in held}, _firsts_of(held)
 
     def _put(self, one: Stored, samples: FrozenSet[str], tries: int, why: str) -> None:
@@ -74,8 +78,8 @@ class Aside:
             self._trying.write(f"{key} {tries}\n".encode())
 
     def begins(self, one: Stored) -> bool:
-        """Counts a try of the next message before it is made; False if it is set aside, since each try ended the
-        process."""
+        """Counts a try of the next message before it is made; False if the message is quarantined, because each try
+        ended the process."""
         if not self.most:
             return True
         tries = self._tries if self._key == one.key else 0
@@ -86,19 +90,19 @@ class Aside:
         return True
 
     def takes_back(self, one: Stored) -> None:
-        """The try says nothing of the message."""
+        """Doesn't count the last try, because it failed for a reason that isn't the message's."""
         if self.most and self._key == one.key:
             self._count(one.key, self._tries - 1)
 
-    def quarantine(self, one: Stored, why: str) -> None:
-        """Sets a message aside at once."""
+    def hold(self, one: Stored, why: str) -> None:
+        """Quarantines a message at once."""
         self._put(one, self._samples(one), 0, why)
 
     def _samples(self, one: Stored) -> FrozenSet[str]:
         return samples_of(one, self._reading(one.line))
 
     def takes(self, one: Stored) -> bool:
-        """Whether a message waits for one of its samples that is set aside; then it is set aside too."""
+        """Whether a message is about a sample in quarantine; then it is quarantined too."""
         if not self.held:
             return False
         if one.key in self._keys:  # the cursor wasn't moved after it
@@ -110,15 +114,15 @@ class Aside:
         return bool(firsts)
 
     def failed(self, one: Stored, why: str) -> bool:
-        """The next message failed; whether it is set aside now."""
+        """The next message failed; whether it is quarantined now."""
         if not self.most or self._tries < self.most:
             return False
         self._put(one, self._samples(one), self._tries, why)
         return True
 
     def together(self, key: str) -> List[Held]:
-        """A message that is set aside and all that share samples with it, or with each other, in order; all of them for
-        the word `all`."""
+        """A quarantined message and all that share samples with it, or with each other, in order; all messages for the
+        word `all`."""
         if key == ALL:
             return list(self.held)
         found = {each.key for each in self.held if each.key == key}
@@ -138,6 +142,12 @@ class Aside:
         """This one failed once more."""
         row = one._replace(tries=one.tries + 1, why=why)
         self._write([row if each.key == one.key else each for each in self.held])
+
+
+def _read_held(path: str, earlier: str) -> List[Held]:
+    """The messages of a quarantine, which the version before may have written."""
+    which = earlier if not os.path.exists(path) and os.path.exists(earlier) else path
+    return _held_of(which, _read(which))
 
 
 def _read(path: str) -> Dict[str, Any]:
@@ -172,8 +182,8 @@ def _held_of(path: str, data: Dict[str, Any]) -> List[Held]:
 
 
 def held_of(cursor: str) -> List[Held]:
-    """What the delivery with this cursor has set aside."""
-    return Aside(cursor).held
+    """The messages in quarantine of the delivery with this cursor."""
+    return Quarantine(cursor).held
 
 
 def is_key(word: str) -> bool:
@@ -199,5 +209,5 @@ def wishes(cursor: str) -> List[str]:
 
 def grant(cursor: str, key: str) -> None:
     """Takes a wish away."""
-    with contextlib.suppress(OSError):  # one that stays asks for what is set aside no more
+    with contextlib.suppress(OSError):  # one that stays names a message that is no longer in quarantine
         os.unlink(f"{cursor}.again.{key}")

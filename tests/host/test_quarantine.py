@@ -1,4 +1,4 @@
-"""Deliveries that set messages aside: those that fail too often, with later ones of the same samples; all others go on,
+"""Deliveries that quarantine messages: those that fail too often, with later ones of the same samples; all others go on,
 and the order of a sample's messages is kept."""
 import json
 import os
@@ -13,7 +13,7 @@ from lislab.model import files
 from lislab.watch import status
 from lislab.model.store import COMPLETE, Add, Begin, End, StoreError
 from lislab.model.stores import open_store
-from lislab.outbound import aside
+from lislab.outbound import quarantine
 from tests.host.hosts import HostTest, lislab, process, wait_for
 
 
@@ -84,13 +84,13 @@ class Stopped(Exception):
 
 
 class Dying:
-    """Ends a delivery before or after one of the writes of its cursor and of what it has set aside."""
+    """Ends a delivery before or after one of the writes of its cursor and of its quarantine."""
 
     def __init__(self, place, is_late):
         self.place, self.is_late, self.count, self.died = place, is_late, 0, False
 
     def __enter__(self):
-        self.patched = [unittest.mock.patch.object(one, "write_synced", self.write) for one in (deliver, aside)]
+        self.patched = [unittest.mock.patch.object(one, "write_synced", self.write) for one in (deliver, quarantine)]
         self.patched.append(unittest.mock.patch.object(deliver, "SYNC", 0.0))
         for one in self.patched:
             one.start()
@@ -112,31 +112,31 @@ class Dying:
             raise Stopped
 
 
-class Asides(HostTest):
+class Quarantines(HostTest):
     """`lislab deliver --quarantine` and `--resend`."""
 
-    def test_aside(self):
-        """A message that fails twice is set aside with later ones of its sample, and sent again with them."""
+    def test_quarantine(self):
+        """A message that fails twice is quarantined with later ones of its sample, and sent again with them."""
         samples = (["A"], ["B"], ["A"], ["C"], ["B", "A"], ["B"], ["D"])
-        self.is_set_aside(Taker(self, "aside", map(records, samples)))
+        self.goes_into_quarantine(Taker(self, "held", map(records, samples)))
 
-    def test_aside_of_a_spool(self):
+    def test_quarantine_of_a_spool(self):
         """The same out of a spool."""
         samples = (["A"], ["B"], ["A"], ["C"], ["B", "A"], ["B"], ["D"])
-        self.is_set_aside(Taker(self, "aside of a spool", map(records, samples), "spool:"))
+        self.goes_into_quarantine(Taker(self, "held of a spool", map(records, samples), "spool:"))
 
-    def is_set_aside(self, one):
+    def goes_into_quarantine(self, one):
         """The first message fails."""
         one.fails(0)
         first = lislab(*one.words("--quarantine", "2", "--once"))
         self.same("it fails once", (first.returncode, one.taken()), (1, []))
         second = lislab(*one.words("--quarantine", "2", "--once"))
         self.same("others go on, and those of its samples wait", (second.returncode, one.taken()), (1, [1, 3, 6]))
-        self.has("it is said which", second.stderr, f"{one.keys[0]} is set aside: {sys.executable} ended with status 7")
-        self.has("and how many", second.stderr, "4 messages are set aside")
+        self.has("it is said which", second.stderr, f"{one.keys[0]} is quarantined: {sys.executable} ended with status 7")
+        self.has("and how many", second.stderr, "4 messages are in quarantine")
         shown = ["status", "--store", one.store, "--cursor", one.cursor]
-        self.has("the status counts them", lislab(*shown).stdout, ": 0 messages not delivered; 4 set aside")
-        held = json.loads(lislab(*shown, "--json").stdout)["undelivered"][0]["aside"]
+        self.has("the status counts them", lislab(*shown).stdout, ": 0 messages not delivered; 4 in quarantine")
+        held = json.loads(lislab(*shown, "--json").stdout)["undelivered"][0]["quarantined"]
         self.same("and why", [(it["tries"], it["why"][:9]) for it in held], [
             (2, sys.executable[:9]), (0, "waits for"), (0, "waits for"), (0, "waits for")])
         self.same("without --quarantine they wait too", lislab(*one.words("--once")).returncode, 1)
@@ -145,7 +145,7 @@ class Asides(HostTest):
         one.fails()
         good = lislab(*one.words("--resend", one.keys[4]))
         self.same("all of them go, in order", (good.returncode, one.taken()), (0, [1, 3, 6, 0, 2, 4, 5]))
-        self.same("nothing is left", lislab(*shown).stdout.count("set aside"), 0)
+        self.same("nothing is left", lislab(*shown).stdout.count("in quarantine"), 0)
         self.same("there is none to send", lislab(*one.words("--resend", "all")).returncode, 1)
         self.same("a key that is none", lislab(*one.words("--resend", "../x")).returncode, 2)
         old = lislab(*one.words("--aside", "1", "--again", "all"))
@@ -158,13 +158,13 @@ class Asides(HostTest):
         one.fails(0)
         process(["-m", "lislab", *one.words("--quarantine", "1")])
         self.true("others go on", wait_for(lambda: one.taken() == [2], 60), str(one.taken()))
-        self.true("it is noted", wait_for(lambda: len(aside.held_of(one.cursor)) == 2, 60))
+        self.true("it is noted", wait_for(lambda: len(quarantine.held_of(one.cursor)) == 2, 60))
         one.fails()
         words = ["deliver", "--store", one.store, "--cursor", one.cursor, "--resend", one.keys[0]]
         done = lislab(*words)
         self.same("it is asked to", (done.returncode, "2 messages are sent by the" in done.stderr), (0, True))
         self.true("it sends them", wait_for(lambda: one.taken() == [2, 0, 1], 60), str(one.taken()))
-        self.true("the wish is gone", wait_for(lambda: not aside.wishes(one.cursor), 60))
+        self.true("the wish is gone", wait_for(lambda: not quarantine.wishes(one.cursor), 60))
 
     def test_what_is_not_counted(self):
         """A command that isn't there is no failure of the message."""
@@ -172,7 +172,7 @@ class Asides(HostTest):
         words = one.words("--quarantine", "1", "--once")
         done = lislab(*words[: words.index("--") + 1], self.path("no command"))
         self.same("the status", done.returncode, 1)
-        self.same("nothing is set aside", aside.held_of(one.cursor), [])
+        self.same("nothing is in quarantine", quarantine.held_of(one.cursor), [])
         lislab(*one.words("--once"))
         self.same("it is delivered", one.taken(), [0])
 
@@ -223,7 +223,7 @@ class Asides(HostTest):
         self.true("there are writes", place > 10, str(place))
 
     def rounds(self, store, cursor, keys, taken, fixed):
-        """A delivery that fails for the first message until that is fixed; then what was set aside."""
+        """A delivery that fails for the first message until that is fixed; then what was in quarantine."""
 
         def take(one):
             if one.key == keys[0] and not fixed:
@@ -237,12 +237,12 @@ class Asides(HostTest):
                 pass
 
     def one_run(self, store, cursor, take, most, again):
-        """A delivery of what there is, or of what was set aside."""
+        """A delivery of what there is, or of what was in quarantine."""
         opened, place = open_store(store), deliver.Cursor(cursor)
-        one = deliver.Delivery(opened, place, take, lambda text: None, aside=aside.Aside(cursor, most))
+        one = deliver.Delivery(opened, place, take, lambda text: None, quarantine=quarantine.Quarantine(cursor, most))
         try:
             if again:
-                deliver.run_again(one, aside.ALL)
+                deliver.run_again(one, quarantine.ALL)
             else:
                 deliver.run(one, True)
         except deliver.Refused:
@@ -278,16 +278,16 @@ class Cursors(HostTest):
         self.same("the cursor", place.key, keys[1])
         opened.close()
 
-    def test_aside_that_cannot_be_written(self):
+    def test_quarantine_that_cannot_be_written(self):
         """What is sent again, and can't be noted as sent, is sent once as long as the delivery runs."""
         store, cursor, taken, said = self.path("full.db"), self.path("full.cursor"), [], []
         keys = keep(store, [records(["A"]), records(["A"])])
-        with open(cursor + ".aside", "w", encoding="ascii") as file:
-            held = [aside.Held(at, key, ["A"], 1, "x", 0.0)._asdict() for at, key in enumerate(keys, 1)]
+        with open(cursor + ".quarantine", "w", encoding="ascii") as file:
+            held = [quarantine.Held(at, key, ["A"], 1, "x", 0.0)._asdict() for at, key in enumerate(keys, 1)]
             json.dump({"held": held}, file)
         with open(cursor, "w", encoding="ascii") as file:
             json.dump({"number": 2, "key": keys[1]}, file)
-        aside.wish(cursor, "all")
+        quarantine.wish(cursor, "all")
 
         def write(path, data):
             if len(said) < 2:
@@ -295,19 +295,35 @@ class Cursors(HostTest):
             files.write_synced(path, data)
 
         def sleep(_):
-            if not aside.held_of(cursor) or len(said) > 9:
+            if not quarantine.held_of(cursor) or len(said) > 9:
                 raise Stopped
 
         opened, place = open_store(store), deliver.Cursor(cursor)
-        kept = aside.Aside(cursor)
+        kept = quarantine.Quarantine(cursor)
         one = deliver.Delivery(opened, place, lambda it: not taken.append(it.key), said.append, sleep, kept)
-        with unittest.mock.patch.object(aside, "write_synced", write):
+        with unittest.mock.patch.object(quarantine, "write_synced", write):
             self.raises("it is stopped by the test", Stopped, lambda: deliver.run(one, False))
         self.same("each once, in order", taken, keys)
-        self.has("it is said", said[0], ".aside: No space left on device")
-        self.same("nothing is left", (aside.held_of(cursor), aside.wishes(cursor)), ([], []))
+        self.has("it is said", said[0], ".quarantine: No space left on device")
+        self.same("nothing is left", (quarantine.held_of(cursor), quarantine.wishes(cursor)), ([], []))
         place.close()
         opened.close()
+
+    def test_version_before(self):
+        """The file of the version before is read, and the first change gives it its name."""
+        store, cursor = self.path("before.db"), self.path("before.cursor")
+        keys = keep(store, [records(["A"]), records(["B"])])
+        rows = [quarantine.Held(at, key, [name], 1, "x", 0.0)._asdict() for at, (key, name) in enumerate(zip(keys, "AB"), 1)]
+        with open(cursor + ".aside", "w", encoding="ascii") as file:
+            json.dump({"held": rows}, file)
+        with open(cursor, "w", encoding="ascii") as file:
+            json.dump({"number": 2, "key": keys[1]}, file)
+        self.same("before", [one.key for one in quarantine.held_of(cursor)], keys)
+        words = ["--store", store, "--cursor", cursor, "--directory", self.path("before")]
+        self.same("one is sent", lislab("deliver", *words, "--resend", keys[0]).returncode, 0)
+        self.same("after", [one.key for one in quarantine.held_of(cursor)], keys[1:])
+        there = [os.path.exists(cursor + end) for end in (quarantine.QUARANTINE, quarantine.EARLIER)]
+        self.same("the files", there, [True, False])
 
     def test_once(self):
         """With --once it ends with status 3."""
@@ -321,12 +337,12 @@ class Cursors(HostTest):
         self.has("it says why", done.stderr, "cursor: No such file or directory: message 1 ")
 
     def test_damaged(self):
-        """A file of what is set aside that is damaged is named."""
+        """A file of what is in quarantine that is damaged is named."""
         store, cursor = self.path("damaged.db"), self.path("damaged.cursor")
         keep(store, [records(["A"])])
-        with open(cursor + ".aside", "w", encoding="ascii") as file:
+        with open(cursor + ".quarantine", "w", encoding="ascii") as file:
             file.write("{")
         done = lislab("deliver", "--store", store, "--cursor", cursor, "--once", "--", "true")
-        self.same("the status, and the file", (done.returncode, f"{cursor}.aside: " in done.stderr), (3, True))
+        self.same("the status, and the file", (done.returncode, f"{cursor}.quarantine: " in done.stderr), (3, True))
         self.raises("for the status too", StoreError, lambda: status.waiting_of(open_store(store), cursor))
         self.true("nothing was delivered", not os.path.exists(cursor), str(time.time()))
