@@ -28,7 +28,7 @@ from tests.host.test_mllp import message, stored
 
 BODY = message("P|1|4711", "O|1|S7||^^^GLU\\^^^K", "R|1|^^^GLU|5.4|mmol/L", "R|2|^^^K|4.1|mmol/L")
 #: What is wanted of a table that isn't there; the end of a row of `lislab watch`.
-WANTED, END = "the file of a table of codes is wanted", "; 2 results with a code that its table lacks"
+WANTED, END = "codes names the file of a test code mapping", "; 2 results with a code that its code mapping lacks"
 TEXTS = [row + b"\r" for row in BODY.split(b"\r")[:-1]]
 
 
@@ -56,8 +56,8 @@ class LineCodes(HostTest):
             (f"{a}sub/bad.codes\n{b}sub/bad.codes\n[c]\nlisten = x\n", [],
              [f"{bad}:2: the laboratory's code is missing", f"{bad}:3: the analyzer's code is missing",
               f"{file}:8: x: HOST:PORT is wanted"]),
-            (f"{a}wrong.codes\n{b}sub/good.codes\n", ["b"], [f"{wrong}:2: a table of codes is written in UTF-8"]),
-            (f"{a}quote.codes\n", [], [f"{quote}:2: field larger than field limit (131072): a table of codes is CSV"]),
+            (f"{a}wrong.codes\n{b}sub/good.codes\n", ["b"], [f"{wrong}:2: a test code mapping is written in UTF-8"]),
+            (f"{a}quote.codes\n", [], [f"{quote}:2: field larger than field limit (131072): a test code mapping is CSV"]),
             (f"{a}none.codes\n{b}none.codes\n", [],
              [f"{file}:3: {self.path('none.codes')}: No such file or directory: {WANTED}"]),
             (f"{a}sub\n", [],
@@ -112,7 +112,7 @@ class LineCodes(HostTest):
         file = self.written("again.lines", rows.format("one"))
         self.written("one.codes", HEAD + "GLU,G1\nK,K1\n")
         tables = Tables(None, file, said.append)
-        taken, left = "the tables of codes are read again", "the tables of codes stay as they were"
+        taken, left = "the code mappings are read again", "the tables of codes stay as they were"
         missing = f"{self.path('one.codes')}:2: the laboratory's code is missing"
         for step, (name, text, wanted, words) in enumerate((
             ("one.codes", HEAD + "GLU,G2\nK,K2\n", "G2", [taken]),
@@ -173,20 +173,20 @@ class LineCodes(HostTest):
         table = self.written("said.codes", HEAD + "GLU,GLUC,,,,\n")
         host = Host(self.path("said.db"), "--lines", file, scale=1.0, listen=False)
         self.ports = {row.split()[2]: int(row.split()[1].rsplit(":", 1)[1]) for row in host.rows[:-1]}
-        lacks = " has codes that the line's table lacks: "
+        lacks = " has codes that the line's code mapping lacks: "
         with self.sends("a", TEXTS), self.sends("b", TEXTS), self.sends("a", TEXTS[:-1]):
             self.true("a message", wait_for(lambda: f"{lacks}K 1\n" in host.says()), host.says())
         with self.sends("a", [TEXTS[0], b"P|1\0\0\r", *TEXTS[2:]]):
             self.true("one that is fixed", wait_for(lambda: host.says().count(f"{lacks}K 1\n") == 2), host.says())
         self.same("no other one", host.says().count(lacks), 2)
-        self.shows(host, "a: codes that its table lacks: K 2\n", END, 2)
+        self.shows(host, "a: codes that its code mapping lacks: K 2\n", END, 2)
         self.reload(host, table, HEAD + "GLU,\n", f"{table}:2: the laboratory's code is missing\n")
         self.has("it is left", host.says(), "the file of lines is not taken")
-        self.shows(host, "a: codes that its table lacks: K 2\n", END, 2)
+        self.shows(host, "a: codes that its code mapping lacks: K 2\n", END, 2)
         again = "the lines are read again: 0 closed, 0 opened, 2 as they were"
-        self.reload(host, table, HEAD + "K,K,,,,mg\nGLU,GLUC,,,,\n", f"{again}; 1 with another table of codes\n")
-        self.shows(host, "a: codes that its table lacks: K mmol/L 2\n", END, 2)
-        self.reload(host, table, HEAD + "K,K,,,,\n", f"{again}; 1 with another table of codes\n", 2)
+        self.reload(host, table, HEAD + "K,K,,,,mg\nGLU,GLUC,,,,\n", f"{again}; 1 with another code mapping\n")
+        self.shows(host, "a: codes that its code mapping lacks: K mmol/L 2\n", END, 2)
+        self.reload(host, table, HEAD + "K,K,,,,\n", f"{again}; 1 with another code mapping\n", 2)
         self.shows(host, None, "", 2)
         with self.sends("a", TEXTS):
             self.true("the new table is in force", wait_for(lambda: f"{lacks}GLU 1\n" in host.says()), host.says())
@@ -210,7 +210,7 @@ class LineCodes(HostTest):
         """Whether status and watch have what the table lacks, and the metrics all results that had such a code."""
         def shown():
             return lislab("status", "--store", host.store).stdout
-        wanted = (lambda: status in shown()) if status else (lambda: "its table lacks" not in shown())
+        wanted = (lambda: status in shown()) if status else (lambda: "its code mapping lacks" not in shown())
         self.true(f"the status has {status}", wait_for(wanted), shown())
         row = lislab("watch", "--store", host.store, "--once").stdout.splitlines()[0]
         self.true(f"the row ends with {watch}", row.endswith(watch) and ("lacks" in row) == bool(watch), row)

@@ -354,7 +354,7 @@ class Postgres(HostTest):
         self.true("statements", count > 6, count)
         self.same("upgraded", open_store(store).version(), SCHEMA)
         self.same("after", test_schema.words_of(open_store(store)), test_schema.MESSAGES)
-        host = Host(store)
+        host = Host(store, scale=1.0)
         with Client(host.port) as client:
             self.true("a message", client.whole(TEXTS))
         self.same("the host's status", host.stop(), 0)

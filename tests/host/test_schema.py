@@ -121,7 +121,7 @@ class Versions(HostTest):
             fresh.join()
             made = {one[0] for one in fresh.read("SELECT name FROM sqlite_master WHERE sql IS NOT NULL")}
         self.same("tables and indexes", names, made)
-        host = Host(path)
+        host = Host(path, scale=1.0)
         with Client(host.port) as client:
             self.true("a message", client.whole(TEXTS))
         self.same("the host's status", host.stop(), 0)

@@ -388,7 +388,7 @@ def add_forms(one: argparse.ArgumentParser) -> None:
     one.add_argument("--without-repeats", action="store_true", help="leave out repeated messages")
     what = "map test codes and units by this table, for lines without a table of their own"
     one.add_argument("--codes", metavar="FILE", help=what)
-    file = "read every line's settings and code table from a lines file"
+    file = "read every line's settings and code mapping from a lines file"
     one.add_argument("--lines", metavar="FILE", help=file)
     one.add_argument("--controls", choices=("with", "without", "only"), default="with", help="write quality controls: with, without, only (%(default)s)")
     one.add_argument("--fields", metavar="NAMES", help="columns of csv and tsv, as in lislab table")

@@ -29,7 +29,7 @@ _SCHEMES = {"mllp": "oru", "mllps": "oru", "https": "fhir", "http": "fhir"}
 
 def add_commands(commands: Any) -> None:
     """Adds the commands to those of lislab."""
-    _add_codes(commands.add_parser("codes", "check a code table, and list the codes of a store that it lacks"))
+    _add_codes(commands.add_parser("codes", "check a test code mapping, and list the codes of a store that it lacks"))
     _add_deliver(commands.add_parser("deliver", "send every complete message to a command, a directory, MLLP or HTTPS"))
 
 
@@ -198,7 +198,7 @@ def _add_codes(one: argparse.ArgumentParser) -> None:
     one.add_argument("--store", metavar="STORE", help="list the codes of this store that the table lacks")
     one.add_argument("--line", metavar="NAME", help="only results of this line")
     one.add_argument("--lines", metavar="FILE", help="a lines file, for each line's setting `test`")
-    one.add_argument("file", metavar="FILE", help=f"the code table, CSV with the columns {', '.join(codes.COLUMNS)}")
+    one.add_argument("file", metavar="FILE", help=f"the test code mapping, CSV with the columns {', '.join(codes.COLUMNS)}")
     one.set_defaults(run=run_codes)
 
 

@@ -92,7 +92,7 @@ class Intake:
         unknown: Optional[Unknown] = None,
     ) -> None:
         self.line, self.peer, self.encoding, self.most, self.clock = line, peer, encoding, most, clock
-        #: The codes that the line's table lacks.
+        #: The codes that the line's code mapping lacks.
         self.unknown = unknown or Unknown(line)
         self._held, self.bodies = held, {}  # type: Optional[Held], Dict[str, Tuple[Begin, bytes]]
         self._message: Optional[_Message] = None

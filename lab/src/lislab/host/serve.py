@@ -228,7 +228,7 @@ class Host:
             except (OSError, ValueError) as error:
                 say(f"{listen.name}: {error}")
         same = len(now & before)
-        tables = f"; {len(other)} with another table of codes" if other else ""
+        tables = f"; {len(other)} with another code mapping" if other else ""
         what = f"{len(before) - same} closed, {len(now) - same} opened, {same} as they were{tables}"
         say(f"the lines are read again: {what}")
 

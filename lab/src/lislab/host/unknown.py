@@ -62,7 +62,7 @@ class Unknown:
                 self.look(key, row, encoding)
 
     def ended(self, key: str, is_whole: bool) -> Tuple[int, str]:
-        """A message is kept, or isn't complete: how many results of a whole one have codes that the table lacks, and which
+        """A message is kept, or isn't complete: how many results of a complete message have codes that the table lacks, and which
         these are."""
         found = self._ending.pop(key, None)
         if not found or not is_whole:
@@ -80,7 +80,7 @@ class Unknown:
             count, names = self.ended(ended.end.key, ended.end.state == COMPLETE)
             if count:
                 counts["unknown_codes"] += count
-                say(f"message {ended.end.key} has codes that the line's table lacks: {names}", CODES)
+                say(f"message {ended.end.key} has codes that the line's code mapping lacks: {names}", CODES)
 
         return {MessageEnded: see}
 

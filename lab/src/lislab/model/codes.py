@@ -67,12 +67,12 @@ def read_codes(path: str) -> Read:
         text = data.decode("utf-8-sig")
     except UnicodeDecodeError as error:
         row = data.count(b"\n", 0, error.start) + 1
-        return Read([], [f"{path}:{row}: a table of codes is written in UTF-8"])
+        return Read([], [f"{path}:{row}: a test code mapping is written in UTF-8"])
     rows = csv.reader(io.StringIO(text, newline=""))
     try:
         return _read_table(path, rows)
     except csv.Error as error:
-        return Read([], [f"{path}:{max(rows.line_num, 1)}: {error}: a table of codes is CSV"])
+        return Read([], [f"{path}:{max(rows.line_num, 1)}: {error}: a test code mapping is CSV"])
 
 
 def _read_table(path: str, rows: "csv._reader") -> Read:  # type: ignore[name-defined]
@@ -314,7 +314,7 @@ def _bytes(text: str, row: Row, one: Stored) -> bytes:
         return _escaped(text, row.delimiters, one.encoding)
     except UnicodeEncodeError:
         why = f"can't be written in {one.encoding}, the encoding of line {one.line}"
-        raise Refused(f"{text} of the table of codes {why}") from None
+        raise Refused(f"{text} of the code mapping {why}") from None
 
 
 @functools.lru_cache(maxsize=4096)  # the codes and units of a table

@@ -153,7 +153,7 @@ class _File:
             try:
                 self._tables[path] = read_codes(path)
             except OSError as error:
-                why = f"{self._path}:{row}: {path}: {error.strerror}: the file of a table of codes is wanted"
+                why = f"{self._path}:{row}: {path}: {error.strerror}: codes names the file of a test code mapping"
                 self._tables[path] = Read([], [why])
             self._faults += [(row, fault) for fault in self._tables[path].faults]
         return path

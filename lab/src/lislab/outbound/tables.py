@@ -58,11 +58,11 @@ class Tables:
             return
         try:
             self._read = self._read_all()
-            self._say("the tables of codes are read again")
+            self._say("the code mappings are read again")
         except (OptionError, OSError) as error:
             for row in str(error).splitlines():
                 self._say(row)
-            self._say("the tables of codes stay as they were")
+            self._say("the code mappings stay as they were")
 
     def reading(self, line: str) -> Reading:
         """How the records of a line are read."""

@@ -179,7 +179,7 @@ def text_of(data: Dict[str, Any]) -> str:
     for name, settings in sorted(data["would"].items()):
         rows += [f"{name}: {setting} would deliver {many(count, 'message')}" for setting, count in sorted(settings.items())]
     for name, codes in sorted(data["unknown_codes"].items()):
-        rows.append(f"{name}: codes that its table lacks: " + ", ".join(f"{code} {codes[code]}" for code in codes))
+        rows.append(f"{name}: codes that its code mapping lacks: " + ", ".join(f"{code} {codes[code]}" for code in codes))
     for name, kinds in sorted(data["not_said"].items()):
         counts = ", ".join(f"{count} of kind {kind}" for kind, count in sorted(kinds.items()))
         rows.append(f"{name}: notices that were not said: {counts}")
