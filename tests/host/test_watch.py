@@ -321,7 +321,7 @@ class Watch(HostTest):
         told = lislab("watch", "--store", host.store, "--once")
         self.same("no host: status", told.returncode, 1)
         self.has("no host", told.stdout, "the host isn't running\n")
-        kept = "fire  bad    the host isn't running; 1 whole message, the last one"
+        kept = "fire  bad    the host isn't running; 1 complete message, the last one"
         self.has("no host: what is kept", told.stdout, kept)
         host.start()
         self.true("a host after one that was killed", wait_for(lambda: seen(host).get("state") == "quiet", WAIT))
