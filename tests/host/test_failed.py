@@ -204,7 +204,7 @@ class Ways(Hides, HostTest):
         for verdict in ("failed-orders", "failed-orders", "sum", "sum", "failed-orders", "echo", "complete"):
             state = "good" if verdict == "complete" else "bad"
             one.see({"running": True, "lines": {"a": {"state": state, "verdict": verdict, "says": ""}}})
-        self.same("what is run", said, ["bad failed-orders", "bad sum", "bad echo", "good whole"])
+        self.same("what is run", said, ["bad failed-orders", "bad sum", "bad echo", "good complete"])
 
     def test_pages(self):
         """The page of a line lists them, as text; metrics count orders by state, and need no store for what a host

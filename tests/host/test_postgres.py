@@ -332,7 +332,9 @@ class Postgres(HostTest):
             wait_for(lambda: self.server.asks("earlier", held) == "1")
             status, why = started(store, "fire")
             self.true("an earlier host is running", status != 0 and "stop that first" in why, why)
-            other.terminate()
+            self.server.asks("earlier", held.replace("count(*)", "count(pg_terminate_backend(pid))"))
+            other.wait()
+        self.true("it is gone", wait_for(lambda: self.server.asks("earlier", held) == "0"))
         for count in itertools.count():
             one = open_store(store)
             left, run = [count], one.run
