@@ -141,6 +141,10 @@ FAULTS = {
     "test_mllp.Oru.test_values": (
         "outbound/oru.py", 'return "SN", [number.comparator,', 'return "NM", [number.comparator,'
     ),
+    "test_mllp.Receivers.test_ahead": ("outbound/mllp.py", "            meanwhile()\n", ""),
+    "test_mllp.Receivers.test_ahead_of_what": (
+        "outbound/ahead.py", "        except (Refused, StoreError", "        except (StoreError"
+    ),
     "test_mllp.Receivers.test_answers": (
         "outbound/mllp.py", "            if control != key:\n", "            if not control:\n"
     ),

@@ -13,6 +13,7 @@ import time
 import unittest
 
 from lislab.outbound import deliver, export
+from lislab.outbound.ahead import Ahead
 from lislab.model.options import OptionError
 from lislab.model.store import INCOMPLETE
 from lislab.outbound import mllp, oru
@@ -413,11 +414,60 @@ class Receivers(WithLibrary):
         body = message("P|1|4711", "O|1|S1", "R|1|^^^A|1", "P|2|4712", "O|1|S2", "R|1|^^^A|2")
         ids = [oru.control_id("k", place) for place in (1, 2)]
         receiver = Scripted(lambda at, key: ack(b"AE" if at == 2 else b"AA", key))
-        target = mllp.to_mllp(mllp.Mllp("127.0.0.1", receiver.port, 5.0), export.writer_of(export.Form("oru")))
+        target = mllp.to_mllp(mllp.Mllp("127.0.0.1", receiver.port, 5.0), Ahead(export.writer_of(export.Form("oru"))))
         self.raises("the second is rejected", deliver.Refused, lambda: target(stored(body, "k")))
         self.true("it is sent again", target(stored(body, "k")))
         receiver.close()
         self.same("what came", receiver.taken, [ids[0], ids[1], ids[1]])
+
+    def test_ahead(self):
+        """While the answer to a message is waited for, the next one is written: each goes out once, in order, and the
+        receiver may answer only then."""
+        body = message("P|1|4711", "O|1|S1", "R|1|^^^A|1")
+        written, write = [], export.writer_of(export.Form("oru"))
+
+        def wrote(one):
+            written.append(one.key)
+            return write(one)
+
+        ahead = Ahead(wrote)
+        keys = ["k1", "k2", "k3"]
+        receiver = Scripted(lambda at, key: ack(b"AA", key) if wait_for(lambda: len(written) > min(at, 2)) else None)
+        target = mllp.to_mllp(mllp.Mllp("127.0.0.1", receiver.port, 600.0), ahead)
+        accepted = [target(one) for one in ahead.over(stored(body, key) for key in keys)]
+        receiver.close()
+        self.same("all are accepted", accepted, [True] * 3)
+        self.same("what came", receiver.taken, [oru.control_id(key) for key in keys])
+        self.same("what was written", written, keys)
+
+    def test_ahead_of_what(self):
+        """Nothing is read besides a large message; one that can't be written yet is written in its turn."""
+        events = []
+
+        def messages():
+            for key, size in (("a", 1), ("b", 1), ("bad", 1), ("large", 1 << 17), ("c", 1)):
+                events.append(f"read {key}")
+                yield stored(b"x" * size, key)
+
+        def write(one):
+            events.append(f"write {one.key}")
+            if one.key == "bad":
+                raise Quarantined("it is not sure")
+            return one.body
+
+        ahead = Ahead(write)
+        for one in ahead.over(messages()):
+            try:
+                ahead.write(one)
+            except Quarantined:
+                events.append("quarantined")
+                continue
+            events.append("sent")
+            ahead.look()
+            events.append("answered")
+        self.same("what happens", ", ".join(events),
+                  "read a, write a, sent, read b, write b, answered, sent, read bad, write bad, answered, write bad, "
+                  "quarantined, read large, write large, sent, answered, read c, write c, sent, answered")
 
     def test_closed_between(self):
         """A receiver that closes the connection between two messages gets the second over a new one, at once."""

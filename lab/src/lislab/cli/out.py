@@ -17,6 +17,7 @@ from ..model.store import StoreError, Stored
 from ..model.stores import open_store
 from ..outbound import https, mllp, quarantine
 from ..outbound import deliver, export
+from ..outbound.ahead import Ahead
 from ..outbound.tables import tables_of
 from .common import add_renamed
 from .host import _COUNT, _FACTOR, _store, add_forms, form_asked
@@ -90,16 +91,16 @@ def _form_of(ask: argparse.Namespace) -> export.Form:
     return form_asked(ask, form, say)
 
 
-def _target_of(ask: argparse.Namespace, form: export.Form, lock: int) -> deliver.Target:
+def _target_of(ask: argparse.Namespace, form: export.Form, lock: int, ahead: Ahead) -> deliver.Target:
     """What delivers a message, as the words have it."""
     where: str = ask.to or ask.directory or ""
     scheme, slashes, rest = where.partition("://")
     scheme = scheme if slashes else ""
-    write = export.writer_of(form)
+    write = ahead.write
     if scheme in ("mllp", "mllps"):
         host, port = split_peer(rest.rstrip("/"))
         context = https.context_of(ask.ca) if scheme == "mllps" else None
-        return mllp.to_mllp(mllp.Mllp(host, port, ask.seconds, context), write)
+        return mllp.to_mllp(mllp.Mllp(host, port, ask.seconds, context), ahead)
     if scheme in ("https", "http"):
         if ask.headers:
             https.headers_of(ask.headers)
@@ -120,9 +121,17 @@ def run_deliver(ask: argparse.Namespace) -> int:
     cursor = deliver.Cursor(ask.cursor, say)
     try:
         kept = _quarantine_of(ask, form)
-        target = _target_of(ask, form, cursor.lock)
+        ahead = Ahead(export.writer_of(form))
+        target = _target_of(ask, form, cursor.lock, ahead)
         one = deliver.Delivery(
-            store, cursor, target, say, quarantine=kept, wants=_wants(ask), counts=lambda: dict(form.counts)
+            store,
+            cursor,
+            target,
+            say,
+            quarantine=kept,
+            wants=_wants(ask),
+            counts=lambda: dict(form.counts),
+            over=ahead.over,
         )
         signal.signal(signal.SIGTERM, _stop)
         count = deliver.run(one, ask.once)
@@ -178,7 +187,7 @@ def _run_again(ask: argparse.Namespace) -> int:
     store = open_store(ask.store)
     cursor = deliver.Cursor(ask.cursor, say)
     try:
-        target = _target_of(ask, form, cursor.lock)
+        target = _target_of(ask, form, cursor.lock, Ahead(export.writer_of(form)))
         one = deliver.Delivery(store, cursor, target, say, quarantine=_quarantine_of(ask, form))
         return GOOD if deliver.run_again(one, ask.resend) else WRONG
     finally:

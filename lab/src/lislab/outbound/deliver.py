@@ -6,7 +6,7 @@ import os
 import signal
 import subprocess
 import time
-from typing import Any, Callable, Dict, List, NamedTuple, Optional, Set
+from typing import Any, Callable, Dict, Iterator, List, NamedTuple, Optional, Set
 
 from ..model.failures import Quarantined, Refused, Unreachable
 from ..model.files import Unsynced, take_lock, write_synced
@@ -289,6 +289,8 @@ class Delivery(NamedTuple):
     wants: Wants = lambda one: True
     #: What it has counted.
     counts: Callable[[], Dict[str, int]] = dict
+    #: The messages of the store, in turn: `Ahead` reads the next one while the answer to one is waited for.
+    over: Callable[[Iterator[Stored]], Iterator[Stored]] = iter
 
 
 class _Round:
@@ -311,7 +313,7 @@ class _Round:
             grant(self._cursor.path, key)
         found = 0
         self._cursor.check(self._to.store)
-        for one in self._to.store.messages(self._cursor.number, 100):
+        for one in self._to.over(self._to.store.messages(self._cursor.number, 100)):
             found += 1
             if self._to.wants(one) and (self._quarantine is None or not self._quarantine.takes(one)):
                 self._next(one)

@@ -4,13 +4,13 @@ import contextlib
 import socket
 import ssl
 import time
-from typing import Optional, Set
+from typing import Callable, Optional, Set
 
 from ..model.failures import Refused, Unreachable
 from ..model.store import Stored
 from ..model.unix import shown
+from .ahead import Ahead
 from .deliver import Target
-from .export import Writer
 from .oru import acknowledgement, messages_of
 
 #: The bytes around a message; the most bytes of an answer; seconds for a connection.
@@ -32,28 +32,30 @@ class Mllp:
         #: To which other message the last answer was.
         self._other = ""
 
-    def deliver(self, data: bytes, key: str) -> None:
-        """Sends a message, and waits until it is accepted; `Refused` if it isn't. If the connection is an earlier
-        message's, the receiver may have closed it meanwhile, or it died silently, as firewalls let it: the message is
-        sent once more, over a new one."""
+    def deliver(self, data: bytes, key: str, meanwhile: Callable[[], None] = lambda: None) -> None:
+        """Sends a message, does what there is to do meanwhile, and waits until the message is accepted; `Refused` if it
+        isn't. If the connection is an earlier message's, the receiver may have closed it, or it died silently, as
+        firewalls let it: the message is sent once more, over a new one."""
         fresh = self._line is None
         try:
-            self._try(data, key)
+            self._try(data, key, meanwhile)
         except _Closed as error:
             if fresh:
                 raise Refused(f"{self._host}:{self._port}: {error}") from None
             try:
-                self._try(data, key)
+                self._try(data, key, lambda: None)
             except _Closed as again:
                 raise Refused(f"{self._host}:{self._port}: {again}") from None
 
-    def _try(self, data: bytes, key: str) -> None:
+    def _try(self, data: bytes, key: str, meanwhile: Callable[[], None]) -> None:
         line = self._line or self._connected()
         until = time.monotonic() + self._seconds
         try:
             line.settimeout(self._seconds)
             line.sendall(_START + data + _END + b"\r")
-            self._answered(line, key, until)
+            sent = time.monotonic()
+            meanwhile()
+            self._answered(line, key, until + time.monotonic() - sent)
         except socket.timeout:
             self.close()
             other = f": its last answer is to another message, {self._other}" if self._other else ""
@@ -123,16 +125,16 @@ class Mllp:
                 line.close()
 
 
-def to_mllp(receiver: Mllp, write: Writer) -> Target:
+def to_mllp(receiver: Mllp, ahead: Ahead) -> Target:
     """Sends each message to a receiver, that of each patient by itself. Of one that failed in part, what was accepted
     isn't sent again as long as this process runs."""
     accepted: Set[bytes] = set()
 
     def deliver(one: Stored) -> bool:
-        found = messages_of(write(one))
+        found = messages_of(ahead.write(one))
         for data in found:
             if data not in accepted:
-                receiver.deliver(data, data.split(b"|", 10)[9].decode())
+                receiver.deliver(data, data.split(b"|", 10)[9].decode(), ahead.look)
                 accepted.add(data)
         accepted.clear()
         return bool(found)
