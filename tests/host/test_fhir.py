@@ -124,11 +124,11 @@ class Fhir(HostTest):
         self.same("two in a message are two", len(observations(both)), 2)
 
     @staticmethod
-    def known(*rows, at="", key="k1", **how):
+    def known(*rows, at="", key="k1", wishes=oru.Wishes(), **how):
         """How the server finds what is in the Bundle of a message whose header has a time, by the kinds."""
         body = message(*rows, header=f"H|\\^&|||A||||||||1|{at}")
         found = {}
-        for one in json.loads(bundle_of(stored(body, key, **how)))["entry"]:
+        for one in json.loads(bundle_of(stored(body, key, **how), wishes))["entry"]:
             asked = one["request"]
             search = asked.get("ifNoneExist") or asked["url"].partition("?")[2]
             found.setdefault(one["resource"]["resourceType"], []).append((asked["method"], search))
@@ -151,6 +151,10 @@ class Fhir(HostTest):
         self.same("a result's own goes before both", glu(result=ten, at=noon, order=taken), glu(result=ten))
         self.true("another time of the order", glu(order=taken) != glu(order="R||20261127090000"))
         self.true("another time of the header", glu(at=noon) != glu(at=ten))
+        ignored = oru.wishes_of(["H-14=ignored"])
+        self.same("a resend with another time of the header", glu(at=noon, wishes=ignored), glu(at=ten, wishes=ignored))
+        self.true("another value, then", glu("5.5", at=ten, wishes=ignored) != glu(at=ten, wishes=ignored))
+        self.true("another time of the order, then", glu(order=taken, wishes=ignored) != glu(wishes=ignored))
         self.true("another day of the result", glu(at=ten, result=day) != glu(at=ten, result="20261128"))
         self.true("without any: another result in the order", glu(more="R|2|^^^K|4.1") != glu(more="R|2|^^^K|4.2"))
         self.same("one that becomes final", glu(order=taken, status="P"), glu(order=taken))

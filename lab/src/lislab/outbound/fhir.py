@@ -152,12 +152,12 @@ class _Made:
         return self._own(_OF_RESULT, _digest(*known, str(self._turn(*known))), updates=True)
 
     def _when(self, order: Ordered) -> List[str]:
-        """The times of an order as the analyzer wrote them; without a time of day that of the header too, if that has
-        none all records of the order."""
+        """The times of an order as the analyzer wrote them; without a time of day that of the header too, unless it is
+        ignored, and without that all records of the order."""
         record = order.record
         times = [field_text(record, number) for number in _TIMES]
         if not any(map(_has_clock, times)):
-            times.append(field_text(self._told.message.header, 14))
+            times.append(field_text(self._told.message.header, 14) if self._wishes.header_time else "")
             if not _has_clock(times[-1]):
                 records = [one for each in (record, *record.results) for one in (each, *each.notes)]
                 times += [one.row.text.decode(one.encoding, "replace") for one in records]

@@ -43,14 +43,16 @@ VERSIONS = ("2.3.1", "2.5", "2.5.1")
 
 class Wishes(NamedTuple):
     """What a receiver wants in its messages: fields of MSH by their numbers; authority and type of the identities of
-    P-3, P-4 and P-5, by these numbers; the authority of samples; for what an OBR is: an order, a test, a sample; and
-    what OBR-2 has: a field of the order's record, as O.19, or `sample`."""
+    P-3, P-4 and P-5, by these numbers; the authority of samples; for what an OBR is: an order, a test, a sample; what
+    OBR-2 has: a field of the order's record, as O.19, or `sample`; and whether the header's time tells results without
+    another time apart."""
 
     header: Mapping[int, str] = {}
     authorities: Mapping[int, Tuple[str, str]] = {}
     samples: str = ""
     obr: str = "order"
     placer: str = ""
+    header_time: bool = True
 
     @property
     def version(self) -> str:
@@ -65,10 +67,10 @@ _PLACER = re.compile(r"sample$|O\.[1-9]\d?(\.[1-9]\d?)?$")
 
 def wishes_of(words: Sequence[str]) -> Wishes:
     """Words `NAME=VALUE`: `MSH-5=LIS`, `practice=HOSP PI` (authority and type), `sample=AUTHORITY`, `obr=test`,
-    `obr=sample`, `OBR-2=O.19`, `OBR-2=sample`."""
+    `obr=sample`, `OBR-2=O.19`, `OBR-2=sample`, `H-14=ignored`."""
     header: Dict[int, str] = {}
     authorities: Dict[int, Tuple[str, str]] = {}
-    samples, obr, placer = "", "order", ""
+    samples, obr, placer, header_time = "", "order", "", True
     for word in words:
         name, equals, value = word.partition("=")
         if not equals or not value:
@@ -84,13 +86,15 @@ def wishes_of(words: Sequence[str]) -> Wishes:
             obr = value
         elif name == "OBR-2" and _PLACER.match(value):
             placer = value
+        elif (name, value) == ("H-14", "ignored"):
+            header_time = False
         else:
-            more = "sample", "obr=test", "obr=sample", "OBR-2=O.19", "OBR-2=sample"
+            more = "sample", "obr=test", "obr=sample", "OBR-2=O.19", "OBR-2=sample", "H-14=ignored"
             names = ", ".join([*_HEADER, *_IDENTITIES, *more])
             raise OptionError(f"{word}: what can be set is {names}")
     if header.get(12, VERSIONS[0]) not in VERSIONS:
         raise OptionError(f"MSH-12={header[12]}: a version is {', '.join(VERSIONS)}")
-    return Wishes(header, authorities, samples, obr, placer)
+    return Wishes(header, authorities, samples, obr, placer, header_time)
 
 
 def escaped(text: str) -> str:
