@@ -24,6 +24,7 @@
 # make arm64                             all rows, programs and calls on ARM64, by qemu
 # make roots                             what `make release` makes, and a clone, in bare roots (root, debootstrap)
 # make soak     [PARTS="kills=1000 .."]  the host by fire, for hours (tests/host/more soak)
+# make noise    [SESSIONS=910]   so many sessions to each sample, over a wire that changes one byte of each frame
 # make plant CRATE=lis_link              wrong bodies that the kit makes up: what a crate's contracts let through
 # make bench                             speed, memory and instructions; writes build/docs/speed.md (ten minutes at most)
 #
@@ -39,7 +40,7 @@ DIST = dist
 PROGRAM = $(BUILD)/lislink
 VERSION = $(shell cat VERSION)
 
-.PHONY: build prove dist check debug demo test mutants harmless both soak plant bench bench-check install uninstall \
+.PHONY: build prove dist check debug demo test mutants harmless both soak noise plant bench bench-check install uninstall \
   deb release roots arm64 docs fuzz FORCE
 
 build: $(PROGRAM) $(BUILD)/liblis_c.a $(BUILD)/liblislink.a $(BUILD)/liblislink.so
@@ -136,6 +137,10 @@ roots: build release
 
 soak: build
 	tests/host/more build=$(BUILD) soak $(PARTS)
+
+SESSIONS = 910
+noise: build
+	NOISY_SESSIONS=$(SESSIONS) tests/run ffi/keeps build=$(BUILD)
 
 plant:
 	@test -n '$(CRATE)' || { echo 'make plant CRATE=name, a folder of crates/'; exit 2; }

@@ -27,8 +27,9 @@ PAGE = 4096
 #: is an order for the sample that was asked for.
 RESULTS = [play for play in scripts("results") if "silent" not in play]
 QUERIES = [play for play in scripts("queries") if play.endswith(("query-answered.play", "query-any-form.play"))]
-#: How many sessions go over the noisy wire, and for how many seconds their analyzer waits for a reply.
-NOISY, NOISY_PATIENCE = 40, 1.5
+#: How many sessions go over the noisy wire (`make noise` sets more), and for how many seconds their analyzer waits for a
+#: reply.
+NOISY, NOISY_PATIENCE = int(os.environ.get("NOISY_SESSIONS", "40")), 1.5
 
 
 class Sample(NamedTuple):
