@@ -16,8 +16,8 @@ use Rattle.lis_link.proofs.HearingLaws.{on_byte-quiet}
 use Rattle.lis_careful.specs.Careful.{ends_session, heard_as, heard_only, careful_by, is_noise, noise_of, counted_on}
 use Rattle.lis_careful.specs.Careful.{noise_by, noise_in, on_byte_carefully, on_bytes_by, on_bytes_carefully}
 use Rattle.lis_careful.specs.declared.receiver.CarefulHearing.{CarefulHearing}
-use Rattle.lis_careful.proofs.Receiving.{IsHeard, IsHearing, front_byte, hears_last, hears_more, on_byte-heard_only}
-use Rattle.lis_careful.specs.inside.Hearing.{HearsFront}
+use Rattle.lis_careful.proofs.Receiving.{IsHearing, front_byte, hears_last, hears_more, on_byte-heard_only}
+use Rattle.lis_careful.specs.inside.Hearing.{HearsFront, IsHeard}
 use Rattle.lis_c.specs.Within.{is_over, on_byte_within}
 use Rattle.lis_c.specs.Careful.{careful_within, on_byte_set, on_bytes_set, heard_set, noises_set}
 use Rattle.lis_c.specs.inside.Careful.{IsHeardSet}

@@ -3,10 +3,11 @@
 ghost use Rattle.std.specs.Prelude.{◌≡◌, ◌≤◌, ◌<◌, ◌+◌, ◌∷◌, [], max, take, length, true, None, Some, IfOk};
 ghost use Rattle.std.specs.Prelude.{MatchResult};
 ghost use Rattle.std.specs.Prelude.{OnErr, OnOk};
+ghost use Rattle.std.specs.Option.{option_to_list};
 ghost use Rattle.lis_c.specs.Borrowed.{session_texts};
 ghost use Rattle.lis_c.specs.Careful.{heard_set, on_own_byte, on_own_bytes, on_station_byte_set, on_station_bytes_set};
 ghost use Rattle.lis_c.specs.Careful.{station_noise_set, station_noises_set};
-ghost use Rattle.lis_c.specs.Emitted.{FrameCopied};
+ghost use Rattle.lis_c.specs.Emitted.{FrameCopied, HoldsBytes};
 ghost use Rattle.lis_c.specs.Stations.{Hears, IsNow, NewStation, StartsSession, state_of, station_kept, station_limit};
 ghost use Rattle.lis_c.specs.Stations.{station_spare};
 ghost use Rattle.lis_c.specs.inside.Stations.{Answers, IsMemoryOut, PutsAnswer, RejectsFrame};
@@ -26,8 +27,8 @@ ghost use Rattle.lis_text.specs.LinkText.{longest_text};
 use crate::borrowed::OwnOrCallerTexts;
 use crate::out::{LisBytes, put, put_emit};
 use crate::sending::copy_awaited;
-use lis_careful::noise_of;
-use lis_careful_station::{CarefulHearingOf, hear_byte, hear_bytes};
+use lis_careful::{CarefulHearing, noise_of};
+use lis_careful_station::{CarefulHearingOf, hear_byte, hear_bytes, hear_receiving};
 use lis_link::{Outcome, Phase, Step};
 use lis_station::{AnswerOf, HearingOf, Role, StationOver, StationRefusedOf};
 use lis_text::LinkText;
@@ -475,12 +476,19 @@ fn put_answer<const N: usize, const B: usize>(
             None
         }
         AnswerOf::Hears(step) => {
-            match step.reply {
-                None => put(out, &[]),
-                Some(byte) => put(out, &[byte]),
-            }
+            put_reply(step.reply, out);
             Some(step)
         }
+    }
+}
+
+/// Puts the receiver's reply, if there is one.
+fn put_reply(reply: Option<u8>, out: &mut LisBytes)
+    ensures { HoldsBytes out.new (option_to_list reply) }
+{
+    match reply {
+        None => put(out, &[]),
+        Some(byte) => put(out, &[byte]),
     }
 }
 
@@ -555,9 +563,41 @@ fn careful_byte_of<const N: usize, const B: usize>(
 }
 
 #[tactic(auto, using(crate::proofs::StationLaws::answers, crate::proofs::StationLaws::rejects))]
-/// The bytes for one limit, heard carefully.
+/// The bytes for one limit, heard carefully. The receiver's step is the answer, but for a reply.
 #[inline(never)]
 fn careful_bytes_of<const N: usize, const B: usize>(
+    station: &mut StationOver<N, OwnOrCallerTexts>,
+    bytes: &[u8],
+    out: &mut LisBytes,
+) -> (usize, usize, Option<Step>)
+    requires room { B ≡ N + 7 }
+    requires bound { B ≤ 64000 }
+    ensures count { (r : ReceiverState) → IsIn N station.old.receiver r →
+        result.0 ≡ (on_station_bytes_carefully N bytes.now (station_at station.old r)).count }
+    ensures noise { (r : ReceiverState) → IsIn N station.old.receiver r →
+        result.1 ≡ noise_at N bytes.now (station_at station.old r) }
+    ensures step { (r : ReceiverState) → IsIn N station.old.receiver r → (IsMemoryOut result.2 → ⊥) →
+        Answers (on_station_bytes_carefully N bytes.now (station_at station.old r)).step result.2 out.new
+        station.old station.new }
+    ensures refused { (r : ReceiverState) → IsIn N station.old.receiver r → IsMemoryOut result.2 →
+        RejectsFrame N (on_bytes_carefully N bytes.now r).step (heard_only (on_bytes_carefully N bytes.now r).step r)
+        result.2 out.new station.old station.new }
+    ensures spare { (r : ReceiverState) → IsIn N station.old.receiver r →
+        SpareAfter station.old.receiver.spare station.new.receiver.spare
+        (taken_by (on_station_bytes_carefully N bytes.now (station_at station.old r)).step.answer) }
+{
+    if station.awaits_reply() {
+        return careful_reply_of::<N, B>(station, bytes, out);
+    }
+    let CarefulHearing { count, noise, step } = hear_receiving(station, bytes);
+    put_reply(step.reply, out);
+    (count, noise, Some(step))
+}
+
+#[tactic(auto, using(crate::proofs::StationLaws::answers, crate::proofs::StationLaws::rejects))]
+/// The same, also while a reply is awaited. It is apart, since the answer to one is a frame, which takes the stack.
+#[inline(never)]
+fn careful_reply_of<const N: usize, const B: usize>(
     station: &mut StationOver<N, OwnOrCallerTexts>,
     bytes: &[u8],
     out: &mut LisBytes,

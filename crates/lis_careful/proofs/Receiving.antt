@@ -30,7 +30,7 @@ use Rattle.lis_careful.specs.inside.Hearing.{AreUnspecial, is_special}
 use Rattle.lis_careful.specs.Careful.{ends_session, session_ended, heard_as, careful_by, on_byte_carefully}
 use Rattle.lis_careful.specs.Careful.{on_bytes_by, on_bytes_carefully, noise_by, noise_in, noise_of, counted_on}
 use Rattle.lis_careful.specs.declared.receiver.CarefulHearing.{CarefulHearing}
-use Rattle.lis_careful.specs.inside.Hearing.{HearsFront}
+use Rattle.lis_careful.specs.inside.Hearing.{HearsFront, IsHeard}
 
 -- ---- one byte
 
@@ -504,17 +504,6 @@ hears_none limit hear bytes r kept is_in = record {
   spare_kept = omega arith;
 }
 
--- the answer to bytes is that of the definition
-pub record IsHeard (limit : ℕ) (hear : ℕ → ReceiverState → ReceiverStep) (bytes : List ℕ) (r : ReceiverState)
-    (spare : ℕ) (hearing : CarefulHearing) (new : Kept) : Type 0 where
-  pub count_is : hearing.count ≡ (on_bytes_by hear bytes r).count
-  pub noise_is : hearing.noise ≡ noise_by hear bytes r
-  pub makes : hearing.step.note ≢ OutOfMemory → IsStepMade limit (on_bytes_by hear bytes r).step hearing.step new
-  pub refused : hearing.step.note ≡ OutOfMemory
-      → RefusesFrame limit spare (on_bytes_by hear bytes r).step
-      (heard_only (on_bytes_by hear bytes r).step r) hearing.step new
-  pub spare_after : SpareAfter spare new.spare (on_bytes_by hear bytes r).step.taken
-
 abbrev pub quiet_answer : Step
 quiet_answer = record { reply = None; message = None; note = Quiet }
 
@@ -616,6 +605,30 @@ module _ (limit : ℕ) (hear : ℕ → ReceiverState → ReceiverStep) (bytes : 
             (more_spare spare kept.spare new.spare front.meant.taken hearing.spare_kept front.spare_after);
       }
 
+  -- or those that were heard from there
+  pub hears_on :
+      (hearing : IsHearing limit hear bytes r spare count noise kept)
+      → IsHeard limit hear (drop count bytes) hearing.at kept.spare more new
+      → IsHeard limit hear bytes r spare
+      (record { count = count + more.count; noise = noise + more.noise; step = more.step }) new
+  hears_on hearing rest =
+      let step : ReceiverStep = (on_bytes_by hear (drop count bytes) hearing.at).step in
+      record {
+        count_is = ap (λ n. count + n) rest.count_is ∙ sym (ap (λ (h : ReceiverHearing). h.count) hearing.goes_on);
+        noise_is = ap (λ n. noise + n) rest.noise_is ∙ sym hearing.noise_is;
+        makes = λ fine. subst (λ (h : ReceiverHearing). IsStepMade limit h.step more.step new) (sym hearing.goes_on)
+            (rest.makes fine);
+        refused = λ oom.
+            subst (λ (h : ReceiverHearing). RefusesFrame limit spare h.step (heard_only h.step r) more.step new)
+            (sym hearing.goes_on)
+            (subst (λ s. RefusesFrame limit spare step s more.step new)
+            (same_rest hearing.at step.after.past hearing.only)
+            (refused_more limit spare kept.spare step _ more.step new hearing.spare_kept (rest.refused oom)));
+        spare_after =
+            subst (λ (h : ReceiverHearing). SpareAfter spare new.spare h.step.taken) (sym hearing.goes_on)
+            (more_spare spare kept.spare new.spare step.taken hearing.spare_kept rest.spare_after);
+      }
+
 -- all bytes were quiet
 pub hears_all :
     (limit : ℕ) (hear : ℕ → ReceiverState → ReceiverStep) (bytes : List ℕ) (r : ReceiverState)
@@ -638,3 +651,28 @@ hears_all limit hear bytes r spare count noise kept hearing long short =
       spare_after = subst (λ (h : ReceiverHearing). SpareAfter spare kept.spare h.step.taken) (sym all)
           hearing.spare_kept;
     }
+
+-- ---- the first front
+
+without_first : (more : CarefulHearing)
+    → record { count = 0 + more.count; noise = 0 + more.noise; step = more.step } ≡ more
+without_first more =
+    ap (λ n. record { count = n; noise = 0 + more.noise; step = more.step }) (sym (none_more more.count))
+    ∙ ap (λ n. record { count = more.count; noise = n; step = more.step }) (sym (none_more more.noise))
+
+module _ (limit : ℕ) (hear : ℕ → ReceiverState → ReceiverStep) (bytes : List ℕ) (r : ReceiverState) (kept : Kept)
+    (is_in : IsIn limit kept r) (first : CarefulHearing) (new : Kept)
+    (front : HearsFront limit hear bytes r kept.spare first new) where
+  pub first_quiet : first.step.note ≡ Quiet → IsHearing limit hear bytes r kept.spare first.count first.noise new
+  unfolding hears_none
+  first_quiet quiet =
+      subst (λ (h : CarefulHearing). IsHearing limit hear bytes r kept.spare h.count h.noise new) (without_first first)
+      (hears_more limit hear bytes r kept.spare 0 0 kept first new (hears_none limit hear bytes r kept is_in) front
+      quiet)
+
+  pub first_last : first.step.note ≢ Quiet → IsHeard limit hear bytes r kept.spare first new
+  unfolding hears_none
+  first_last loud =
+      subst (λ (h : CarefulHearing). IsHeard limit hear bytes r kept.spare h new) (without_first first)
+      (hears_last limit hear bytes r kept.spare 0 0 kept first new (hears_none limit hear bytes r kept is_in) front
+      loud)

@@ -8,7 +8,7 @@ ghost use Rattle.lis_link.specs.Representation.{IsIn, IsStepMade, RefusesFrame, 
 ghost use Rattle.lis_careful.specs.Careful.{begins_within, ends_session, heard_as, heard_only};
 ghost use Rattle.lis_careful.specs.Careful.{is_altered, is_noise, noise_in, noise_of, on_byte_carefully};
 ghost use Rattle.lis_careful.specs.Careful.{on_bytes_carefully};
-ghost use Rattle.lis_careful.specs.inside.Hearing.{HearsFront};
+ghost use Rattle.lis_careful.specs.inside.Hearing.{HearsFront, IsHeard};
 
 use lis_link::{Hearing, Note, ReceiverOf, Step};
 use lis_text::{ENQ, EOT, LF, STX};
@@ -64,6 +64,56 @@ pub fn hear_bytes<const N: usize>(receiver: &mut ReceiverOf<N>, bytes: &[u8]) ->
     ensures room { KeepsRoom result.step.note result.step.message (room_of receiver.old) (room_of receiver.new) }
 
     // What is reported without a state: some bytes are heard, and all of them where the step is quiet.
+    ensures bound { result.count ≤ length bytes.now }
+    ensures some { 0 < length bytes.now → 0 < result.count }
+    ensures all { result.step.note ≡ Notes.Quiet → result.count ≡ length bytes.now }
+    ensures few { result.noise ≤ result.count }
+{
+    if bytes.is_empty() {
+        return hear_following(receiver, bytes);
+    }
+    // Most often the first front means something: a byte or a whole frame.
+    let CarefulHearing { count, noise, step } = hear_front(receiver, bytes);
+    match step.note {
+        Note::Quiet => {
+            let CarefulHearing {
+                count: more,
+                noise: louder,
+                step,
+            } = hear_following(receiver, &bytes[count..]);
+            CarefulHearing {
+                count: count + more,
+                noise: noise + louder,
+                step,
+            }
+        }
+        _ => CarefulHearing { count, noise, step },
+    }
+}
+
+/// Hears the bytes that follow the first front.
+// Room for what `hear_fronts` answers is made here, and not before the first front.
+#[inline(always)]
+fn hear_following<const N: usize>(receiver: &mut ReceiverOf<N>, bytes: &[u8]) -> CarefulHearing
+    ensures heard { (r : ReceiverState) → IsIn N receiver.old r →
+        IsHeard N (on_byte_carefully N) bytes.now r receiver.old.spare result receiver.new }
+    ensures room { KeepsRoom result.step.note result.step.message (room_of receiver.old) (room_of receiver.new) }
+    ensures bound { result.count ≤ length bytes.now }
+    ensures some { 0 < length bytes.now → 0 < result.count }
+    ensures all { result.step.note ≡ Notes.Quiet → result.count ≡ length bytes.now }
+    ensures few { result.noise ≤ result.count }
+{
+    let CarefulHearing { count, noise, step } = hear_fronts(receiver, bytes);
+    CarefulHearing { count, noise, step }
+}
+
+/// Hears bytes, one front after another.
+// Within its caller it would take the registers that one front needs.
+#[inline(never)]
+fn hear_fronts<const N: usize>(receiver: &mut ReceiverOf<N>, bytes: &[u8]) -> CarefulHearing
+    ensures heard { (r : ReceiverState) → IsIn N receiver.old r →
+        IsHeard N (on_byte_carefully N) bytes.now r receiver.old.spare result receiver.new }
+    ensures room { KeepsRoom result.step.note result.step.message (room_of receiver.old) (room_of receiver.new) }
     ensures bound { result.count ≤ length bytes.now }
     ensures some { 0 < length bytes.now → 0 < result.count }
     ensures all { result.step.note ≡ Notes.Quiet → result.count ≡ length bytes.now }
@@ -140,7 +190,11 @@ pub fn noise_of<const N: usize>(receiver: &ReceiverOf<N>, byte: u8) -> usize
 pub fn is_altered<const N: usize>(receiver: &ReceiverOf<N>, byte: u8) -> bool
     ensures { (r : ReceiverState) → IsIn N receiver.now r → result ≡ is_altered r byte }
 {
-    closes(receiver, byte) || begins_within(receiver, byte)
+    match byte {
+        STX => begins_within(receiver, byte),
+        ENQ | EOT => receiver.is_open(),
+        _ => false,
+    }
 }
 
 /// Whether this byte ends the session.

@@ -12,15 +12,19 @@ use Rattle.lis_link.specs.declared.receiver.Step.{Step}
 use Rattle.lis_link.specs.Receiver.{ReceiverState, ReceiverStep, on_byte}
 use Rattle.lis_link.specs.Representation.{IsIn, IsStepMade, RefusesFrame, SpareAfter, KeepsRoom, room_of}
 use Rattle.lis_careful.specs.Careful.{ends_session, session_ended, heard_as, careful_by, on_byte_carefully, heard_only}
-use Rattle.lis_careful.specs.Careful.{on_bytes_by, noise_by}
+use Rattle.lis_careful.specs.Careful.{on_bytes_by, on_bytes_carefully, noise_by}
 use Rattle.lis_careful.specs.declared.receiver.CarefulHearing.{CarefulHearing}
-use Rattle.lis_careful.proofs.Receiving.{IsHearing, IsHeard, ended_refused, eot_ends, forgets, open_then, not_ended}
+use Rattle.lis_careful.proofs.Receiving.{IsHearing, ended_refused, eot_ends, forgets, open_then, not_ended}
 use Rattle.lis_careful.proofs.Receiving.{hears_more, hears_last, hears_all, quiet_answer, on_byte-heard_only}
 use Rattle.lis_station.specs.declared.station.AnswerOf.{AnswerOf}
 use Rattle.lis_station.specs.declared.station.AnswerOf.TheVariants.{Emits, Hears}
 use Rattle.lis_station.specs.Representation.{KeptStation, station_at, IsAnswer, IsOutOfMemory, IsRefused}
 use Rattle.lis_station.specs.Representation.{KeepsStationRoom}
-use Rattle.lis_station.specs.Station.{StationState, StationStep, asking, heard, turn_reply, turn_after_note, asks_after}
+use Rattle.lis_station.specs.Station.{StationState, StationStep, asking, awaits_reply, heard, taken_by, turn_reply}
+use Rattle.lis_station.specs.Station.{turn_after_note, asks_after}
+use Rattle.lis_station.proofs.Answering.{heard_made, heard_refused}
+use Rattle.lis_careful_station.specs.Station.{noise_at, noise_routed, on_station_bytes_carefully}
+use Rattle.lis_careful_station.specs.Station.{routed_bytes_carefully}
 use Rattle.lis_careful_station.specs.inside.Front.{heard_step, IsTurned, HearsFrontOf, IsHeardOf}
 
 -- ---- one byte
@@ -207,3 +211,40 @@ all_of limit hear bytes r old count noise now heard long short =
       refused = all.refused;
       spare_after = all.spare_after;
     }
+
+-- what the station answers that has heard them
+module _ (limit : ℕ) (bytes : List ℕ) (r : ReceiverState) (old : KeptStation) (result : CarefulHearing)
+    (new : KeptStation) (rests : awaits_reply old.sender.phase ≡ false)
+    (heard : IsHeardOf limit (on_byte_carefully limit) bytes r old result new) where
+  pub counts : result.count ≡ (on_station_bytes_carefully limit bytes (station_at old r)).count
+  counts =
+      subst (λ a. result.count ≡ (routed_bytes_carefully limit a bytes (station_at old r)).count) (sym rests)
+      heard.count_is
+
+  pub noises : result.noise ≡ noise_at limit bytes (station_at old r)
+  noises = subst (λ a. result.noise ≡ noise_routed limit a bytes (station_at old r)) (sym rests) heard.noise_is
+
+  pub makes_answer : result.step.note ≢ OutOfMemory
+      → IsAnswer limit old (on_station_bytes_carefully limit bytes (station_at old r)).step (Hears result.step) new
+  makes_answer fine =
+      let note = note_is old heard.raw result.step new heard.turned in
+      subst (λ a. IsAnswer limit old (routed_bytes_carefully limit a bytes (station_at old r)).step
+      (Hears result.step) new) (sym rests)
+      (heard_made limit old new new.receiver (on_bytes_carefully limit bytes r).step r heard.raw result.step
+      heard.turned.result_is heard.turned.after_is (heard.makes (λ out. fine (note ∙ out))))
+
+  pub refuses : result.step.note ≡ OutOfMemory
+      → IsRefused limit old (on_bytes_carefully limit bytes r).step
+      (heard_only (on_bytes_carefully limit bytes r).step r) (Hears result.step) new
+  refuses out =
+      let raw_out : heard.raw.note ≡ OutOfMemory =
+      sym (note_is old heard.raw result.step new heard.turned) ∙ out in
+      heard_refused limit old new new.receiver _ _ heard.raw result.step heard.turned.result_is
+      heard.turned.after_is raw_out (heard.refused raw_out)
+
+  pub spare_is : SpareAfter old.receiver.spare new.receiver.spare
+      (taken_by (on_station_bytes_carefully limit bytes (station_at old r)).step.answer)
+  spare_is =
+      subst (λ a. SpareAfter old.receiver.spare new.receiver.spare
+      (taken_by (routed_bytes_carefully limit a bytes (station_at old r)).step.answer)) (sym rests)
+      heard.spare_after

@@ -1,13 +1,15 @@
 //! A station that hears carefully what is for its receiver.
 
-ghost use Rattle.std.specs.Prelude.{◌≡◌, ◌≤◌, ◌<◌, false, length};
+ghost use Rattle.std.specs.Prelude.{◌≡◌, ◌≢◌, ◌≤◌, ◌<◌, false, length};
+ghost use Rattle.lis_link.specs.declared.receiver.Note.TheVariants as Notes;
 ghost use Rattle.lis_link.specs.Receiver.{ReceiverState};
 ghost use Rattle.lis_link.specs.Representation.{IsIn, SpareAfter, KeepsRoom, room_of};
 ghost use Rattle.lis_careful.specs.Careful.{heard_only, on_byte_carefully, on_bytes_carefully};
+ghost use Rattle.lis_station.specs.declared.station.AnswerOf.TheVariants.{Hears};
 ghost use Rattle.lis_station.specs.Station.{awaits_reply, taken_by};
 ghost use Rattle.lis_station.specs.Representation.{station_at, IsAnswer, IsOutOfMemory, IsRefused, KeepsStationRoom};
 ghost use Rattle.lis_careful_station.specs.Station.{noise_at, on_station_byte_carefully, on_station_bytes_carefully};
-ghost use Rattle.lis_careful_station.specs.inside.Front.{HearsFrontOf, IsHeardOf, heard_step};
+ghost use Rattle.lis_careful_station.specs.inside.Front.{HearsFrontOf, heard_step};
 
 use lis_careful::{CarefulHearing, closes, heard_as, is_altered, noise_of};
 use lis_link::{Note, SessionTexts, Step};
@@ -98,16 +100,29 @@ pub fn hear_bytes<const N: usize, T: SessionTexts>(
     }
 }
 
-/// The receiver hears bytes.
-fn hear_receiving<const N: usize, T: SessionTexts>(
+/// Bytes come while no reply is awaited, so that the receiver hears them: `hear_bytes`, with the receiver's step.
+pub fn hear_receiving<const N: usize, T: SessionTexts>(
     station: &mut StationOver<N, T>,
     bytes: &[u8],
 ) -> CarefulHearing
     requires { awaits_reply station.old.sender.phase ≡ false }
-    ensures heard { (r : ReceiverState) → IsIn N station.old.receiver r →
-        IsHeardOf N (on_byte_carefully N) bytes.now r station.old result station.new }
+    ensures count { (r : ReceiverState) → IsIn N station.old.receiver r →
+        result.count ≡ (on_station_bytes_carefully N bytes.now (station_at station.old r)).count }
+    ensures noise { (r : ReceiverState) → IsIn N station.old.receiver r →
+        result.noise ≡ noise_at N bytes.now (station_at station.old r) }
+    ensures step { (r : ReceiverState) → IsIn N station.old.receiver r → result.step.note ≢ Notes.OutOfMemory →
+        IsAnswer N station.old (on_station_bytes_carefully N bytes.now (station_at station.old r)).step
+        (Hears result.step) station.new }
+    ensures refused { (r : ReceiverState) → IsIn N station.old.receiver r → result.step.note ≡ Notes.OutOfMemory →
+        IsRefused N station.old (on_bytes_carefully N bytes.now r).step
+        (heard_only (on_bytes_carefully N bytes.now r).step r) (Hears result.step) station.new }
+    ensures spare { (r : ReceiverState) → IsIn N station.old.receiver r →
+        SpareAfter station.old.receiver.spare station.new.receiver.spare
+        (taken_by (on_station_bytes_carefully N bytes.now (station_at station.old r)).step.answer) }
     ensures room { KeepsRoom result.step.note result.step.message (room_of station.old.receiver)
         (room_of station.new.receiver) }
+
+    // What is reported without a state: some bytes are heard.
     ensures bound { result.count ≤ length bytes.now }
     ensures some { 0 < length bytes.now → 0 < result.count }
     ensures few { result.noise ≤ result.count }

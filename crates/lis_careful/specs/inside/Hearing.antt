@@ -22,6 +22,17 @@ pub record HearsFront (limit : ℕ) (hear : ℕ → ReceiverState → ReceiverSt
   pub refused : result.step.note ≡ OutOfMemory → RefusesFrame limit spare meant (heard_only meant r) result.step new
   pub spare_after : SpareAfter spare new.spare meant.taken
 
+-- the answer to bytes is that of the definition
+pub record IsHeard (limit : ℕ) (hear : ℕ → ReceiverState → ReceiverStep) (bytes : List ℕ) (r : ReceiverState)
+    (spare : ℕ) (hearing : CarefulHearing) (new : Kept) : Type 0 where
+  pub count_is : hearing.count ≡ (on_bytes_by hear bytes r).count
+  pub noise_is : hearing.noise ≡ noise_by hear bytes r
+  pub makes : hearing.step.note ≢ OutOfMemory → IsStepMade limit (on_bytes_by hear bytes r).step hearing.step new
+  pub refused : hearing.step.note ≡ OutOfMemory
+      → RefusesFrame limit spare (on_bytes_by hear bytes r).step
+      (heard_only (on_bytes_by hear bytes r).step r) hearing.step new
+  pub spare_after : SpareAfter spare new.spare (on_bytes_by hear bytes r).step.taken
+
 -- bytes that are heard as themselves in whatever state are not special
 abbrev pub is_special : ℕ → Bool
 is_special b = b == STX || (b == ENQ || b == EOT)

@@ -1,5 +1,5 @@
 -- The bytes that were heard are those before, which were quiet, and those of the front.
-use Rattle.std.proofs.Common.{◌≡◌, false, arith, refl, ap, sym, length-drop, ◌∙◌}
+use Rattle.std.proofs.Common.{◌≡◌, false, arith, refl, ap, length-drop, ◌∙◌}
 use Rattle.std.proofs.lemmas.List.{take_rest}
 use Rattle.lis_link.specs.Receiver.{ReceiverState}
 use Rattle.lis_link.specs.Representation.{IsIn}
@@ -7,7 +7,7 @@ use Rattle.lis_careful.specs.Careful.{on_byte_carefully}
 use Rattle.lis_careful.proofs.Receiving.{hears_none}
 use Rattle.lis_station.specs.Representation.{KeptStation}
 use Rattle.lis_station.specs.Station.{awaits_reply}
-use Rattle.lis_careful_station.proofs.Answering.{all_of, last_of, more_of}
+use Rattle.lis_careful_station.proofs.Answering.{all_of, last_of, more_of, counts, noises, makes_answer, refuses, spare_is}
 use Rattle.lis_careful_station.proofs.station.hear_receiving.Goals as goal
 
 pub loop-count-init : goal.loop-count-init
@@ -25,15 +25,20 @@ pub returns-in_default : goal.returns-in_default
 returns-in_default g c =
     let i = c.loop-count.invariant in
     let front = c.hear_front-more in
+    let heard = λ (r : ReceiverState) (is_in : IsIn g.row.N c.args.station.now.receiver r).
+    let heard = i.hearing r is_in in
+    let rests : awaits_reply c.loop-count.station.sender.phase ≡ false =
+    ap (λ (k : KeptStation). awaits_reply k.sender.phase) heard.same ∙ c.requires in
+    let more = rw (take_rest c.args.bytes.now c.loop-count.count) at
+    (front.ensures.front heard.hearing.at heard.hearing.state rests) in
+    last_of g.row.N (on_byte_carefully g.row.N) c.args.bytes.now r c.args.station.now c.loop-count.count
+    c.loop-count.noise c.loop-count.station front.result front.new.station heard more c.in_default.not-Quiet in
     record {
-      heard = λ r is_in.
-          let heard = i.hearing r is_in in
-          let rests : awaits_reply c.loop-count.station.sender.phase ≡ false =
-          ap (λ (k : KeptStation). awaits_reply k.sender.phase) heard.same ∙ c.requires in
-          let more = rw (take_rest c.args.bytes.now c.loop-count.count) at
-          (front.ensures.front heard.hearing.at heard.hearing.state rests) in
-          last_of g.row.N (on_byte_carefully g.row.N) c.args.bytes.now r c.args.station.now c.loop-count.count
-          c.loop-count.noise c.loop-count.station front.result front.new.station heard more c.in_default.not-Quiet;
+      count = λ r is_in. counts g.row.N c.args.bytes.now r c.args.station.now _ _ c.requires (heard r is_in);
+      noise = λ r is_in. noises g.row.N c.args.bytes.now r c.args.station.now _ _ c.requires (heard r is_in);
+      step = λ r is_in. makes_answer g.row.N c.args.bytes.now r c.args.station.now _ _ c.requires (heard r is_in);
+      refused = λ r is_in. refuses g.row.N c.args.bytes.now r c.args.station.now _ _ c.requires (heard r is_in);
+      spare = λ r is_in. spare_is g.row.N c.args.bytes.now r c.args.station.now _ _ c.requires (heard r is_in);
       room = rw i.room at front.ensures.room;
       bound = let more = rw (take_rest c.args.bytes.now c.loop-count.count) at front.ensures.bound in
           omega (arith, length-drop c.loop-count.count c.args.bytes.now, more, i.bound);
@@ -79,8 +84,20 @@ loop-count-preserved-in-Quiet g c =
           c.loop-count.noise c.loop-count.station front.result front.new.station heard more c.in-Quiet.is;
     }
 
-pub returns-clause-heard : goal.returns-clause-heard
-returns-clause-heard g c r is_in =
+pub returns : goal.returns
+returns g c =
     let i = c.loop-count.invariant in
+    let heard = λ (r : ReceiverState) (is_in : IsIn g.row.N c.args.station.now.receiver r).
     all_of g.row.N (on_byte_carefully g.row.N) c.args.bytes.now r c.args.station.now c.loop-count.count
-    c.loop-count.noise c.loop-count.station (i.hearing r is_in) (omega (arith, c.loop-count-test.false)) i.bound
+    c.loop-count.noise c.loop-count.station (i.hearing r is_in) (omega (arith, c.loop-count-test.false)) i.bound in
+    record {
+      count = λ r is_in. counts g.row.N c.args.bytes.now r c.args.station.now _ _ c.requires (heard r is_in);
+      noise = λ r is_in. noises g.row.N c.args.bytes.now r c.args.station.now _ _ c.requires (heard r is_in);
+      step = λ r is_in. makes_answer g.row.N c.args.bytes.now r c.args.station.now _ _ c.requires (heard r is_in);
+      refused = λ r is_in. refuses g.row.N c.args.bytes.now r c.args.station.now _ _ c.requires (heard r is_in);
+      spare = λ r is_in. spare_is g.row.N c.args.bytes.now r c.args.station.now _ _ c.requires (heard r is_in);
+      room = i.room;
+      bound = i.bound;
+      some = λ some. omega (arith, some, c.loop-count-test.false);
+      few = i.few;
+    }

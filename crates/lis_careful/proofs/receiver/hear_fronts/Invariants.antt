@@ -3,7 +3,7 @@ use Rattle.lis_link.specs.Receiver.{ReceiverState}
 use Rattle.lis_link.specs.Representation.{IsIn, room_of}
 use Rattle.lis_careful.specs.Careful.{on_byte_carefully}
 use Rattle.lis_careful.proofs.Receiving.{IsHearing}
-use Rattle.lis_careful.proofs.receiver.hear_bytes.Given as goal
+use Rattle.lis_careful.proofs.receiver.hear_fronts.Given as goal
 
 abbrev pub invariant-loop-count : goal.invariant-loop-count
 invariant-loop-count g l = record {
