@@ -68,6 +68,15 @@ def prove(folder, names, by):
     return running.returncode == 0
 
 
+def times(path):
+    """The seconds of a table that tools/gate wrote: of each crate, for its proof and for its mutants."""
+    if not os.path.exists(path):
+        return {}
+    with open(path, encoding="utf-8") as file:
+        rows = [line.split() for line in file if not line.startswith("#")]
+    return {name: [float(proof), float(edits)] for name, proof, edits in rows}
+
+
 def kit():
     """The kit's command rt as a module; the script ends where this kit's rt can't do what it needs."""
     path = os.path.realpath(shutil.which("rt") or "")

@@ -132,30 +132,32 @@ class Tools(kit.Test):
         good = "lis_c -> lis_careful_station: one has it" in ran.stdout and ran.returncode == 1
         self.check(good, "a missing arrow", ran.stdout)
 
-    def test_crates_are_timed(self):
-        """The kit's processes are found by their words, and a run that fails writes nothing."""
+    def test_gate(self):
+        """A line for each crate, what failed again at the end, and the seconds of the kit's processes by their words."""
         with tempfile.TemporaryDirectory() as folder:
             shutil.copytree(os.path.join(kit.ROOT, "tools"), f"{folder}/tools")
-            with open(f"{folder}/crates.txt", "w", encoding="utf-8") as file:
-                file.write("lis_port:\nlis_text: lis_port\nlis_frame: lis_text\n")
-            with open(f"{folder}/busy", "w", encoding="utf-8") as file:
-                file.write(BUSY)
-            os.mkdir(f"{folder}/docs")
-            os.mkdir(f"{folder}/rt-edit-1")
-            for status, run in ((1, "exit 1"), (0, " & ".join(BUSY_WORDS) + " & wait")):
-                words = [sys.executable, "tools/crates", "--time", "sh", "-c", run]
-                ran = subprocess.run(words, cwd=folder, capture_output=True, text=True)
-                self.same("the status of the run", ran.returncode, status)
-                self.same("whether times are kept", os.path.exists(f"{folder}/docs/crates.table"), status == 0)
-            with open(f"{folder}/docs/crates.table", encoding="utf-8") as file:
-                rows = [line.split() for line in file if not line.startswith("#")]
-            good = len(rows) == 1 and rows[0][0] == "lis_port" and min(map(int, rows[0][1:])) >= 1
-            self.check(good, "the seconds of a proof and of its edits", rows)
-            with open(f"{folder}/docs/crates.table", "w", encoding="utf-8") as file:
-                file.write("# seconds\nlis_port 50 10\nlis_text 100 20\n")
+            for name, text in (("crates.txt", "lis_port:\nlis_text: lis_port\nlis_frame: lis_text\n"), ("busy", BUSY),
+                               ("rt", GATE), ("end", "rt: lis_frame NOT PROVED\n1 passed, 2 failed\n")):
+                with open(f"{folder}/{name}", "w", encoding="utf-8") as file:
+                    file.write(text)
+            os.chmod(f"{folder}/rt", 0o755)
+            os.makedirs(f"{folder}/rt-edit-1")
+            os.makedirs(f"{folder}/build")
+            with open(f"{folder}/build/proofs.table", "w", encoding="utf-8") as file:
+                file.write("# seconds\nlis_text 6000 0\nlis_frame 6000 0\n")
+            env = {**os.environ, "PATH": f"{folder}:{os.environ['PATH']}"}
+            ran = subprocess.run([f"{folder}/tools/gate", "build"], cwd=folder, env=env, capture_output=True, text=True)
+            told = re.sub(r"after \d+ s|about \d+ min", "later", ran.stdout)
+            self.same("what is printed", (told, ran.returncode), (TOLD, 3))
+            with open(f"{folder}/build/proofs.log", encoding="utf-8") as file:
+                self.has("all of it is in the log", file.read(), "impl lis_port::Sink: proved")
             ran = subprocess.run([sys.executable, "tools/crates"], cwd=folder, capture_output=True, text=True)
-            said = [line.split(", ")[-1] for line in ran.stdout.splitlines()[:3]]
-            self.same("minutes of a crate and all above it", said, ["3 minutes", "2 minutes", "0 minutes"])
+            with open(f"{folder}/build/proofs.table", encoding="utf-8") as file:
+                rows = {name: list(map(int, rest)) for name, *rest in map(str.split, file) if name != "#"}
+            self.check(min(rows["lis_port"]) >= 1, "the seconds of a proof and of its mutants", rows)
+            self.same("a crate that was not looked at", rows["lis_text"], [6000, 0])
+            said = [line.split(", ")[-1] for line in ran.stdout.splitlines()[1:3]]
+            self.same("minutes of a crate and all above it", said, ["200 minutes", "100 minutes"])
 
     def test_codes(self):
         self.counts("tools/codes")
@@ -197,6 +199,35 @@ class Tools(kit.Test):
 BUSY = "i=0; while [ $i -lt 600000 ]; do i=$((i+1)); done\n"
 BUSY_WORDS = ("sh busy build --crate-name lis_port", "(cd rt-edit-1; sh ../busy check --crate-name lis_port)",
               "sh busy check lis_text")
+# A kit whose `rt ci` proves one crate and tries an edit of it; another one is kept, and the third fails.
+GATE = f"""#!/bin/sh
+[ "$1" = ci ] || exit
+printf '== lis_port\\nimpl lis_port::Sink: proved\\n'
+{" & ".join(BUSY_WORDS)} & wait
+printf 'rt: lis_port proved\\nrt: lis_text is kept: an earlier run proved it\\nrt: lis_text: its tests are proved\\n'
+printf 'crates/lis_port/must-fail/one.edit: NOT REFUSED: the crate is still proved\\n'
+printf 'rt: lis_text: its tests FAILED\\n== lis_frame\\nfn lis_frame::scan: an open goal\\n'
+cat end
+exit 3
+"""
+TOLD = """lis_port proved later; 2 left, later
+lis_text is kept; 1 left, later
+lis_text: its tests are proved later
+lis_frame NOT PROVED later
+crates/lis_port/must-fail/one.edit: NOT REFUSED: the crate is still proved
+repeat: rt must-fail lis_port
+impl lis_port::Sink: proved
+rt: lis_port proved
+rt: lis_text is kept: an earlier run proved it
+rt: lis_text: its tests are proved
+crates/lis_port/must-fail/one.edit: NOT REFUSED: the crate is still proved
+rt: lis_text: its tests FAILED
+repeat: (cd crates/lis_text && rt test && rt run)
+fn lis_frame::scan: an open goal
+rt: lis_frame NOT PROVED
+repeat: (cd crates/lis_frame && rt check)
+1 passed, 2 failed
+"""
 # A kit that proves in no time: its `rt ci` makes a program of the crates' names.
 RT = """#!/bin/sh
 [ "$1" = ci ] || { echo a kit; exit; }
