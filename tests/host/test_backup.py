@@ -65,7 +65,7 @@ class Copies(HostTest):
             (["backup", "--store", self.path("none.db"), self.path("none")], 3, "there is no such store"),
             (["backup", "--store", "spool:x", self.path("none")], 2, "is no SQLite file"),
             (["restore", "--store", store, "--cursor", cursor, copy], 3, "move it away first"),
-            (["restore", "--store", new, copy], 3, "say by --cursor where its delivery has it"),
+            (["restore", "--store", new, copy], 3, "name the file of its delivery by --cursor"),
             (["restore", "--store", new, store], 3, "is no copy that"),
             (["restore", "--store", new, self.path("no copy")], 3, "there is no such copy"),
             (["backup", "--store", store, "--cursor", self.path("nosuch"), self.path("new")], 3, "nosuch: there is no"),

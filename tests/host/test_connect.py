@@ -20,13 +20,13 @@ from tests.host.test_orders import states
 SCALE = 0.2
 #: What is wrong with words of a command, and with files of lines.
 WORDS = (
-    ("x", "x: HOST:PORT is wanted"),
-    ("127.0.0.1:0", "a port from 1 to 65535 is wanted"),
+    ("x", "x: expected HOST:PORT"),
+    ("127.0.0.1:0", "expected a port from 1 to 65535"),
     ("1,allow=::/0", "options are name=, frame=, encoding=, orders=, none="),
 )
 FAULTS = (
-    ("connect = x", ":2: x: HOST:PORT is wanted"),
-    ("connect = 10.0.0.1:0", ":2: 10.0.0.1:0: a port from 1 to 65535 is wanted"),
+    ("connect = x", ":2: x: expected HOST:PORT"),
+    ("connect = 10.0.0.1:0", ":2: 10.0.0.1:0: expected a port from 1 to 65535"),
     ("connect = 10.0.0.1:1\nallow = 10.0.0.0/8", ":3: there is no setting allow: a line with connect has frame,"),
     ("connect = 1\nlisten = 2", ":1: a has listen and connect: it is at one listen, connect or serial"),
     ("connect = 1\n[b]\nconnect = 1", ":4: the port 127.0.0.1:1 is in row 2 too"),

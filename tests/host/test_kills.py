@@ -49,7 +49,7 @@ class Kills(HostTest):
         status, found, done = host.stop(), Found(store), len(acknowledged(log))
         self.same("the host's status", status, 0)
         self.true("messages are acknowledged", done > 20, str(done))
-        self.true("some could not be kept", "not kept: the disk is full" in host.errors[-1])
+        self.true("some could not be kept", "not stored: the disk is full" in host.errors[-1])
         self.same("acknowledged and lost", found.lost(log), [])
         self.same("repeats without a mark", found.unmarked(), [])
         self.same("no message stays open", sum(one.open for one in found.counts), 0)

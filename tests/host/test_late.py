@@ -18,7 +18,7 @@ from tests.host.test_orders import SLOW, states
 
 FRAME = frame(1, b"H|\\^&\r")
 #: What is said of a line on which a late reply could be taken for another one.
-SAID = "without waits=new-line, a late reply could be taken for the one to the next ENQ"
+SAID = "without waits=new-line, a late reply could be mistaken for the reply to the next ENQ"
 
 
 def ports_of(host):
@@ -122,7 +122,7 @@ class Suspended(HostTest):
         os.rename(clock + ".new", clock)
         with self.assertRaises(Gone):
             one.byte(60)
-        said = "the machine was suspended for 3600 s: each line is taken anew\n"
+        said = "the machine was suspended for 3600 s: every line connects again\n"
         self.true("said", wait_for(lambda: host.says().count(said) == 1), host.says())
         closed = "closed since the machine was suspended"
         self.true("both", wait_for(lambda: host.says().count(f": {closed}; bytes ") == 2), host.says())

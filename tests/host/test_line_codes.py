@@ -55,7 +55,7 @@ class LineCodes(HostTest):
             (f"{a}sub/good.codes\n{b}{good}\n", ["a", "b"], []),
             (f"{a}sub/bad.codes\n{b}sub/bad.codes\n[c]\nlisten = x\n", [],
              [f"{bad}:2: the laboratory's code is missing", f"{bad}:3: the analyzer's code is missing",
-              f"{file}:8: x: HOST:PORT is wanted"]),
+              f"{file}:8: x: expected HOST:PORT"]),
             (f"{a}wrong.codes\n{b}sub/good.codes\n", ["b"], [f"{wrong}:2: a test code mapping is written in UTF-8"]),
             (f"{a}quote.codes\n", [], [f"{quote}:2: field larger than field limit (131072): a test code mapping is CSV"]),
             (f"{a}none.codes\n{b}none.codes\n", [],

@@ -429,7 +429,7 @@ class Lines(HostTest):
         self.same("the replies, and what others hear", bad[:2], good[:2])
         self.same("the replies", good[0], [ACK, ACK])
         self.same("it is said", (len(bad[2]), bad[2][0]),
-                  (len(good[1]), "who listens to the line failed at Came: ValueError: it fails"))
+                  (len(good[1]), "an observer of the line failed at Came: ValueError: it fails"))
         self.same("nothing is said of the others", good[2], [])
 
     def test_who_listens(self):

@@ -76,8 +76,8 @@ class Said(HostTest):
     def are_said(self, said, wanted):
         """Whether these are the lines, besides those about connections."""
         rows = [row + "\n" for row in trouble(said)]
-        left_out = [row for row in rows if row.endswith(" notices of kind connection were not said\n")]
-        self.same("connections that are not said, in one line", len(left_out), 1)
+        left_out = [row for row in rows if row.endswith(" events of kind connection were suppressed\n")]
+        self.same("connections that are suppressed, in one line", len(left_out), 1)
         rows = [row for row in rows if row not in left_out]
         for row in wanted:
             self.same(f"one line: {row!r}", len([one for one in rows if one.endswith(row)]), 1)
@@ -93,7 +93,7 @@ class Said(HostTest):
             notices.say("bad", "x")
             now[0] += 1
         self.true("some of an hour's", 50 <= len(said) <= 150, str(len(said)))
-        self.same("how many were not said", said[-1], "bad: x (29 notices before it were not said)")
+        self.same("how many were suppressed", said[-1], "bad: x (29 earlier ones were suppressed)")
         notices.say("good", "y")
         self.same("another line's", said[-1], "good: y")
         notices.say("bad", "z", FRAME)
@@ -105,7 +105,7 @@ class Said(HostTest):
         self.same("nothing more for now", said[-1], "bad: z")
         now[0] += 30
         notices.say_dropped()
-        row = "bad: 31 notices of kind frame were not said"
+        row = "bad: 31 events of kind frame were suppressed"
         self.same("it is said how many were not, with no other one", said[-1], row)
         notices.say_dropped(True)
         self.same("once", said.count(row), 1)
@@ -197,11 +197,11 @@ class Said(HostTest):
         data = json.loads(lislab("status", "--store", host.store, "--json").stdout)
         self.same("connections", {one["line"]: one["came"] for one in data["lines"]}, {"fire": 2, "other": 31})
         self.same("notices", data["notices"]["other"], {CONNECTION: 62})
-        left_out = re.findall(r"other: (\d+) notices of kind connection were not said", "\n".join(rows))
-        left_out += re.findall(r"\((\d+) notices before it were not said\)", "\n".join(rows))
+        left_out = re.findall(r"other: (\d+) events of kind connection were suppressed", "\n".join(rows))
+        left_out += re.findall(r"\((\d+) earlier ones were suppressed\)", "\n".join(rows))
         self.same("all are said or counted", sum(map(int, left_out)), data["not_said"]["other"][CONNECTION])
         self.true("not all are said", data["not_said"]["other"][CONNECTION] >= 40)
-        self.has("for a reader", shown.stdout, "other: notices that were not said: ")
+        self.has("for a reader", shown.stdout, "other: suppressed events: ")
 
     def test_late_reply(self):
         """A reply that comes after the host gave its own session up is said, and counted by the status."""

@@ -417,7 +417,7 @@ class Queries(HostTest):
     def test_settings(self):
         """Settings of queries that can't be."""
         rows = {"query-sample = 0": "component of Q-3", "echo = O.5": "O.3 or O.4", "again = soon": "a time is wanted",
-                "query-all = maybe": "yes or no", "ask =": "a command is wanted"}
+                "query-all = maybe": "yes or no", "ask =": "expected a command"}
         for row, wanted in rows.items():
             lines = self.path("wrong.lines")
             with open(lines, "w", encoding="utf-8") as out:

@@ -85,6 +85,6 @@ class Status(HostTest):
             say = stack.enter_context(unittest.mock.patch.object(state, "say"))
             asyncio.run(serve_it())
         said = [call.args[0].partition(":")[0] for call in say.call_args_list]
-        self.same("what is said", said, ["the state can't be written"] * 2)
+        self.same("what is said", said, ["the status file can't be written"] * 2)
         with open(asked.status, encoding="ascii") as file:
             self.true("the last state", json.load(file)["stopped"])

@@ -113,7 +113,7 @@ FAULTS = {
     "no LF": Fault(lambda one: one.asks(ENQ) and one.send(b"".join(frames(TEXTS)).replace(b"\n", b"")), "no-unit",
                    "no LF ended one"),
     "late": Fault(stalled, "late", "once no reply was sent since .*: it would have been late", "stalled", False),
-    "a full disk": Fault(unanswered, "disk-full", "once a text could not be kept since .*: the disk is full", "full",
+    "a full disk": Fault(unanswered, "disk-full", "once a text could not be stored since .*: the disk is full", "full",
                          False),
     "the database is gone": Fault(unanswered, "store-gone", r"the store is gone \(PostgreSQL: server closed", "gone",
                                   False),
@@ -442,7 +442,7 @@ class Watch(HostTest):
         for one in idle:
             one.close()
         self.true("it answers after them", wait_for(lambda: self.answers(path), WAIT))
-        self.true("nothing is given up", "given up" not in host.says(), host.says())
+        self.true("nothing is closed after an error", "after an error" not in host.says(), host.says())
         self.same("the host's status", host.stop(), 0)
         self.true("it is gone with the host", not os.path.exists(path))
 
@@ -458,7 +458,7 @@ class Watch(HostTest):
         folder = self.path("x" * 120)
         os.mkdir(folder)
         host = Host(os.path.join(folder, "lab.db"), scale=1.0)
-        self.has("it is said", host.says(), "lislab watch can't look: ")
+        self.has("it is said", host.says(), "lislab watch can't connect: ")
         with Client(host.port) as client:
             self.true("it serves", client.whole(TEXTS))
         told = lislab("watch", "--store", host.store, "--once")

@@ -241,7 +241,7 @@ class Looks(HostTest):
             ("x" * 16, 0o600, ["--http", "0.0.0.0:0", "--allow", "10.0.0.0/8"], "isn't loopback"),
             ("x" * 15, 0o600, ["--http", "127.0.0.1:0", "--token", secret], "at least 16 characters"),
             ("x" * 16, 0o644, ["--http", "127.0.0.1:0", "--token", secret], "owner's alone"),
-            ("", 0o600, ["--http", "nowhere"], "HOST:PORT is wanted"),
+            ("", 0o600, ["--http", "nowhere"], "expected HOST:PORT"),
             ("", 0o600, ["--once", "--notify", "true"], "--notify watches all lines"),
             ("", 0o600, ["--save", "x"], "name it by --line"),
         ):

@@ -74,7 +74,7 @@ def _number(kind: Callable[[str], float], least: float, most: float = math.inf) 
             value = math.nan
         if not least <= value <= most:
             bounds = f"at least {least}" if most == math.inf else f"from {least} to {most}"
-            raise argparse.ArgumentTypeError(f"a number {bounds} is wanted, not {word}")
+            raise argparse.ArgumentTypeError(f"expected a number {bounds}, not {word}")
         return value
 
     return read

@@ -82,7 +82,7 @@ def _form_of(ask: argparse.Namespace) -> export.Form:
     scheme, slashes, _ = where.partition("://")
     scheme = scheme if slashes else ""
     if scheme not in ("", *_SCHEMES):
-        raise OptionError(f"{where}: {', '.join(f'{one}://' for one in _SCHEMES)} or a directory is wanted")
+        raise OptionError(f"{where}: expected {', '.join(f'{one}://' for one in _SCHEMES)} or a directory")
     if (ask.ca and scheme not in ("mllps", "https")) or (ask.headers and scheme not in ("https", "http")):
         raise OptionError("--ca is for mllps:// and https://, --headers for https://")
     form: str = ask.format or _SCHEMES.get(scheme, "records")
@@ -173,7 +173,7 @@ def _quarantine_of(ask: argparse.Namespace, form: export.Form) -> quarantine.Qua
 def _run_again(ask: argparse.Namespace) -> int:
     """Sends quarantined messages; if another process delivers with this cursor, asks that one to do it."""
     if not quarantine.is_key(ask.resend):
-        raise OptionError(f"--resend {ask.resend}: the key of a message is wanted, or the word all")
+        raise OptionError(f"--resend {ask.resend}: expected the key of a message, or all")
     named = quarantine.Quarantine(ask.cursor).together(ask.resend)
     if not named:
         which = "" if ask.resend == quarantine.ALL else f" under the key {ask.resend}"

@@ -132,7 +132,7 @@ def _plays(ask: argparse.Namespace) -> Tuple[List[Play], str]:
     but = [name for name in ask.same_but.split(",") if name]
     for name in but:
         if not is_field(name):
-            raise OptionError(f"--same-but {name}: a number, LETTER.NUMBER, a name of LIS02-A2, or DATE is wanted")
+            raise OptionError(f"--same-but {name}: expected a number, LETTER.NUMBER, a name of LIS02-A2, or DATE")
     paths, is_folder = _paths(ask.script), os.path.isdir(ask.script)
     scripts = [_named(name, path, lambda: _script(path)) for name, path in paths]
     is_computer = ask.end == "computer" if ask.end else all(one.is_computer for one in scripts)
@@ -181,7 +181,7 @@ def run_play(ask: argparse.Namespace) -> int:
     plays, own = _plays(ask)
     pace = Pace(ask.fast, ask.scale, ask.within)
     if source is None and any(step.mark == "K" for play in plays for step in play.steps):
-        say("what is kept isn't looked at: name --store or --kept")
+        say("what is stored isn't checked: name --store or --kept")
     is_one = not os.path.isdir(ask.script)
     try:
         end = End(place, ask.within, announce)

@@ -148,7 +148,7 @@ def restore(copy: str, store: str, cursors: Dict[str, str]) -> None:
         kept = {name + end: path + end for name, path in cursors.items() for end in _ENDS}
         unnamed = [name for name, _ in files if name not in kept]
         if unnamed:
-            raise StoreError(f"the copy has {', '.join(unnamed)}: say by --cursor where its delivery has it")
+            raise StoreError(f"the copy has {', '.join(unnamed)}: name the file of its delivery by --cursor")
         for name in set(cursors) - {name for name, _ in files}:
             raise StoreError(f"{copy} has no cursor {name}")
         db.execute(f"DROP TABLE {_FILES}")

@@ -121,4 +121,4 @@ class Observers:
                 see(event)
             except Exception as error:  # whatever it is, the line goes on
                 what = f"{type(error).__name__}: {error}"
-                self._say(f"who listens to the line failed at {type(event).__name__}: {what}", OTHER)
+                self._say(f"an observer of the line failed at {type(event).__name__}: {what}", OTHER)

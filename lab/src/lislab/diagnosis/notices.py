@@ -46,14 +46,14 @@ class Notices:
             return
         dropped = self._dropped.pop((name, kind), 0)
         with about(name):
-            self._say(f"{name}: {text}" + (f" ({dropped} notices before it were not said)" if dropped else ""))
+            self._say(f"{name}: {text}" + (f" ({dropped} earlier ones were suppressed)" if dropped else ""))
 
     def say_dropped(self, all_of_them: bool = False) -> None:
         """Says how many were not said of the lines and kinds of which one could be said now, or of all."""
         for name, kind in list(self._dropped):
             if all_of_them or self._has_room((name, kind)):
                 with about(name):
-                    self._say(f"{name}: {self._dropped.pop((name, kind))} notices of kind {kind} were not said")
+                    self._say(f"{name}: {self._dropped.pop((name, kind))} events of kind {kind} were suppressed")
 
     def _has_room(self, key: Tuple[str, str]) -> bool:
         """Whether another notice may be said, which then is."""

@@ -68,7 +68,7 @@ class Watch:
         if step.note is Note.ENDED:
             self._say(f"noise on the line: byte {at} of the connection, in a session, is ENQ; it has no reply", NOISE)
         elif 0 <= before == at - 1:
-            self._say(f"ENQ came again, with nothing between: if the analyzer begins anew without EOT, {ANEW}", NOISE)
+            self._say(f"ENQ came again, with nothing between: if the analyzer begins again without EOT, {ANEW}", NOISE)
 
     def hears(self, came: Came) -> None:
         """Bytes are heard from here on."""

@@ -436,21 +436,21 @@ class Verdict(enum.Enum):
         BAD,
         "",
         "make room: until then nothing is acknowledged, and nothing that was is lost",
-        "{times} a text could not be kept since {since}: the disk is full",
+        "{times} a text could not be stored since {since}: the disk is full",
     )
     STORE_GONE = (
         "store-gone",
         BAD,
         "",
         "look after the store: until it is there nothing is acknowledged, and nothing that was is lost",
-        "{times} a text could not be kept since {since}: the store is gone ({why})",
+        "{times} a text could not be stored since {since}: the store is gone ({why})",
     )
     TOO_BIG = (
         "too-big",
         BAD,
         "",
         "`lislab serve --message-bytes` sets how much a message may have",
-        "{times} a text could not be kept since {since}: {why}",
+        "{times} a text could not be stored since {since}: {why}",
     )
     NO_DEVICE = ("no-device", BAD, "", "look whether it is plugged in, and who may open it", "{why}")
     NO_CONNECTION = (
@@ -485,7 +485,7 @@ class Verdict(enum.Enum):
         "failed-orders",
         BAD,
         "",
-        "`lislab order list --state failed` shows them: `lislab order again` sends one anew, `cancel` gives it up",
+        "`lislab order list --state failed` shows them: `lislab order again` sends one again, `cancel` cancels it",
         "{orders} failed since {since}, the last one is order {why}",
     )
     NO_ORDERS = (
@@ -500,7 +500,7 @@ class Verdict(enum.Enum):
         "disturbed",
         BAD,
         "",
-        "look at cable, shield and speed; if the analyzer begins sessions anew without EOT, set `careful = no` of its line",
+        "look at cable, shield and speed; if the analyzer begins sessions again without EOT, set `careful = no` of its line",
         "noise on the line: {times} since {since} ENQ or STX came inside a session or a frame, and no message since",
     )
     HOST_DOWN = ("host-down", BAD, "", "start it: lislab serve", "the host isn't running")

@@ -167,7 +167,7 @@ def segment_of(packet: Packet) -> Optional[Segment]:
     end = total if total > start else max(len(ip), start + 20)
     if end > len(ip):
         lacking = max(packet.cut, end - len(ip))
-        raise LogError(f"{lacking} bytes of a packet weren't kept: capture whole packets (tcpdump -s 0)")
+        raise LogError(f"{lacking} bytes of a packet weren't recorded: capture complete packets (tcpdump -s 0)")
     source_port, target_port, sequence, acknowledged = struct.unpack_from(">HHII", ip, start)
     data = ip[start + (ip[start + 12] >> 4) * 4 : end]
     return Segment(

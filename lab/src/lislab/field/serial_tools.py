@@ -256,7 +256,7 @@ def blocks(text: str) -> Log:
             else:
                 pieces[-1] = pieces[-1]._replace(data=pieces[-1].data + data)
         elif holds_bytes(line) or re.match(r"\s+(?:[0-9a-fA-F]{2}\s+){2,}", line):
-            raise LogError(f"a row of bytes that isn't whole: {line[:60]!r}", number)
+            raise LogError(f"an incomplete row of bytes: {line[:60]!r}", number)
         elif not _IGNORED.match(line):
             left.append(number)
     return Log("blocks", pieces, left_out(left))

@@ -146,7 +146,7 @@ def read_log(data: bytes, ask: Options) -> Log:
         return _read_log(data, ask)
     except (ValueError, IndexError, KeyError, struct.error) as error:
         raise LogError(
-            f"the log isn't whole, or of another form ({type(error).__name__}: {error}): see --form"
+            f"the log is incomplete, or of another form ({type(error).__name__}: {error}): see --form"
         ) from error
 
 
@@ -191,7 +191,7 @@ def _unpacked(data: bytes) -> bytes:
     try:
         return gzip.decompress(data)
     except (OSError, EOFError, zlib.error) as error:
-        raise LogError(f"the file is packed and can't be unpacked: {error}") from None
+        raise LogError(f"the file is compressed and can't be decompressed: {error}") from None
 
 
 def _is_raw(data: bytes) -> bool:

@@ -357,7 +357,7 @@ def csv_table(text: str) -> Log:
         raise LogError("the table has no column of bytes")
     for number, row in short:
         if holds_bytes(" ".join(row) + " ") or data < len(row) and row[data].strip():
-            raise LogError(f"a row that isn't whole: {', '.join(row)[:60]!r}", number)
+            raise LogError(f"an incomplete row: {', '.join(row)[:60]!r}", number)
     sides = [
         place
         for place, name in enumerate(names)

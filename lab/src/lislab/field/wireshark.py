@@ -63,7 +63,7 @@ def follow_c(text: str) -> Log:
     others = _ARRAY.sub(lambda one: "\n" * one[0].count("\n"), text)
     rest = re.search(r"peer\d+_\d+|\b0x[0-9a-fA-F]{2}\b", others)
     if rest is not None:
-        raise LogError(f"an array that isn't whole: {rest[0]}", others.count("\n", 0, rest.start()) + 1)
+        raise LogError(f"an incomplete array: {rest[0]}", others.count("\n", 0, rest.start()) + 1)
     for found in _ARRAY.finditer(text):
         body = re.sub(r"/\*.*?\*/", "", found[2], flags=re.S)
         words = re.findall(r"0x([0-9a-fA-F]{2})", body)
@@ -83,7 +83,7 @@ def follow_yaml(text: str) -> Log:
             try:
                 pieces.append(Piece(time, side, base64.b64decode("".join(digits), validate=True)))
             except binascii.Error:
-                raise LogError("the base64 of a packet isn't whole") from None
+                raise LogError("the base64 of a packet is incomplete") from None
 
     for number, line in enumerate(text.splitlines(), 1):
         bare = line.strip()
@@ -124,7 +124,7 @@ def tshark_fields(text: str, port: Optional[int] = None, stream: Optional[int] =
     left = {number for number, row in rows if payload >= len(row) or not row[payload].strip()}
     for number, row in rows:
         if payload >= len(row) and holds_bytes(" ".join(row) + " "):
-            raise LogError(f"a row that isn't whole: {' '.join(row)[:60]!r}", number)
+            raise LogError(f"an incomplete row: {' '.join(row)[:60]!r}", number)
     kept = [(number, row) for number, row in rows if number not in left]
     for number, row in kept:
         if not _HEX.match(row[payload].strip().split(",")[0]):

@@ -144,4 +144,4 @@ def _settle(done: "List[asyncio.Future[None]]", fault: Optional[Exception], say:
         else:
             one.set_exception(fault)
     if fault is not None:
-        say(f"not kept: {fault}")
+        say(f"not stored: {fault}")

@@ -429,10 +429,10 @@ class Line:
             self._tell(NotKept(error))
             self._is_long = False
             self._tries.clear()
-            undone = self._intake.undo(f"a text could not be kept: {error}")
+            undone = self._intake.undo(f"a text could not be stored: {error}")
             if undone:
                 self._put_later(undone)
-            self._restart("a text could not be kept")
+            self._restart("a text could not be stored")
             return False
         self._tell(Kept())
         return True

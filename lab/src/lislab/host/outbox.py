@@ -287,7 +287,7 @@ class Outbox:
                     return found
             except StoreError as error:
                 failed += 1
-                self._say(f"{site.line}: a query can't be looked up: {error}")
+                self._say(f"{site.line}: the orders of a query can't be read: {error}")
                 if failed == LOOKS:
                     break
             await asyncio.sleep(LOOK * max(self._scale, 0.05))
@@ -305,7 +305,7 @@ class Outbox:
         try:
             await self._run(self._book.take_back, site.place, site.seat, numbers)
         except StoreError as error:
-            self._say(f"{site.line}: a query can't be taken back: {error}")
+            self._say(f"{site.line}: a query can't be cancelled: {error}")
         self._in_hand.difference_update(numbers)
 
     @staticmethod
@@ -324,7 +324,7 @@ class Outbox:
             why = f"its answer is no message: {error}"
         except (OSError, StoreError) as error:
             why = str(error)
-        self._say(f"{site.line}: the command that was asked gives no orders: {why}")
+        self._say(f"{site.line}: the query command returned no orders: {why}")
         return []
 
     # ---- what a line sends

@@ -113,7 +113,7 @@ class Host:
         """Takes all lines anew after the machine was suspended: no timer ran meanwhile, and none is waited for."""
         seconds = self._asleep.note()
         if seconds:
-            say(f"the machine was suspended for {seconds:.0f} s: each line is taken anew")
+            say(f"the machine was suspended for {seconds:.0f} s: every line connects again")
             for line in list(self.lines):
                 line.cut("since the machine was suspended")
 
@@ -127,7 +127,7 @@ class Host:
         del self.lines[line]
         if not done.cancelled() and done.exception() is not None:
             fault = done.exception()
-            say(f"{name}: the line is given up: {type(fault).__name__}: {fault}")
+            say(f"{name}: the connection is closed after an error: {type(fault).__name__}: {fault}")
 
     def _tape(self, name: str) -> Optional[Tape]:
         if self.asked.capture is None:
@@ -172,7 +172,7 @@ class Host:
             if self.asked.watch is not None:
                 await self.board.open(self.asked.watch, self.look)
         except OSError as error:
-            say(f"lislab watch can't look: {error}")
+            say(f"lislab watch can't connect: {error}")
 
     def look(self) -> Dict[str, Any]:
         """How each line does."""
@@ -200,7 +200,7 @@ class Host:
         except (OptionError, StoreError, OSError) as error:
             for row in str(error).splitlines():
                 say(row)
-            say("the file of lines is not taken: all lines stay as they were")
+            say("the lines file has faults: all lines stay as they were")
             return
         if not self.stopping:
             await self._take(asked)

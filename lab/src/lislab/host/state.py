@@ -52,7 +52,7 @@ class StateFile:
         work = functools.partial(write_state, self._path, self._look())
         why = await asyncio.get_running_loop().run_in_executor(self._writer, work)
         if why and not self._why:
-            say(f"the state can't be written: {why}")
+            say(f"the status file can't be written: {why}")
         self._why = why
 
     def close(self) -> None:

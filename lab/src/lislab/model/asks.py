@@ -27,13 +27,13 @@ def _sample(word: str) -> int:
     """The component of `3` or `Q.3.3`."""
     found = re.match(r"(?:Q\.3\.)?([1-9]\d?)$", word)
     if not found:
-        raise ValueError(f"{word}: the sample of a query is a component of Q-3, as 3 or Q.3.3")
+        raise ValueError(f"{word}: the sample of a query is a component of Q-3, for example 3 or Q.3.3")
     return int(found[1])
 
 
 def _all(word: str) -> bool:
     if word not in ("yes", "no"):
-        raise ValueError(f"yes or no is wanted, not {word}")
+        raise ValueError(f"expected yes or no, not {word}")
     return word == "yes"
 
 
@@ -41,21 +41,21 @@ def _echo(word: str) -> Tuple[int, int]:
     """The field, and the first component of Q-3, of `O.3` or `O.4:4`."""
     found = re.match(r"O\.([34])(?::([1-9]\d?))?$", word)
     if not found:
-        raise ValueError(f"{word}: O.3 or O.4 is wanted, and maybe the first component of Q-3 that goes there, as O.4:4")
+        raise ValueError(f"{word}: expected O.3 or O.4, perhaps with the first component of Q-3 that goes there, for example O.4:4")
     return int(found[1]), int(found[2] or 1)
 
 
 def _again(word: str) -> float:
     found = re.match(r"(\d{1,6}) ?(s|min|h|d)?$", word)
     if not found:
-        raise ValueError(f"{word}: a time is wanted, as 24h, 30min or 0")
+        raise ValueError(f"{word}: expected a time, for example 24h, 30min or 0")
     return float(int(found[1]) * _UNITS[found[2] or ""])
 
 
 def _command(word: str) -> Tuple[str, ...]:
     found = tuple(shlex.split(word))
     if not found:
-        raise ValueError("a command is wanted")
+        raise ValueError("expected a command")
     return found
 
 

@@ -94,7 +94,7 @@ class _File:
         try:
             section = _Section(first, rows)
         except configparser.MissingSectionHeaderError as error:
-            self.fault(first - 1 + error.lineno, "a line's name is wanted first, as [chemistry]")
+            self.fault(first - 1 + error.lineno, "expected a line's name first, for example [chemistry]")
         except configparser.DuplicateOptionError as error:
             self.fault(first - 1 + (error.lineno or 1), f"{error.option} is there twice")
         except configparser.DuplicateSectionError as error:
@@ -110,7 +110,7 @@ class _File:
         """A section that could be read: a line, or faults."""
         before = len(self._faults)
         if not name:
-            self.fault(first, "the name of a line is wanted, as [chemistry]")
+            self.fault(first, "expected the name of a line, for example [chemistry]")
         self._once(self._names, name, first, f"the name {name}")
         found = [key for key in _WHERE if key in given]
         if len(found) != 1:

@@ -150,7 +150,7 @@ def _encoding(word: str) -> str:
     try:
         return codecs.lookup(word).name
     except (LookupError, ValueError):
-        raise OptionError(f"there is no encoding {word}: name one as latin-1, utf-8 or gbk") from None
+        raise OptionError(f"there is no encoding {word}: name one, for example latin-1, utf-8 or gbk") from None
 
 
 def _orders(word: str) -> str:
@@ -167,7 +167,7 @@ def _none(word: str) -> str:
 
 def _mode(word: str) -> str:
     if not _MODES.match(word):
-        raise OptionError(f"{word}: a mode is data bits, parity and stop bits, as 8N1 or 7E1")
+        raise OptionError(f"{word}: a mode is data bits, parity and stop bits, for example 8N1 or 7E1")
     return word
 
 
@@ -216,13 +216,13 @@ def _careful(word: str) -> str:
 
 def _sample(word: str) -> str:
     if not _SAMPLE.match(word):
-        raise OptionError(f"{word}: the sample is O.3, O.4 or a component of one, as O.4.3, or none")
+        raise OptionError(f"{word}: the sample is O.3, O.4, a component such as O.4.3, or none")
     return word
 
 
 def _test(word: str) -> str:
     if not re.match(r"[1-9]\d?(?:\^[1-9]\d?)*$", word):
-        raise OptionError(f"{word}: the test is a component of R-3, as 4, or some of them, as 4^7")
+        raise OptionError(f"{word}: the test is a component of R-3, for example 4, or several, for example 4^7")
     return word
 
 
@@ -230,13 +230,13 @@ def _zone(word: str) -> str:
     try:
         return zoneinfo.ZoneInfo(word).key
     except (zoneinfo.ZoneInfoNotFoundError, ValueError, OSError):
-        raise OptionError(f"there is no time zone {word}: name one as Europe/Berlin") from None
+        raise OptionError(f"there is no time zone {word}: name one, for example Europe/Berlin") from None
 
 
 def _one_of(words: Sequence[str]) -> Callable[[str], str]:
     def read(word: str) -> str:
         if word not in words:
-            raise OptionError(f"{' or '.join(words)} is wanted, not {word}")
+            raise OptionError(f"expected {' or '.join(words)}, not {word}")
         return word
 
     return read
@@ -316,7 +316,7 @@ def split_address(word: str) -> Tuple[str, int]:
     """The host and the port of `HOST:PORT`, `[IPV6]:PORT` or `PORT`, which is one of this machine."""
     found = re.match(r"(?:(?:\[([^\]]+)\]|([^:]*)):)?(\d{1,5})$", word)
     if not found or int(found[3]) > 65535:
-        raise OptionError(f"{word}: HOST:PORT is wanted")
+        raise OptionError(f"{word}: expected HOST:PORT")
     return found[1] or found[2] or "127.0.0.1", int(found[3])
 
 
@@ -324,7 +324,7 @@ def split_peer(word: str) -> Tuple[str, int]:
     """The host and the port of an address that is connected to."""
     host, port = split_address(word)
     if not port:
-        raise OptionError(f"{word}: a port from 1 to 65535 is wanted")
+        raise OptionError(f"{word}: expected a port from 1 to 65535")
     return host, port
 
 
@@ -332,7 +332,7 @@ def split_device(word: str) -> Tuple[str, int]:
     """The device and the speed of `DEVICE:SPEED`."""
     device, _, speed = word.rpartition(":")
     if not device or not re.match(r"[0-9]+$", speed):
-        raise OptionError(f"{word}: DEVICE:SPEED is wanted, as /dev/ttyUSB0:9600")
+        raise OptionError(f"{word}: expected DEVICE:SPEED, for example /dev/ttyUSB0:9600")
     return device, int(speed)
 
 
@@ -362,7 +362,7 @@ def networks_of(words: Sequence[str], setting: str = "--allow") -> List[Network]
     try:
         return [ipaddress.ip_network(word, strict=False) for word in words]
     except ValueError as error:
-        raise OptionError(f"{setting}: {error}; a network is wanted, as 10.0.5.0/24") from None
+        raise OptionError(f"{setting}: {error}; expected a network, for example 10.0.5.0/24") from None
 
 
 #: All networks.

@@ -80,7 +80,7 @@ class PostgresStore(SqlStore):
         for statement in _SESSION:
             self.run(statement)
         if self.run("SELECT current_setting('fsync')").fetchone()[0] == "off":
-            raise StoreError("the server keeps nothing: fsync is off")
+            raise StoreError("the server stores nothing durably: fsync is off")
         if self.run("SELECT current_setting('synchronous_commit')").fetchone()[0] == "off":
             self.run("SET synchronous_commit = on")
         self.refuse_later()

@@ -101,7 +101,7 @@ def _locked(path: str, say: Callable[[str], None]) -> int:
             os.pwrite(lock, str(os.getpid()).encode(), 0)
             return lock
         if _is_there(path + ".lock"):
-            raise StoreError(f"{path}: another delivery has this cursor")
+            raise StoreError(f"{path}: another delivery uses this cursor")
         if not is_said:
             say(f"{path}: a command of a delivery that was killed still runs, and is waited for")
             is_said = True
@@ -386,7 +386,7 @@ class _Round:
     def _found(self, held: Held) -> Stored:
         one = next(iter(self._to.store.messages(held.number - 1, 1)), None)
         if one is None or one.key != held.key:
-            raise Refused("the store hasn't this message any more")
+            raise Refused("the store no longer has this message")
         return one
 
 

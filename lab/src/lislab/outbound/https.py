@@ -91,9 +91,9 @@ class Https:
     def __init__(self, url: str, seconds: float, context: ssl.SSLContext, headers: Optional[str] = None) -> None:
         parts = urlsplit(url)
         if not parts.hostname or parts.username or parts.fragment or re.search(r"[^!-~]", url):
-            raise OptionError(f"{url}: https://HOST[:PORT]/PATH is wanted")
+            raise OptionError(f"{url}: expected https://HOST[:PORT]/PATH")
         if parts.scheme == "http" and not is_loopback(parts.hostname):
-            raise OptionError(f"{url}: http:// has no secrecy, and is for this machine alone, as http://127.0.0.1")
+            raise OptionError(f"{url}: http:// has no secrecy, and is only for this machine, for example http://127.0.0.1")
         self._where = parts.netloc
         self._path = (parts.path or "/") + (f"?{parts.query}" if parts.query else "")
         self._headers, self._seconds, self._is_late = headers, seconds, False
@@ -105,7 +105,7 @@ class Https:
                     parts.hostname, parts.port, timeout=seconds, context=context
                 )
         except ValueError:
-            raise OptionError(f"{url}: a port from 1 to 65535 is wanted") from None
+            raise OptionError(f"{url}: expected a port from 1 to 65535") from None
         self._line.response_class = _Answer
 
     def deliver(self, data: bytes, key: str, kind: str) -> None:

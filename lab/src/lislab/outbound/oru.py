@@ -74,7 +74,7 @@ def wishes_of(words: Sequence[str]) -> Wishes:
     for word in words:
         name, equals, value = word.partition("=")
         if not equals or not value:
-            raise OptionError(f"{word}: NAME=VALUE is wanted")
+            raise OptionError(f"{word}: expected NAME=VALUE")
         if name in _HEADER:
             header[_HEADER[name]] = value
         elif name in _IDENTITIES:

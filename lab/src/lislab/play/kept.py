@@ -123,4 +123,4 @@ class Keeping:
         for record, count in there.items():
             if count > must[record] + may[record]:
                 found.append(_of(record, must[record] + may[record], count))
-        return f"looked at what is kept: {sum(must.values())} records of complete messages", found
+        return f"checked what is stored: {sum(must.values())} records of complete messages", found

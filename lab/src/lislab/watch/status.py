@@ -182,7 +182,7 @@ def text_of(data: Dict[str, Any]) -> str:
         rows.append(f"{name}: codes that its code mapping lacks: " + ", ".join(f"{code} {codes[code]}" for code in codes))
     for name, kinds in sorted(data["not_said"].items()):
         counts = ", ".join(f"{count} of kind {kind}" for kind, count in sorted(kinds.items()))
-        rows.append(f"{name}: notices that were not said: {counts}")
+        rows.append(f"{name}: suppressed events: {counts}")
     return "".join(shown(row) + "\n" for row in [head, *rows, *_order_rows(data)])
 
 

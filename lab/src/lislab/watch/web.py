@@ -263,7 +263,7 @@ class Handler(BaseHTTPRequestHandler):
         if not is_wanted and path in OPEN:
             return None
         if asked.token:
-            return Answer(401, HTML, page.page("A token is wanted", "<p>Any name, and the token as its password.</p>"))
+            return Answer(401, HTML, page.page("A token is needed", "<p>Any name, and the token as its password.</p>"))
         return Answer(403, HTML, page.page("What records say is shown by a token alone", f"<p>{NO_TOKEN}</p>"))
 
     def _is_named(self) -> bool:
