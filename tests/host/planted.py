@@ -554,7 +554,7 @@ FAULTS = {
         "diagnosis/pulse.py", "disk is full|no space left|", "disk is full|no space left|connection|server|"
     ),
     "test_watch_page.Alerts.test_alerts": Edit(
-        "watch/metrics.py", '"lislab_texts_not_kept_total"', '"lislab_not_kept_total"'
+        "watch/metrics.py", '"lislab_texts_not_stored_total"', '"lislab_not_stored_total"'
     ),
     "test_watch_page.Looks.test_a_reader_of_metrics": Edit("watch/metrics.py", ".replace('\"', '\\\\\"')", ""),
     "test_watch_page.Looks.test_browser": Edit("watch/page.py", "html.escape(shown, quote=True)", "shown"),

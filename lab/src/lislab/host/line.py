@@ -425,7 +425,7 @@ class Line:
         try:
             await self._keep_in_parts(text)
         except (StoreError, TooLong) as error:
-            self._counts["not_kept"] += 1
+            self._counts["not_stored"] += 1
             self._tell(NotKept(error))
             self._is_long = False
             self._tries.clear()

@@ -43,7 +43,7 @@ _COUNTERS = (
     ("lislab_frames_total", "Frames that were accepted.", "frames"),
     ("lislab_duplicate_frames_total", "Frames that came again after they were accepted.", "duplicates"),
     ("lislab_texts_total", "Texts of frames.", "texts"),
-    ("lislab_texts_not_kept_total", "Texts that could not be kept, and were not acknowledged.", "not_kept"),
+    ("lislab_texts_not_stored_total", "Texts that could not be stored, and were not acknowledged.", "not_stored"),
     ("lislab_late_replies_total", "Replies that were not sent, since they would have been late.", "late"),
     ("lislab_noise_total", "ENQ and STX that came inside a session or a frame.", "noise"),
     ("lislab_timeouts_total", "Sessions in which the analyzer fell silent.", "timeouts"),
@@ -103,7 +103,7 @@ def _of_lines(out: Metrics, lines: Dict[str, Any]) -> None:
     out.add("lislab_connected", "gauge", "Connections that are open.")
     for line, one in lines.items():
         out.sample("lislab_connected", one["connected"], [("line", line)])
-    out.add("lislab_last_message_timestamp_seconds", "gauge", "When the last complete message was kept.")
+    out.add("lislab_last_message_timestamp_seconds", "gauge", "When the last complete message was stored.")
     for line, one in lines.items():
         if one["last"] is not None:
             out.sample("lislab_last_message_timestamp_seconds", one["last"], [("line", line)])

@@ -198,7 +198,7 @@ _COUNTED = {
     "frames": "frames accepted",
     "duplicates": "frames that came again",
     "texts": "texts",
-    "not_kept": "texts that could not be kept",
+    "not_stored": "texts that could not be stored",
     "late": "replies that would have been late",
     "noise": "ENQ and STX inside a session or a frame (noise)",
     "timeouts": "sessions that fell silent",

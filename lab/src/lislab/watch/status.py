@@ -25,7 +25,7 @@ _COLUMNS = (
     "invalid",
     "rejected",
     "late",
-    "not_kept",
+    "not_stored",
     "last",
 )
 
@@ -89,7 +89,7 @@ def rows_of(store: Store, state: Dict[str, Any]) -> List[Dict[str, Any]]:
     for name in sorted({*kept, *live}):
         row: Dict[str, Any] = {
             one: live.get(name, {}).get(one, 0)
-            for one in ("connected", "queries", "found_nothing", "rejected", "late", "not_kept", "noise")
+            for one in ("connected", "queries", "found_nothing", "rejected", "late", "not_stored", "noise")
         }
         row["came"] = live.get(name, {}).get("connections", 0)
         row["late"] += live.get(name, {}).get("late_replies", 0)
