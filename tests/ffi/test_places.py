@@ -14,7 +14,8 @@ GUARD = 0x5a5a5a5a5a5a5a5a
 
 
 def placed(text, room):
-    """The status, what is said of the message, the fault, and an array that has room and two places more, as numbers."""
+    """The status, what is said of the message, the fault, and an array that has room and two places more, as
+    numbers."""
     out = (ctypes.c_uint64 * (PLACE * (room + 2)))(*[GUARD] * (PLACE * (room + 2)))
     message, found = _library.MessageOut(), _library.Found()
     status = _library.calls()["message_places"](text, len(text), out, room, ctypes.byref(message), ctypes.byref(found))

@@ -1,5 +1,5 @@
-"""Sizes and symbols: what tools/sizes measures, the constants of blocks, what the library calls, and what the shared one
-exports."""
+"""Sizes and symbols: what tools/sizes measures, the constants of blocks, what the library calls, and what the shared
+one exports."""
 import os
 import re
 import subprocess

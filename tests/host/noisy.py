@@ -24,8 +24,8 @@ class Silent(Exception):
 
 
 class Analyzer:
-    """An analyzer on a wire that changes one byte of each frame the first time that it is sent. It waits so many seconds
-    for a reply, and connects anew after a session that failed."""
+    """An analyzer on a wire that changes one byte of each frame the first time that it is sent. It waits so many
+    seconds for a reply, and connects anew after a session that failed."""
 
     def __init__(self, port, seed, patience):
         self.port, self.rng, self.patience = port, random.Random(seed), patience

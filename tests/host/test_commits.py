@@ -32,8 +32,8 @@ class Owed(HostTest):
     """Units that are owed."""
 
     def test_one_that_fails(self):
-        """One unit that can't be kept holds up no other; the others are kept without anything else that is put, and their
-        futures are done then and not before."""
+        """One unit that can't be kept holds up no other; the others are kept without anything else that is put, and
+        their futures are done then and not before."""
         store, keys = FailingStore(2), ["bad", *map(str, range(20))]
 
         async def runs():

@@ -62,7 +62,8 @@ class Deliveries(HostTest):
         self.has("watch", done.stdout, f"{name}: quarantine  bad    1 message in quarantine")
 
     def test_another_store(self):
-        """A cursor that is ahead of the store, or of another one, is bad: in deliver's own words, of all who show it."""
+        """A cursor that is ahead of the store, or of another one, is bad: in deliver's own words, of all who show
+        it."""
         ahead, other = (9_999_999_999_999_999, f"{7:016x}"), (1, "f" * 16)
         for kind, store, (number, key) in (
             ("SQLite, ahead", self.path("ahead.db"), ahead),

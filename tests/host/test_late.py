@@ -18,7 +18,7 @@ from tests.host.test_orders import SLOW, states
 
 FRAME = frame(1, b"H|\\^&\r")
 #: What is said of a line on which a late reply could be taken for another one.
-SAID = "without waits=new-line, a late reply could be mistaken for the reply to the next ENQ"
+SAID = "without waits=new-line, a late reply could be mistaken for the next ENQ's reply"
 
 
 def ports_of(host):

@@ -370,7 +370,8 @@ class Lines(HostTest):
         self.same("its message is kept", [one.body for one in Found(host.store).whole], [b"".join(TEXTS)])
 
     def test_enq_behind_eot(self):
-        """An analyzer sends ENQ right after EOT, again and again: a stop cuts no session, since that ENQ gets no ACK."""
+        """An analyzer sends ENQ right after EOT, again and again: a stop cuts no session, since that ENQ gets no
+        ACK."""
         host = Host(self.path("behind.db"), scale=1.0)
         with Client(host.port) as client:
             self.same("a session", client.asks(ENQ), ACK)
@@ -386,8 +387,8 @@ class Lines(HostTest):
         self.same("sessions that were cut", [one.reason for one in found.others], [])
 
     def test_giving_way(self):
-        """The ENQ of a connection that has to give way is on its way: it gets no ACK, so there are never more lines than
-        are allowed."""
+        """The ENQ of a connection that has to give way is on its way: it gets no ACK, so there are never more lines
+        than are allowed."""
         sent = []
 
         async def runs():
@@ -405,8 +406,8 @@ class Lines(HostTest):
         self.same("what is sent", sent, [])
 
     def test_observers(self):
-        """Who listens to a line and fails changes nothing on it: the replies are the same, the others hear the same, and each
-        failure is said."""
+        """Who listens to a line and fails changes nothing on it: the replies are the same, the others hear the same,
+        and each failure is said."""
         async def runs(those):
             sent, heard, said = [], [], []
             wire = unittest.mock.Mock(is_tcp=True, write=sent.append)

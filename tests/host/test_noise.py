@@ -60,8 +60,8 @@ class Careful(HostTest):
         return host, {row.split()[2]: int(row.split()[1].rsplit(":", 1)[1]) for row in host.rows if "listening" in row}
 
     def test_enq_and_stx(self):
-        """ENQ in a session ends it and has no reply; a frame that begins inside an unfinished one is rejected. It is said,
-        counted, and a row of `watch` until a message is whole."""
+        """ENQ in a session ends it and has no reply; a frame that begins inside an unfinished one is rejected. It is
+        said, counted, and a row of `watch` until a message is whole."""
         host, ports = self.started()
         one, two, *rest = [frame(number, text) for number, text in enumerate(TEXTS, 1)]
         for name, port in ports.items():

@@ -341,7 +341,8 @@ class Commands(HostTest):
     """`lislab order`."""
 
     def test_commands(self):
-        """Orders are added, listed, cancelled and wait again; a file with a fault adds nothing unless some are asked."""
+        """Orders are added, listed, cancelled and wait again; a file with a fault adds nothing unless some are
+        asked."""
         store, file = self.path("commands.db"), self.path("orders.csv")
         with open(file, "w", encoding="utf-8") as out:
             out.write("sample,tests,line\nS7,GLU K,chemistry\nS8,NA,\n")
@@ -449,7 +450,8 @@ class Answers(HostTest):
         self.true("sent", wait_for(lambda: set(states(host.store).values()) == {"sent"}), states(host.store))
 
     def test_command(self):
-        """`--query-command` answers. If it fails, is late or writes no message, the host logs that and sends no order."""
+        """`--query-command` answers. If it fails, is late or writes no message, the host logs that and sends no
+        order."""
         answer = "H|\\^&\nP|1\nO|1|S7||^^^X\nL|1\n"
         rows = {
             "answers": (f"import sys; sys.stdin.read(); print({answer!r}, end='')", [b"H", b"P", b"O", b"L"]),
@@ -745,7 +747,8 @@ class Unheard(HostTest):
 
 
 class Fire(HostTest):
-    """Hosts are killed, lines pulled, replies late: no order is sent that the analyzer did not take, and none is lost."""
+    """Hosts are killed, lines pulled, replies late: no order is sent that the analyzer did not take, and none is
+    lost."""
 
     def rounds(self, count, kill, late=0.0, noise=0.0, seed=7, scale=SCALE):
         """Sends so many orders to an analyzer while the host is killed and the line pulled by chance, and both ask at

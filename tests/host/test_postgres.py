@@ -318,8 +318,8 @@ class Postgres(HostTest):
         self.same(f"a start while another host commits {why}", (held, status), (True, 0))
 
     def test_earlier_tables(self):
-        """Tables of version 2: they are read as they are. A host upgrades them, whenever that is broken off, and unless an
-        earlier host is running."""
+        """Tables of version 2: they are read as they are. A host upgrades them, whenever that is broken off, and unless
+        an earlier host is running."""
         text = re.sub(r"X'(\w*)'", r"'\\x\1'", kit.read("tests/host/stores/version-2.sql").split("PRAGMA")[0])
         text = text.replace("BLOB", "BYTEA").replace(" WITHOUT ROWID", "").replace("BEGIN TRANSACTION;", "").replace("COMMIT;", "")
         store = self.server.address("earlier")

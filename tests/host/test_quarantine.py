@@ -1,5 +1,5 @@
-"""Deliveries that quarantine messages: those that fail too often, with later ones of the same samples; all others go on,
-and the order of a sample's messages is kept."""
+"""Deliveries that quarantine messages: those that fail too often, with later ones of the same samples; all others go
+on, and the order of a sample's messages is kept."""
 import json
 import os
 import random

@@ -86,8 +86,8 @@ class EachWrite:
                 self.true(f"write {number} fails, {how}, undone first: {undo_first}", good, self.shown(whole))
 
     def test_what_is_owed(self):
-        """What is made of a message is put again after a write that failed, and after an answer that was lost: it is kept
-        once, whatever was kept of it before."""
+        """What is made of a message is put again after a write that failed, and after an answer that was lost: it is
+        kept once, whatever was kept of it before."""
         counted = Fault(1 << 30, "once")
         self.owed(counted)
         for how in ("once", "full", "after"):

@@ -22,7 +22,8 @@ LACKS = {"nothing": "", "orders": "DROP TABLE orders;",
          "columns": "".join(f"ALTER TABLE orders DROP COLUMN {name};" for name in LATER)}
 
 
-#: The messages of a store of version 2, in the words of this version: key, number, state, reason, and which they repeat.
+#: The messages of a store of version 2, in the words of this version: key, number, state, reason, and which they
+#: repeat.
 MESSAGES = [
     ("a", 1, "complete", "", None),
     ("d", 2, "complete", "", "a" * 24),
@@ -69,7 +70,8 @@ class Versions(HostTest):
             return [*store.messages(), *store.others()], orders
 
     def test_version_1(self):
-        """A store of an earlier program is read, taken to this version, and reads the same then; a host goes on with it."""
+        """A store of an earlier program is read, taken to this version, and reads the same then; a host goes on with
+        it."""
         for name, more in LACKS.items():
             path = self.store(name, more)
             before = self.read(path)
@@ -98,8 +100,8 @@ class Versions(HostTest):
         self.same("the host took it", open_store(path).version(), SCHEMA)
 
     def test_version_2(self):
-        """The words for the states change: a store of version 2 is read in those of now, before it is upgraded and after
-        it. An earlier host that is running keeps its store."""
+        """The words for the states change: a store of version 2 is read in those of now, before it is upgraded and
+        after it. An earlier host that is running keeps its store."""
         path = self.store("two", version=2)
         self.same("before", words_of(open_store(path)), MESSAGES)
         counts = [one[:7] for one in open_store(path).counts()]

@@ -125,8 +125,8 @@ class Turns(HostTest):
         self.same("commits", commits, [[["first"]], *rest])
 
     def test_who_works_now_and_then(self):
-        """120 peers have work all the time, and share it; one that works now and then waits for none of them, and hardly
-        if the interpreter collects garbage meanwhile; and they have a little of each turn of the loop."""
+        """120 peers have work all the time, and share it; one that works now and then waits for none of them, and
+        hardly if the interpreter collects garbage meanwhile; and they have a little of each turn of the loop."""
         done, waits, loops = shared([f"busy {number}" for number in range(120)], 20, {5: 0.05})
         self.true("after garbage it waits for few", waits.pop(5) <= 20, waits)
         self.same("it waits for", set(waits), {0})
@@ -155,8 +155,8 @@ class Turns(HostTest):
         self.true("looks at connections", asked[1] - asked[0] < 300, asked)
 
     def test_room_for_texts(self):
-        """Long texts that aren't complete have some room together: for a frame that finds none there is NAK, also in the
-        end; when others are gone, there is room again."""
+        """Long texts that aren't complete have some room together: for a frame that finds none there is NAK, also in
+        the end; when others are gone, there is room again."""
         host = Host(self.path("room.db"), "--listen", "0,name=long,frame=63993", "--listen",
                     "0,name=asks,orders=query,frame=63993", scale=1.0)
         ports = {row.split()[2]: int(row.split()[1].rsplit(":", 1)[1]) for row in host.rows if row.startswith("listen")}

@@ -1,4 +1,5 @@
-"""`lislab send --query`: an analyzer that queries the orders of samples, receives them, and may send results for them."""
+"""`lislab send --query`: an analyzer that queries the orders of samples, receives them, and may send results for
+them."""
 import asyncio
 import random
 import re

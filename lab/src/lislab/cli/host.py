@@ -130,7 +130,8 @@ def _add_serve(one: argparse.ArgumentParser) -> None:
         help="name of this host in the store (the machine's name)",
     )
     _add_limits(one, Limits())
-    one.add_argument("--query-command", metavar="COMMAND", help="answer queries by this command, which reads a query and prints records")
+    answers = "answer queries by this command, which reads a query and prints records"
+    one.add_argument("--query-command", metavar="COMMAND", help=answers)
     add_renamed(one, "serve", "--ask", metavar="COMMAND")
     one.add_argument("--tries", type=_PLACE, default=10, metavar="N", help="try N times to send an order; 0 is no limit (%(default)s)")
     one.add_argument("--capture", metavar="PREFIX", help="record the traffic of every connection to PREFIX-NAME-TIME-N.capture")
@@ -169,7 +170,7 @@ def run_serve(ask: argparse.Namespace) -> int:
     try:
         left = store.start(ask.host_name)
         if left:
-            say(f"{many(len(left), 'message')} {'was' if len(left) == 1 else 'were'} open when the host stopped: incomplete")
+            say(f"{many(len(left), 'message was', 'messages were')} open when the host stopped: incomplete")
         ends = left_of(store, left, {place.name: place.fix for place in asked.places})
         asyncio.run(serve.serve(asked, store, ends))
     finally:
@@ -240,7 +241,7 @@ def _outbox_of(
             raise OptionError("--query-command answers on lines with orders=query")
         return None
     if command and any(place.orders == "download" for place in places):
-        raise OptionError("a line with orders=download sends the orders of the store, and --query-command only answers queries")
+        raise OptionError("a line with orders=download sends orders of the store: --query-command only answers queries")
     book = functools.partial(open_book, ask.store, ask.host_name)
     return functools.partial(Outbox, book, command, ask.tries, ask.scale)
 
@@ -373,10 +374,8 @@ def _add_export(one: argparse.ArgumentParser) -> None:
     one.add_argument(
         "--after", type=_PLACE, default=0, metavar="NUMBER", help="only complete messages with a greater number"
     )
-    states = (COMPLETE, INCOMPLETE, INVALID, "all")
-    one.add_argument(
-        "--state", type=renamed.state_of, choices=states, default=COMPLETE, help="only messages in this state (%(default)s)"
-    )
+    states, only = (COMPLETE, INCOMPLETE, INVALID, "all"), "only messages in this state (%(default)s)"
+    one.add_argument("--state", type=renamed.state_of, choices=states, default=COMPLETE, help=only)
     add_forms(one)
     one.add_argument("-o", "--output", metavar="FILE", help="write to FILE, readable only by its owner")
     one.set_defaults(run=run_export)

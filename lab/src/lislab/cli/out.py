@@ -207,7 +207,7 @@ def _add_codes(one: argparse.ArgumentParser) -> None:
     one.add_argument("--store", metavar="STORE", help="list the codes of this store that the table lacks")
     one.add_argument("--line", metavar="NAME", help="only results of this line")
     one.add_argument("--lines", metavar="FILE", help="a lines file, for each line's setting `test`")
-    one.add_argument("file", metavar="FILE", help=f"the test code mapping, CSV with the columns {', '.join(codes.COLUMNS)}")
+    one.add_argument("file", metavar="FILE", help=f"the mapping, CSV with the columns {', '.join(codes.COLUMNS)}")
     one.set_defaults(run=run_codes)
 
 

@@ -134,7 +134,7 @@ def _asked(ask: argparse.Namespace) -> Asked:
     if ask.token and os.stat(ask.token).st_mode & 0o077:
         raise OptionError(f"{ask.token}: a token is its owner's alone: chmod 600")
     if not is_loopback(address) and not (ask.allow and token):
-        raise OptionError(f"{ask.http} isn't loopback: name the networks that may connect by --allow, and a file with a token by --token")
+        raise OptionError(f"{ask.http} isn't loopback: name networks by --allow, and a file with a token by --token")
     return Asked(address, port, networks_of(ask.allow), token, ask.cursor)
 
 

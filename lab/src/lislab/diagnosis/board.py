@@ -50,7 +50,8 @@ class Board:
             found = one.says(unusable.get(name, ""), name in called)
             unknown = sum(state["unknown_codes"].get(name, {}).values())
             if unknown:
-                found = found._replace(text=f"{found.text}; {many(unknown, 'result')} with a code that its code mapping lacks")
+                more = f"{many(unknown, 'result')} with a code that its code mapping lacks"
+                found = found._replace(text=f"{found.text}; {more}")
             lines[name] = self._line(found, one, state["lines"].get(name, {}))
         return {**state, "scale": self._scale, "lines": lines}
 

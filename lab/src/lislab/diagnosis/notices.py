@@ -9,9 +9,9 @@ from ..model.said import about
 
 #: So many notices of a line and a kind at once, and then one each so many seconds.
 AT_ONCE, SECONDS = 10, 30.0
-#: The kinds of notices: lines that came, went or may not connect; messages that aren't complete; rejected frames; replies
-#: that were late; sessions and bytes of which nothing was understood; codes that a table lacks; letters of another
-#: encoding; noise on the line; all else.
+#: The kinds of notices: lines that came, went or may not connect; messages that aren't complete; rejected frames;
+#: replies that were late; sessions and bytes of which nothing was understood; codes that a table lacks; letters of
+#: another encoding; noise on the line; all else.
 CONNECTION, MESSAGE, FRAME, REPLY, SESSION, OTHER = "connection", "message", "frame", "reply", "session", "other"
 CODES, LETTERS, NOISE = "codes", "letters", "noise"
 REJECTED = (

@@ -23,8 +23,8 @@ from .verdicts import BAD, GOOD, Verdict, Ways, advice_on, is_way, plain_hint, w
 #: For so many seconds nothing may follow an acknowledged ENQ, and stray bytes may be without an ENQ; after so many
 #: seconds without a message a line is quiet. They are as many times as long as the timers of a test.
 PATIENCE, QUIET = 10.0, 1800.0
-#: So many rejected frames in a row are bad, and so many bytes that are noise before the next message; so many sessions in
-#: a row that end without a frame; so many echoes.
+#: So many rejected frames in a row are bad, and so many bytes that are noise before the next message; so many sessions
+#: in a row that end without a frame; so many echoes.
 IN_A_ROW, EMPTY, ECHOES = 3, 5, 3
 #: So many queries in a row for which there is no order.
 IN_VAIN = 5

@@ -1,4 +1,5 @@
-"""What a host says of a connection: frames that it rejects, sessions and bytes of which nothing is understood, noise."""
+"""What a host says of a connection: frames that it rejects, sessions and bytes of which nothing is understood,
+noise."""
 from typing import Callable, Optional
 
 from lislink.codes import FrameFault, Note
@@ -61,8 +62,8 @@ class Watch:
         self._say(f"closed {closed.why}; bytes {self.heard}, sessions {self.sessions}", CONNECTION)
 
     def _note_enq(self, step: Step) -> None:
-        """Says of an ENQ whether it is noise: it came in a session, and had no reply. An analyzer that begins anew without
-        EOT sends the next one at once; noise is followed by the rest of its frame, or by EOT."""
+        """Says of an ENQ whether it is noise: it came in a session, and had no reply. An analyzer that begins anew
+        without EOT sends the next one at once; noise is followed by the rest of its frame, or by EOT."""
         at, before = self.at, self._noise_at
         self._noise_at = at if step.note is Note.ENDED else -1
         if step.note is Note.ENDED:

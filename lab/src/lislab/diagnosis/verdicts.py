@@ -500,7 +500,7 @@ class Verdict(enum.Enum):
         "disturbed",
         BAD,
         "",
-        "look at cable, shield and speed; if the analyzer begins sessions again without EOT, set `careful = no` of its line",
+        "look at cable, shield and speed; if the analyzer begins sessions without EOT, set `careful = no` of its line",
         "noise on the line: {times} since {since} ENQ or STX came inside a session or a frame, and no message since",
     )
     HOST_DOWN = ("host-down", BAD, "", "start it: lislab serve", "the host isn't running")

@@ -365,8 +365,8 @@ def _is_behind(after: Connection, before: Connection) -> bool:
 
 
 def joined(found: List[Connection], every: List[Connection], form: str) -> Log:
-    """The bytes of connections that follow one another, of which one is to be chosen if they don't. A remark says how many
-    bytes the other ones have."""
+    """The bytes of connections that follow one another, of which one is to be chosen if they don't. A remark says how
+    many bytes the other ones have."""
     if len(found) > 1 and not _one_after_another(found):
         names = "; ".join(f"--stream {every.index(one) + 1}: {one.name()}" for one in found)
         raise LogError(f"{len(found)} connections have ENQ or STX, choose one: {names}")

@@ -89,4 +89,4 @@ def warn(places: Iterable[Place]) -> None:
             what = "no number and no checksum, so damage isn't noticed; and a receiver that isn't proved"
             say(f"{place.name}: link={place.link} has {what}")
         if place.orders and not isinstance(place, Serial) and not place.waits:
-            say(f"note: {place.name}: without waits=new-line, a late reply could be mistaken for the reply to the next ENQ")
+            say(f"note: {place.name}: without waits=new-line, a late reply could be mistaken for the next ENQ's reply")

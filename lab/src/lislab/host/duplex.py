@@ -263,7 +263,8 @@ class TwoWayLine(Line):
     def _looked_up(self, done: "asyncio.Task[None]") -> None:
         self._answers.discard(done)
         if not done.cancelled() and done.exception() is not None:
-            self._say(f"a query is dropped after an error: {type(done.exception()).__name__}: {done.exception()}", OTHER)
+            fault = done.exception()
+            self._say(f"a query is dropped after an error: {type(fault).__name__}: {fault}", OTHER)
 
     async def _look_up(self, rows: List[Row]) -> None:
         """A query is kept: what the outbox has for it is sent as soon as the line is free."""

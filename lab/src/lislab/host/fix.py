@@ -1,7 +1,7 @@
 """Makes messages that can be delivered from messages that can't be read. A line's setting names the changes, which are
 those of `lislab normalize`. Only one needs no setting: a record that is too long is left out. The message that was
-received stays in the store as it is. Each fixed message is a message of its own, which lists what was changed. No change
-is made that would change a result, or lose any other one."""
+received stays in the store as it is. Each fixed message is a message of its own, which lists what was changed. No
+change is made that would change a result, or lose any other one."""
 import hashlib
 import re
 from typing import FrozenSet, Iterator, List, NamedTuple, Optional, Sequence, Tuple
@@ -46,8 +46,8 @@ def has_long(body: bytes) -> bool:
 
 
 def fixed(body: bytes, names: FrozenSet[str]) -> Optional[Fixed]:
-    """The messages that these changes make; None if they aren't complete then, or if a result is another or gone, but for
-    one whose record is too long."""
+    """The messages that these changes make; None if they aren't complete then, or if a result is another or gone, but
+    for one whose record is too long."""
     out, told, _ = normalize(body, {*names, *ALWAYS})
     messages = _messages(out)
     if not messages:

@@ -1,5 +1,5 @@
-"""What becomes of a line's messages that aren't complete: in their order, by processes of their own, so that no reply of
-another line waits for it. A host that dies makes good at its next start what it left."""
+"""What becomes of a line's messages that aren't complete: in their order, by processes of their own, so that no reply
+of another line waits for it. A host that dies makes good at its next start what it left."""
 import asyncio
 import contextlib
 import functools
@@ -20,8 +20,8 @@ from .fix import MAKES_AN_END, MOST_RECORDS, MOST_TRIED, Ended, Fixed, has_long,
 from .tasks import Tasks
 from .unknown import Unknown
 
-#: So many messages of a line are tried at once, and then one each so many seconds; of all lines so many bytes wait to be
-#: tried.
+#: So many messages of a line are tried at once, and then one each so many seconds; of all lines so many bytes wait to
+#: be tried.
 AT_ONCE, SECONDS, TRIED = 5, 10.0, 2 * MOST_TRIED
 #: Up to so many bytes a message is fixed by a process that has no long work.
 SMALL = 1 << 16
@@ -163,7 +163,8 @@ class Fixer:
         return made
 
     async def changes(self, one: Ended, tries: Optional[List[Ended]] = None) -> List[Change]:
-        """The changes that end a message, with those of the messages that are made of it; none if it goes to `tries`."""
+        """The changes that end a message, with those of the messages that are made of it; none if it goes to
+        `tries`."""
         try:
             found = await self._made(one)
         except Exception as error:  # a fault of the fixing's own is no reason to lose what came

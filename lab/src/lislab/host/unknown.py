@@ -1,4 +1,5 @@
-"""What a line's table of codes lacks: the results of its complete messages are looked up as a delivery looks them up."""
+"""What a line's table of codes lacks: the results of its complete messages are looked up as a delivery looks them
+up."""
 import contextlib
 from collections import Counter
 from typing import Callable, Dict, Optional, Tuple
@@ -62,8 +63,8 @@ class Unknown:
                 self.look(key, row, encoding)
 
     def ended(self, key: str, is_whole: bool) -> Tuple[int, str]:
-        """A message is kept, or isn't complete: how many results of a complete message have codes that the table lacks, and which
-        these are."""
+        """A message is kept, or isn't complete: how many results of a complete message have codes that the table lacks,
+        and which these are."""
         found = self._ending.pop(key, None)
         if not found or not is_whole:
             return 0, ""

@@ -91,8 +91,8 @@ class Wanted(NamedTuple):
         return self._is_within(sample) and self.is_then(collected)
 
     def _is_within(self, sample: str) -> bool:
-        """Whether a sample is in the range. If both ends are numbers, it is a number with as many digits as one of them,
-        or with a count in between; else texts are compared."""
+        """Whether a sample is in the range. If both ends are numbers, it is a number with as many digits as one of
+        them, or with a count in between; else texts are compared."""
         if self.everything:
             return True
         if not (self.first.isdecimal() and self.last.isdecimal()):
@@ -255,8 +255,8 @@ class OrderBook:
     ) -> Asked:
         """Marks orders as asked for at a place, over the connection that has this seat. They are to be sent there now.
         They are those that wait, and those that were sent on the line not longer ago than so many seconds and lack a
-        result; none that is being sent, but by a host that is gone for a while. If some are being sent to the same place,
-        over a connection that may be gone without a word, none is marked, unless nobody waits for these."""
+        result; none that is being sent, but by a host that is gone for a while. If some are being sent to the same
+        place, over a connection that may be gone without a word, none is marked, unless nobody waits for these."""
         now, mine, others, own = self._clock(), 0, 0, self._seat(seat)
         free: Dict[int, str] = {}
         with self._store.changing():
@@ -308,8 +308,8 @@ class OrderBook:
     def take(self, place: str, seat: str, line: str, most: int, without: Iterable[int]) -> List[Placed]:
         """Takes orders that are to be sent now: those that were asked for at a place, over this connection or one that
         is over, or, if the place is empty, those of a line that nobody asked for; urgent ones first. Nobody else has
-        them until `sent`, `tried` or `give_back` is said of them. A row of another program that can't be an order is among
-        them as one that has failed, with the reason; it isn't taken."""
+        them until `sent`, `tried` or `give_back` is said of them. A row of another program that can't be an order is
+        among them as one that has failed, with the reason; it isn't taken."""
         out = sorted(set(without))
         skip = f" AND number NOT IN ({', '.join('?' * len(out))})" if out else ""
         now = self._clock()

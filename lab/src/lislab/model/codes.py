@@ -159,8 +159,8 @@ class Codes:
         self._known: Dict[Tuple[str, str], List[Code]] = {}
 
     def of_orders(self, line: str) -> Dict[str, str]:
-        """The analyzer's code for each of the laboratory's, for the orders of a line: that of the first row that has it.
-        A row whose pattern names more than the maker's code, which is the fourth component, is for results alone."""
+        """For the orders of a line: each code of the laboratory, with the analyzer's code in the first row that has it.
+        A row whose pattern names more than the manufacturer's code, the fourth component, is only for results."""
         found: Dict[str, str] = {}
         for one in sorted(self.rows, key=lambda row: row.line == ""):
             named = one.named() or [(3, one.analyzer)]
@@ -347,7 +347,7 @@ def _with(row: Row, changes: Dict[int, bytes]) -> bytes:
 
 
 def _test(row: Row, code: str, one: Stored) -> bytes:
-    """The field of a test with another code: in the place of the maker's, else alone."""
+    """The field of a test with another code in place of the manufacturer's, or only that code."""
     component = _marks(row)[2]
     parts = row.written(3).split(component)
     if len(parts) < 4 or not parts[3]:
@@ -367,7 +367,7 @@ def field_and_unit(result: Entry) -> Tuple[str, str]:
 
 
 def mark_of(result: Entry) -> str:
-    """What the table of codes says of a result; empty if it says nothing."""
+    """The mark that the code mapping puts on a result; empty if there is none."""
     texts = [text_of(note, 4) for note in result.notes if note.letter == "C"]
     return "; ".join(text[len(MARK) :] for text in texts if text.startswith(MARK))
 
@@ -382,7 +382,7 @@ def codes_of(path: str) -> Codes:
 
 def unknown_of(rows: Sequence[Code], test_of: Callable[[str], str], messages: Iterator[Stored]) -> Dict[str, int]:
     """How many results a table lacks, by their code; with the unit, if it has the code in another one. Which component
-    is the test is said of each line."""
+    is the test is a setting of each line."""
     found: Dict[str, int] = {}
     tables: Dict[str, Codes] = {}
     for one in messages:

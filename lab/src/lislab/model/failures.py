@@ -15,4 +15,5 @@ class Unreachable(Refused):
 
 
 class Quarantined(Refused):
-    """A message can't be delivered with certainty, for example because a result has no sample: it is quarantined at once."""
+    """A message can't be delivered with certainty, for example because a result has no sample: it is quarantined at
+    once."""

@@ -1,4 +1,4 @@
-"""The files that the host writes. Each is there whole, or an OSError says why it isn't; each is its owner's alone."""
+"""Writes files completely, or raises an OSError. Only their owner can read them."""
 import contextlib
 import errno
 import fcntl
@@ -14,7 +14,7 @@ _MODE = 0o600
 
 
 def write_all(descriptor: int, data: bytes) -> None:
-    """Writes all bytes. A write that takes a part of them goes on with the rest."""
+    """Writes all bytes. After a write of only some of them, it writes the rest."""
     left = memoryview(data)
     while left:
         count = os.write(descriptor, left)
@@ -109,7 +109,7 @@ class Unsynced:
         self._size = 0
 
     def write(self, data: bytes) -> None:
-        """Writes it anew, with an OSError if it can't; it is opened once."""
+        """Overwrites the file; OSError if it can't. The file is opened once."""
         if self._file is None:
             how = os.O_WRONLY | os.O_CREAT | os.O_NOFOLLOW | os.O_CLOEXEC
             self._file = FileIO(os.open(self._path, how, _MODE), "wb")

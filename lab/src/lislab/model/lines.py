@@ -23,7 +23,7 @@ class LinesError(OptionError):
 
 
 class Lines(NamedTuple):
-    """The lines of a file, and its faults with those of its tables of codes: each begins with the file and the row. The
+    """The lines of a file. Its faults, and those of its code mappings, each begin with the file and the row. The
     tables by the lines' names, and the files that they are in."""
 
     places: List[Place]
@@ -58,9 +58,9 @@ class _File:
     def __init__(self, path: str, networks: Sequence[Network]) -> None:
         self._path, self._networks = path, networks
         self.places: List[Place] = []
-        #: The rows in which faults are, or that name a table with a fault, and what is said.
+        #: The faults: the row of each, or the row that names a code mapping with a fault, and the text.
         self._faults: List[Tuple[int, str]] = []
-        #: The tables of codes that lines name, by their files.
+        #: The code mappings that lines name, by their files.
         self._tables: Dict[str, Read] = {}
         #: The row of each name, and of each port or device.
         self._names: Dict[str, int] = {}
@@ -133,7 +133,7 @@ class _File:
         for key, word in given.items():
             try:
                 if key not in ("allow", "fix") and "\n" in word:
-                    raise OptionError(f"{key} takes one word, and a row that begins with a blank belongs to it")
+                    raise OptionError(f"{key} has one word; a row that begins with a space belongs to the row above it")
                 if key == kind:
                     where = split(word)
                 elif key == "codes":
@@ -147,7 +147,7 @@ class _File:
         return where, values
 
     def _table(self, word: str, row: int) -> str:
-        """The file of a table, which is read once: its path is relative to that of the lines."""
+        """The path of a code mapping, which is relative to the lines file. The mapping is read once."""
         path = os.path.join(os.path.dirname(self._path), word)
         if path not in self._tables:
             try:
@@ -193,7 +193,7 @@ def read_lines(path: str, networks: Sequence[Network]) -> Lines:
 
 
 def lines_of(path: str, networks: Sequence[Network]) -> Lines:
-    """The same. LinesError if it has faults."""
+    """The lines of a file; LinesError if it has faults."""
     found = read_lines(path, networks)
     if found.faults:
         raise LinesError("\n".join(found.faults))

@@ -1,5 +1,5 @@
-"""Values that are numbers, alone or after a comparator, and ranges of them. All are decimals: no digit is lost, none is
-made up."""
+"""Values that are numbers, perhaps after a comparator, and ranges of numbers. All are decimals: no digit is lost, none
+is made up."""
 import decimal
 import re
 from typing import NamedTuple, Optional

@@ -1,4 +1,4 @@
-"""What a line is: where it is, and how it is heard. Read from the words of a command."""
+"""A line: its address, and its settings, which are read from options and from a lines file."""
 import codecs
 import ipaddress
 import re
@@ -32,11 +32,11 @@ FLOWS = ("none", "rtscts", "xonxoff")
 
 
 class OptionError(Exception):
-    """The words of a command make no sense."""
+    """An option or a setting is wrong."""
 
 
 class Listen(NamedTuple):
-    """A TCP port that is listened on, and the networks that may connect to it alone."""
+    """A TCP port on which the host listens, and the networks that may connect only to it."""
 
     host: str
     port: int
@@ -281,7 +281,7 @@ def read_setting(key: str, word: str) -> Any:
 
 
 def gathered(values: Dict[str, Any]) -> Dict[str, Any]:
-    """The settings of a line, with those of its queries as one."""
+    """The settings of a line; those of its queries become one value, `asks`."""
     of_queries = {asks.READS[key][0]: one for key, one in values.items() if key in asks.READS}
     others = {key: one for key, one in values.items() if key not in asks.READS}
     return {**others, "asks": Asks(**of_queries)}
@@ -297,13 +297,14 @@ def _fitting(place: AnyPlace) -> AnyPlace:
 
 
 def check_settings(place: Place) -> None:
-    """Settings that don't go together."""
+    """OptionError if settings contradict each other."""
     if place.link and place.orders:
         raise OptionError(f"a line with link={place.link} sends no orders: its sessions have no station")
     if getattr(place, "waits", "") and not place.orders:
         raise OptionError("waits: a line on which the host asks has orders = query or download")
     if place.asks != Asks() and not place.orders:
-        raise OptionError(f"{', '.join(asks.told(place.asks))}: a line that answers queries has orders = query or download")
+        keys = ", ".join(asks.told(place.asks))
+        raise OptionError(f"{keys}: a line that answers queries has orders = query or download")
 
 
 def no_line(name: str, names: Iterable[str]) -> str:
@@ -370,7 +371,7 @@ ANY = networks_of(("0.0.0.0/0", "::/0"))
 
 
 def check_allowed(listens: Sequence[Listen], networks: Sequence[Network]) -> None:
-    """Whoever listens beyond this machine says to whom."""
+    """OptionError if a line listens to other machines and no network is named that may connect."""
     for one in listens:
         if not is_loopback(one.host) and not networks and not one.allow:
             raise OptionError(f"{one.host}:{one.port} isn't loopback: name the networks that may connect by --allow")
@@ -385,7 +386,7 @@ def is_loopback(host: str) -> bool:
 
 
 def plain_address(address: str) -> str:
-    """An address as it is counted: that of IPv4 if it is written as one of IPv6 (`::ffff:192.0.2.7`)."""
+    """An address as the host counts it: `::ffff:192.0.2.7` counts as the IPv4 address that it holds."""
     try:
         mapped = getattr(ipaddress.ip_address(address.split("%")[0]), "ipv4_mapped", None)
     except ValueError:

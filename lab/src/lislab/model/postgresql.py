@@ -40,7 +40,7 @@ def _driver() -> Any:
 
 
 class PostgresStore(SqlStore):
-    """A store in a database. A connection that fails is given up, and the next commit makes a new one."""
+    """A store in a database. A connection that fails is closed, and the next commit opens a new one."""
 
     blob, held_to_the_end, skip_locked, states = "BYTEA", False, " FOR UPDATE SKIP LOCKED", STATES_OF_POSTGRESQL
 
@@ -74,7 +74,7 @@ class PostgresStore(SqlStore):
             raise
 
     def _prepare(self) -> None:
-        """Makes a connection one that keeps what it commits, and takes the host's name."""
+        """Sets a connection so that commits are durable, and locks the host's name."""
         assert self._db is not None
         self._db.autocommit = True
         for statement in _SESSION:
@@ -90,7 +90,7 @@ class PostgresStore(SqlStore):
             self.read_as_earlier()
 
     def _take_name(self) -> None:
-        """Takes the host's name, which the server gives back when the connection ends."""
+        """Locks the host's name. The server releases it when the connection ends."""
         until = time.monotonic() + _NAME_SECONDS
         while not self.run("SELECT pg_try_advisory_lock(?, hashtext(?))", (_HOSTS, self.host)).fetchone()[0]:
             if time.monotonic() >= until:
@@ -98,7 +98,7 @@ class PostgresStore(SqlStore):
             time.sleep(0.1)
 
     def is_gone(self, host: str) -> bool:
-        """Another host's name is taken for the length of this transaction, if it can be."""
+        """Whether no host has this name: then the name is locked until this transaction ends."""
         if host == self.host:
             return True
         return bool(self.run("SELECT pg_try_advisory_xact_lock(?, hashtext(?))", (_HOSTS, host)).fetchone()[0])
@@ -119,7 +119,7 @@ class PostgresStore(SqlStore):
         return self._is_held(which, [host] if host else [])
 
     def _is_held(self, which: str, values: Sequence[Any] = ()) -> bool:
-        """Whether a host's name is taken for which this holds."""
+        """Whether a host's name is locked for which this condition holds."""
         database = "(SELECT oid FROM pg_database WHERE datname = current_database())"
         where = f"locktype = 'advisory' AND granted AND objsubid = 2 AND classid = {_HOSTS} AND database = {database}"
         return int(self.read(f"SELECT count(*) FROM pg_locks WHERE {where}{which}", values)[0][0]) > 0

@@ -13,7 +13,7 @@ _DATE = re.compile(r"\d{8}(?:\d{4}(?:\d{2})?)?$")
 
 
 class Query(NamedTuple):
-    """A query: its record, what it asks for, and whether it takes the last one back."""
+    """A query: its record, the samples that it asks for, and whether it cancels the last query."""
 
     row: Row
     wanted: Wanted
@@ -21,8 +21,8 @@ class Query(NamedTuple):
 
 
 def query_of(row: Row, encoding: str, asks: Asks = Asks()) -> Query:
-    """The query of a record with the letter Q. One that names no sample, as after a barcode that can't be read, asks for
-    none."""
+    """The query of a record with the letter Q. One that names no sample, as after a barcode that can't be read, asks
+    for none."""
     first, last = _samples(row, 3, encoding, asks.sample), _samples(row, 4, encoding, asks.sample)
     cancels = (row.part(13) or b"").decode("latin-1").upper() in (*_CANCELS,)
     named = [one for one in first if one.upper() != _ALL]

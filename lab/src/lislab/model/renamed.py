@@ -15,7 +15,7 @@ OPTIONS: Dict[Tuple[str, str], str] = {
     ("deliver", "--aside"): "--quarantine",
     ("deliver", "--again"): "--resend",
 }
-#: States of messages, as `export --state` takes them.
+#: States of messages: values of `export --state`.
 STATES: Dict[str, str] = {"whole": "complete", "unfinished": "incomplete", "unreadable": "invalid"}
 
 _REPORTED: Set[str] = set()

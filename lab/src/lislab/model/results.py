@@ -1,5 +1,5 @@
 """What a message says, in the terms that other systems share: patients, orders with their results, and comments. A
-message of which this can't be said surely is quarantined: nothing of it goes out."""
+message for which this is uncertain is quarantined: nothing of it is delivered."""
 import datetime
 import functools
 import re
@@ -36,7 +36,7 @@ class Reading(NamedTuple):
 
 
 class Coding(NamedTuple):
-    """What a table of codes says of a test: the laboratory's code with its system, the unit's code in UCUM, and the
+    """The entry of a code mapping for a test: the laboratory's code with its system, the unit's code in UCUM, and the
     field that came."""
 
     code: str
@@ -46,7 +46,7 @@ class Coding(NamedTuple):
 
 
 class Coded(NamedTuple):
-    """A message as it goes out by a table of codes: how it is read, what the table says of the tests of its records, by
+    """A message as it is delivered by a code mapping: how it is read, the entries for the tests of its records, by
     the record's number in the message and the test's place in it, and how many results it leaves out."""
 
     one: Stored
@@ -104,7 +104,7 @@ class Ordered(NamedTuple):
 
 
 class Case(NamedTuple):
-    """What goes out together: the orders of a patient; or, without a patient, controls, or orders below a query."""
+    """Orders that are delivered together: of a patient; or, without a patient, controls, or orders below a query."""
 
     patient: Optional[Entry]
     orders: List[Ordered]
@@ -137,7 +137,7 @@ class Told:
         self._tests: Dict[int, Tuple[str, str, Coding, str]] = {}
         self._look_at_letters()
         self.message = message_of(self.one)
-        #: How many orders are left out, since nothing is said of them; how many codes are twice in an order.
+        #: How many orders are left out because they have no content; how many codes an order has twice.
         self.orders_left_out = self.twice = 0
         self.cases = [case for entry in self.message.entries if entry.letter in "PQ" for case in self._cases(entry)]
 
@@ -149,7 +149,7 @@ class Told:
         self.marks += [why] if why else []
 
     def _cases(self, above: Entry) -> Iterator[Case]:
-        """The case of a patient or a query, and that of the controls below it, which are of no patient."""
+        """The case of a patient or a query, and the case of the controls below it, which belong to no patient."""
         told = [one for one in above.orders if one.results or comments_of(one) or report_of(one)]
         self.orders_left_out += len(above.orders) - len(told)
         orders = [self._ordered(one, above) for one in told]
@@ -201,7 +201,7 @@ class Told:
                 raise Quarantined(f"order, record {order.number} of the message: {shown(code)} is there twice, {why}")
 
     def _test(self, entry: Entry) -> Tuple[str, str, Coding, str]:
-        """The code of a result, its whole field, what the table says of it, and its name."""
+        """The code of a result, its whole field, its entry in the code mapping, and its name."""
         found = self._tests.get(entry.number)
         if found is None:
             parts = parts_of(entry, 3)
@@ -351,7 +351,7 @@ def sample_of(order: Entry, patient: Optional[Entry], reading: Reading = Reading
 
 
 def _whole(entry: Entry, field: int) -> str:
-    """A field as one text; empty if it has delimiters alone."""
+    """A field as one text; empty if it has only delimiters."""
     is_there = any(part.strip() for repeat in entry.row.field(field) for part in repeat)
     return field_text(entry, field) if is_there else ""
 

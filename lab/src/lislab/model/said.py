@@ -1,6 +1,5 @@
-"""What the host says, a line at a time. To say something never fails and never waits, whatever its reader does: what
-can't be written now is dropped. If standard error is systemd's journal, an entry has the name of the line that it is
-about, as LISLAB_LINE."""
+"""The host's log, a line at a time. Logging never fails and never waits, whatever its reader does: what can't be
+written now is dropped. If standard error is systemd's journal, an entry has the name of its line as LISLAB_LINE."""
 import contextlib
 import contextvars
 import os
@@ -9,18 +8,18 @@ import socket
 import sys
 from typing import Any, Iterator
 
-#: The most bytes of a line: so many fit into a pipe that takes anything.
+#: The most bytes of a line: a pipe that is writable has room for so many.
 MOST = 2000
 
 
-#: The journal's socket, and the line that is spoken of.
+#: The journal's socket, and the line that entries are about.
 JOURNAL = "/run/systemd/journal/socket"
 _LINE: "contextvars.ContextVar[str]" = contextvars.ContextVar("line", default="")
 
 
 @contextlib.contextmanager
 def about(line: str) -> Iterator[None]:
-    """What is said meanwhile is about this line."""
+    """Entries that are logged meanwhile are about this line."""
     token = _LINE.set(line)
     try:
         yield
@@ -29,7 +28,8 @@ def about(line: str) -> Iterator[None]:
 
 
 def shown(text: str) -> str:
-    """Text for a terminal: what isn't printed there, or turns what is around it, is shown by its number."""
+    """Text for a terminal: a character that isn't printed there, or changes the direction of text, is shown by its
+    number."""
     return "".join(one if one.isprintable() else _number(ord(one)) for one in text)
 
 

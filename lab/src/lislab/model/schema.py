@@ -1,6 +1,6 @@
 """The tables of a store in a database, by their versions, with the step to each version. The words of an earlier step
-stay as they were. Programs before version 2 made the table of orders only once there were orders, so the step to version
-2 makes only what is missing."""
+stay as they were. Programs before version 2 made the table of orders only once there were orders, so the step to
+version 2 makes only what is missing."""
 from .store import COMPLETE, INCOMPLETE, INVALID, OPEN
 
 #: The version of the tables that this program makes.
@@ -39,8 +39,8 @@ ORDERS = (
     "CREATE INDEX IF NOT EXISTS orders_waiting ON orders (sample) WHERE state = 'waiting'",
     "CREATE INDEX IF NOT EXISTS orders_failed ON orders (changed) WHERE state = 'failed'",
 )
-#: Columns that stores of earlier versions lack: what else an order says, the tests whose results came, when the last one
-#: did, and the line on which the order was sent last.
+#: Columns that stores of earlier versions lack: what else an order says, the tests whose results came, when the last
+#: one did, and the line on which the order was sent last.
 LATER = {
     "more": "TEXT NOT NULL DEFAULT '{}'",
     "came": "TEXT NOT NULL DEFAULT '[]'",
@@ -57,7 +57,9 @@ _STATES = f"state IN ('{OPEN}', '{COMPLETE}', '{INCOMPLETE}', '{INVALID}')"
 _NUMBERED = f"(number IS NOT NULL) = (state = '{COMPLETE}')"
 _NOT_COMPLETE = f"CREATE INDEX message_not_complete ON message (began) WHERE state <> '{COMPLETE}'"
 #: The messages of a store of an earlier version in the words of this one.
-EARLIER_MESSAGES = f"SELECT {COLUMNS.replace('state', f'{_STATE} AS state').replace('reason', f'{_REASON} AS reason')} FROM"
+EARLIER_MESSAGES = (
+    f"SELECT {COLUMNS.replace('state', f'{_STATE} AS state').replace('reason', f'{_REASON} AS reason')} FROM"
+)
 #: SQLite changes no condition of a table, so its messages go to another one. Foreign keys must be off meanwhile.
 STATES_OF_SQLITE = (
     "CREATE TABLE message_3 " + _MESSAGE.format(states=_STATES, numbered=_NUMBERED),

@@ -44,7 +44,7 @@ from .store import (
 #: Among how many messages the last ones of a line are looked for: a file is read for each.
 AMONG = 5000
 _FOLDERS = (OPEN, COMPLETE, INCOMPLETE, INVALID, "digests")
-#: The folders of the version before, by those of this one; and how the reason of a message that was fixed began there.
+#: The folders of the version before, by the present ones; the first word of a fixed message's reason in that version.
 _EARLIER, _EARLIER_FIXED = {state: word for word, state in STATES.items()}, "mended"
 
 
@@ -96,7 +96,7 @@ class SpoolStore(Store):
         return sorted([name for name in kept if _size_of(self._path(OPEN, name))])
 
     def _take_last(self) -> None:
-        """Goes on after the last complete message, which a host that died may have left without its mark."""
+        """Continues after the last complete message. A host that died may have left it without its mark."""
         last = max(self._names(COMPLETE), default=None)
         if last is None:
             return
@@ -120,7 +120,7 @@ class SpoolStore(Store):
         return None if any(map(os.path.exists, places)) else key
 
     def _take_left(self) -> List[Stored]:
-        """What an earlier run left open. Files without a text, and those that were being written, go."""
+        """The messages that an earlier run left open. Files without a text, and unfinished ones, are deleted."""
         left = self._names(OPEN)
         for name in os.listdir(self._path(OPEN)):
             if name.split(".about")[0] not in left:
@@ -161,7 +161,7 @@ class SpoolStore(Store):
         self._ended.difference_update(ended)
 
     def _change(self, change: Change, changed: Set[str], folders: Set[str]) -> None:
-        """Does what a change does to the files that are open. What a commit that failed has done already stays."""
+        """Applies a change to the open files. What a failed commit has already done stays."""
         one = self._open.get(change.key)
         if change.key in self._ended or isinstance(change, End):
             return
@@ -402,7 +402,7 @@ class _Open(Appended):
         self.good, self._kept = self.size, self._places
 
     def take_back(self) -> None:
-        """Takes back what came since the last commit."""
+        """Removes what was added since the last commit."""
         self.cut(self.good)
         self._places = self._kept
 

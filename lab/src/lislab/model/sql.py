@@ -161,8 +161,8 @@ class SqlStore(Store):
         return f"(state = '{OPEN}' AND host IN ({', '.join('?' * len(gone))}))" if gone else "(1 = 0)", gone
 
     def apply(self, units: Sequence[Unit]) -> None:
-        """The changes, inside a transaction. What is there already, since a commit was kept whose answer was lost, stays
-        as it is. Numbers come last, so that their lock is short."""
+        """The changes, inside a transaction. What is there already, since a commit was kept whose answer was lost,
+        stays as it is. Numbers come last, so that their lock is short."""
         begins: List[Any] = []
         texts: List[Any] = []
         ends: List[End] = []
@@ -200,8 +200,8 @@ class SqlStore(Store):
             )
 
     def _number(self, ends: Sequence[End]) -> None:
-        """Ends complete messages, each with its number and the first one of its bytes. However many they are, few rows are
-        read: after each row this thread waits for its turn, as long as the lines are busy."""
+        """Ends complete messages, each with its number and the first one of its bytes. However many they are, few rows
+        are read: after each row this thread waits for its turn, as long as the lines are busy."""
         if not ends:
             return
         self.lock_numbers()

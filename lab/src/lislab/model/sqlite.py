@@ -51,7 +51,7 @@ class SqliteStore(SqlStore):
 
     @staticmethod
     def _prepare(db: sqlite3.Connection) -> None:
-        """Makes a connection one that keeps what it commits."""
+        """Sets a connection so that commits are durable."""
         db.execute("PRAGMA synchronous=FULL")
         db.execute("PRAGMA foreign_keys=ON")
 
@@ -87,7 +87,7 @@ class SqliteStore(SqlStore):
         return bool(self.read("SELECT count(*) FROM sqlite_master WHERE name = ?", (name,))[0][0])
 
     def version(self) -> int:
-        """Programs before version 2 noted it in a table alone."""
+        """Programs before version 2 noted it only in a table."""
         return int(self.read("PRAGMA user_version")[0][0]) or super().version()
 
     def set_version(self, version: int) -> None:
@@ -98,7 +98,7 @@ class SqliteStore(SqlStore):
         return [str(row[0]) for row in self.read("PRAGMA integrity_check") if row[0] != "ok"]
 
     def lock_numbers(self) -> None:
-        """A transaction that writes is alone."""
+        """Needs nothing: SQLite lets only one transaction write."""
 
     @contextlib.contextmanager
     def changing(self) -> Iterator[None]:
@@ -115,7 +115,7 @@ class SqliteStore(SqlStore):
         try:
             if self._db.in_transaction:
                 self._db.execute("ROLLBACK")
-        except sqlite3.Error:  # a connection that can't undo is made anew
+        except sqlite3.Error:  # a connection that can't roll back is replaced
             self._db.close()
             self._db = self._connect()
             self._prepare(self._db)

@@ -4,17 +4,17 @@ import os
 import time
 from typing import Iterator, List, NamedTuple, Optional, Sequence, Union
 
-#: The states of a message; and why a message is incomplete that a host left open.
+#: The states of a message; the reason of an incomplete message that a host left open.
 OPEN, COMPLETE, INCOMPLETE, INVALID = "open", "complete", "incomplete", "invalid"
 LEFT = "the host was stopped"
-#: How the reason begins of a message that isn't complete and of which another was made, which is.
+#: The first word of the reason of a message that isn't complete and from which a complete one was made.
 FIXED = "fixed: "
 #: How many messages a page lists.
 LISTED = 100
 
 
 class StoreError(Exception):
-    """Something can't be kept, or a store can't be opened."""
+    """Something can't be stored, or a store can't be opened."""
 
 
 class Begin(NamedTuple):
@@ -28,7 +28,7 @@ class Begin(NamedTuple):
 
 
 class Add(NamedTuple):
-    """Bytes of a message, as they came: those of one text, or the part of a text that belongs to it."""
+    """Bytes of a message as the host received them: one text, or the part of a text that belongs to it."""
 
     key: str
     place: int
@@ -84,8 +84,8 @@ class Head(NamedTuple):
 
 
 class LineCount(NamedTuple):
-    """How many messages of a line are stored. An incomplete or invalid message from which a complete one was made doesn't
-    count."""
+    """How many messages of a line are stored. An incomplete or invalid message from which a complete one was made
+    doesn't count."""
 
     line: str
     complete: int
@@ -99,29 +99,30 @@ class LineCount(NamedTuple):
 
 
 class Store(abc.ABC):
-    """A store. `start` takes it for one host; `commit` returns when all that it was given is on the disk.
+    """A store. `start` opens it for one host. `commit` returns when all changes are on the disk.
 
-    A repeated message (of the same line, with the same bytes) is kept, with the key of the first one.
+    A repeated message (of the same line, with the same bytes) is stored too, with the key of the first one.
     """
 
-    #: How many changes of one line are put to a commit together, so that those of other lines don't wait for long.
+    #: How many changes of one line are committed together at most, so that other lines don't wait for long.
     part = 60
     #: Whether a host has the store as long as it runs, and not only as long as it is connected.
     held_to_the_end = True
 
     @abc.abstractmethod
     def start(self, host: str) -> List[Stored]:
-        """Takes the store for this host: the messages that an earlier run left open, in the order in which they began
-        and without their bytes. They are this host's now, which is to end them. StoreError if another host has it."""
+        """Opens the store for this host and returns the messages that an earlier run left open, in the order in which
+        they began and without their bytes. This host must end them. StoreError if another host has the store."""
 
     @abc.abstractmethod
     def body_of(self, key: str) -> bytes:
-        """The bytes of a message that is open. None may be asked for while changes are committed."""
+        """The bytes of an open message. Don't call it while changes are committed."""
 
     @abc.abstractmethod
     def commit(self, units: Sequence[Unit]) -> None:
-        """Stores these changes: all are on the disk when it returns. After a StoreError none of them may be acknowledged,
-        although some may be on the disk: as an incomplete message, or as the first of two that are marked."""
+        """Stores these changes: all are on the disk when it returns. After a StoreError none of them may be
+        acknowledged, although some may be on the disk: as an incomplete message, or as the first of two that are
+        marked."""
 
     @abc.abstractmethod
     def messages(self, after: int = 0, limit: Optional[int] = None) -> Iterator[Stored]:
@@ -134,7 +135,7 @@ class Store(abc.ABC):
 
     @abc.abstractmethod
     def counts(self) -> List[LineCount]:
-        """What is kept, line by line."""
+        """How many messages of each line are stored."""
 
     @abc.abstractmethod
     def heads(self, after: int, most: int) -> List[Head]:
@@ -158,7 +159,7 @@ class Store(abc.ABC):
 
     @abc.abstractmethod
     def number_at(self, at: float) -> int:
-        """A number such that the messages that were kept at this time or later have one above it."""
+        """A number such that every message stored at this time or later has a greater one."""
 
     @abc.abstractmethod
     def is_held(self, host: str = "") -> bool:
@@ -166,7 +167,7 @@ class Store(abc.ABC):
 
     @abc.abstractmethod
     def close(self) -> None:
-        """Gives the store back."""
+        """Closes the store, so that another host can open it."""
 
 
 def new_key() -> str:

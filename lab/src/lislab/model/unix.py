@@ -65,7 +65,7 @@ class Door:
             if self._looking <= AT_ONCE:
                 await asyncio.wait_for(self._talk(reader, writer), SECONDS)
         except (OSError, ValueError, asyncio.TimeoutError):
-            pass  # who asks no question, or takes no answer, gets none
+            pass  # a peer that sends no question, or reads no answer, gets none
         finally:
             self._looking -= 1
             writer.transport.abort() if writer.transport.get_write_buffer_size() else writer.close()

@@ -1,1 +1,1 @@
-"""What goes out of a store: exports and deliveries, as records, CSV, HL7 and FHIR."""
+"""Exports and deliveries from a store, as records, CSV, HL7 and FHIR."""

@@ -1,5 +1,5 @@
-"""`lislab deliver`: complete messages out of a store to a command or a directory: in order, each at least once. What was
-delivered last is kept in a small file, so that a delivery that was stopped goes on where it was."""
+"""`lislab deliver`: complete messages out of a store to a command or a directory: in order, each at least once. What
+was delivered last is kept in a small file, so that a delivery that was stopped goes on where it was."""
 import contextlib
 import json
 import os
@@ -15,7 +15,7 @@ from ..model.store import Store, StoreError, Stored
 from .quarantine import Held, Quarantine, grant, wishes
 from .export import Writer
 
-#: How long a store without new messages is left alone, and how long a delivery that failed waits: at first, at most.
+#: Seconds until an idle delivery looks for new messages; seconds that a failed delivery waits, at first and at most.
 POLL, FIRST_WAIT, LONGEST_WAIT = 1.0, 1.0, 60.0
 
 
@@ -33,7 +33,7 @@ class Stopped(BaseException):
 
 
 class WrongStore(Exception):
-    """The store isn't the one out of which was delivered so far."""
+    """The cursor belongs to another store."""
 
 
 class Cursor:
@@ -132,7 +132,7 @@ def read_cursor(path: str) -> "tuple[int, str]":
 
 
 def checked_number(store: Store, path: str) -> int:
-    """The number of the message that was delivered last out of this store; WrongStore if the cursor isn't its."""
+    """The number of the last message delivered from this store; WrongStore if the cursor is of another one."""
     number, key = read_cursor(path)
     _check(store, path, number, key)
     return number
@@ -218,7 +218,7 @@ Wants = Callable[[Stored], bool]
 
 
 def to_directory(folder: str, form: str, write: Writer) -> Target:
-    """Puts each message into a file of its own; one that is delivered again takes the same name."""
+    """Writes each message to a file of its own; a repeat has the same name."""
     os.makedirs(folder, 0o700, exist_ok=True)
 
     def deliver(one: Stored) -> bool:
@@ -259,7 +259,7 @@ def to_command(words: List[str], write: Writer, seconds: float, lock: Optional[i
 
 
 def _run(words: List[str], data: bytes, seconds: float, about: Dict[str, str], lock: Optional[int]) -> int:
-    """Runs a command in a group of its own, which is ended if it takes too long: its status."""
+    """Runs a command in a process group of its own, kills the group if it takes too long, and returns the status."""
     kept = () if lock is None else (lock,)
     try:
         child = subprocess.Popen(words, stdin=subprocess.PIPE, env=about, pass_fds=kept, start_new_session=True)
@@ -294,13 +294,14 @@ class Delivery(NamedTuple):
 
 
 class _Round:
-    """What a delivery does again and again: what is asked for, then what came."""
+    """One round of a delivery: first the resends that were asked for, then new messages."""
 
     def __init__(self, delivery: Delivery) -> None:
         self._to, self._quarantine, self._cursor = delivery, delivery.quarantine, delivery.cursor
         #: How many messages are delivered, how many had nothing to hand over, and how many are done with.
         self.delivered = self.empty = self.done = 0
-        #: What is done with, and isn't noted in the cursor; which messages were sent again, and are still in quarantine.
+        #: What is done with, and isn't noted in the cursor; which messages were sent again, and are still in
+        #: quarantine.
         self._unnoted: Optional[Stored] = None
         self._sent: Set[str] = set()
 
@@ -359,8 +360,8 @@ class _Round:
         self.empty += not is_handed
 
     def again(self, key: str) -> bool:
-        """Sends a quarantined message, with those of its samples, in order; whether none of them is left. One that fails
-        holds up those of its samples."""
+        """Sends a quarantined message, with those of its samples, in order; whether none of them is left. One that
+        fails holds up those of its samples."""
         assert self._quarantine is not None
         blocked: Set[str] = set()
         asked = self._quarantine.together(key)

@@ -1,4 +1,4 @@
-"""`lislab export`: messages out of a store."""
+"""`lislab export`: prints messages from a store."""
 import datetime
 import json
 import re
@@ -24,7 +24,7 @@ _FORMULA, _NUMBER = re.compile(r"\s*[=+\-@]"), re.compile(r"[+-]?[\d.,]+(?:[eE][
 
 
 class Wanted(NamedTuple):
-    """Which messages are wanted."""
+    """Which messages to export."""
 
     states: List[str]
     after: int
@@ -44,7 +44,7 @@ def time_text(at: Optional[float]) -> str:
 
 
 def wanted_of(store: Store, wanted: Wanted) -> Iterator[Stored]:
-    """The messages that are wanted: whole ones by their numbers, then the others."""
+    """The messages to export: complete ones by their numbers, then the others."""
     if COMPLETE in wanted.states:
         for one in store.messages(wanted.after):
             if _is_wanted(one, wanted):
@@ -108,7 +108,7 @@ def _message_writer(form: Form, coded: Callable[[Stored], Coded]) -> Writer:
 
 
 def _told(form: Form, coded: Coded) -> Told:
-    """A message as its receiver gets it; what is left out of it is counted."""
+    """A message as its receiver gets it. What is left out is counted."""
     told = Told(coded)
     if form.controls != "with":
         wanted = [one for one in told.cases if one.is_control is (form.controls == "only")]

@@ -72,7 +72,7 @@ class _About(NamedTuple):
 
 
 def bundle_of(told: Told, wishes: Wishes = Wishes()) -> bytes:
-    """The Bundle, in a line of its own; nothing if nothing is said of a patient or a control, as by a query."""
+    """The Bundle in one row; empty if the message has no patient and no control, for example a query."""
     made = _Made(told, wishes)
     for case in told.cases:
         made.add_case(case)
@@ -164,7 +164,7 @@ class _Made:
         return times
 
     def _result_name(self, case: Case, order: Ordered, result: Result) -> _Name:
-        """The name of a result, and that of its test, by which a correction finds what it corrects."""
+        """The identifier of a result, and of its test, by which a correction finds the result that it corrects."""
         who, test = _who(case), [result.field, result.code, result.unit]
         name = self._name(case, order, test, result.at, result.value)
         if not (who and order.sample and result.turn == 0):
@@ -186,7 +186,7 @@ class _Made:
         return self._turns[texts] - 1
 
     def _subject(self, case: Case) -> Optional[Data]:
-        """The patient: in the Bundle if the system of an identity is set, else by its first identity alone."""
+        """The patient: in the Bundle if the system of an identity is set, otherwise only by its first identity."""
         identities = {} if case.patient is None else identities_of(case.patient)
         if case.patient is None or not identities:
             return None
@@ -312,7 +312,7 @@ class _Made:
         return [{"text": each} for each in [*texts, *self._told.marks, *control] if each.strip()]
 
     def _report_name(self, about: _About, urls: List[str]) -> _Name:
-        """The name of a report on these results, and that of its tests, by which a correction finds it."""
+        """The identifier of a report on these results, and of its tests, by which a correction finds the report."""
         found = [self._resources[url]["identifier"] for url in urls]
         values = [one[0]["value"] for one in found]
         if not found:

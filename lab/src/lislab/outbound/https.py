@@ -29,12 +29,12 @@ TYPES = {
 }
 #: The answers that say something of a message. All others are of the server, or of what it was asked.
 _OF_MESSAGE = (400, 409, 412, 413, 422, 500)
-#: So much is read of an answer; so long a server may ask to be left alone. A row of a file of headers.
+#: How many bytes of an answer are read; how many seconds a server may ask to wait; a row of a file of headers.
 _MOST, _LONGEST, _HEADER = 1 << 20, 3600.0, re.compile(r"([!#$%&'*+.^_`|~0-9A-Za-z-]+):\s*([^\x00-\x1f\x7f]+)$")
 
 
 def context_of(authority: Optional[str]) -> ssl.SSLContext:
-    """TLS that verifies certificates: by the system's authorities, or by those of a file."""
+    """TLS that verifies certificates by the system's authorities, or by the authorities of a file."""
     try:
         return ssl.create_default_context(cafile=authority)
     except (OSError, ssl.SSLError) as error:
@@ -93,7 +93,7 @@ class Https:
         if not parts.hostname or parts.username or parts.fragment or re.search(r"[^!-~]", url):
             raise OptionError(f"{url}: expected https://HOST[:PORT]/PATH")
         if parts.scheme == "http" and not is_loopback(parts.hostname):
-            raise OptionError(f"{url}: http:// has no secrecy, and is only for this machine, for example http://127.0.0.1")
+            raise OptionError(f"{url}: http:// isn't encrypted: it is only for this machine, for example http://127.0.0.1")
         self._where = parts.netloc
         self._path = (parts.path or "/") + (f"?{parts.query}" if parts.query else "")
         self._headers, self._seconds, self._is_late = headers, seconds, False
@@ -148,7 +148,7 @@ class Https:
                 line.shutdown(socket.SHUT_RDWR)
 
     def _given(self) -> Dict[str, str]:
-        """The header fields of the file, which is read anew: a token in it may be another one by now."""
+        """The header fields of the file. It is read again for every message, because a token may have been renewed."""
         try:
             return {} if self._headers is None else headers_of(self._headers)
         except (OptionError, OSError) as error:
@@ -178,7 +178,7 @@ class Https:
 
 
 def _wait_of(text: str) -> float:
-    """For how many seconds a server asks to be left alone, by a number of them or a date (RFC 9110, 10.2.3)."""
+    """How many seconds a server asks to wait, as a number or a date (RFC 9110, 10.2.3)."""
     if re.match(r"\d{1,9}$", text):
         return float(text)
     with contextlib.suppress(TypeError, ValueError):
@@ -187,7 +187,7 @@ def _wait_of(text: str) -> float:
 
 
 def to_https(server: Https, write: Writer, form: str) -> Target:
-    """Posts each message to a server; in the form of HL7 that of each patient by itself."""
+    """Posts each message to a server; as HL7, one for each patient."""
 
     def deliver(one: Stored) -> bool:
         data = write(one)

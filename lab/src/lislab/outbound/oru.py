@@ -142,7 +142,7 @@ def control_id(key: str, place: int = 1) -> str:
 
 
 def oru_of(told: Told, wishes: Wishes = Wishes()) -> bytes:
-    """The messages, one after another; nothing if nothing is said of a patient or a control, as by a query."""
+    """The messages, one after another; empty if there is no patient and no control, for example in a query."""
     out = bytearray()
     for place, case in enumerate(told.cases, 1):
         for one in _segments(told, place, case, wishes):
@@ -236,7 +236,7 @@ Report = Tuple[Ordered, List[Result]]
 
 
 def _by_sample(reports: Sequence[Report]) -> Iterator[Report]:
-    """Orders of one sample as one, if they differ in their tests alone."""
+    """Merges orders of one sample that differ only in their tests."""
     found: Dict[Tuple[object, ...], Report] = {}
     for order, results in reports:
         row = order.record.row
@@ -337,7 +337,7 @@ def _service(order: Ordered, results: List[Result]) -> List[str]:
 
 
 def _system(system: str) -> str:
-    """The coding system in HL7; an address is one of FHIR alone."""
+    """The coding system in HL7; an address is a system only of FHIR."""
     return system if system and ":" not in system else "L"
 
 
@@ -348,7 +348,7 @@ def specimen_of(record: Entry) -> Tuple[str, str]:
 
 
 def _report(order: Ordered, results: List[Result]) -> str:
-    """The status of an order's report; if it says none, that of its results."""
+    """The status of an order's report; without one, the status of its results."""
     named = report_of(order.record)
     found = {_status(one) for one in results}
     usual = "P" if found & set("PSI") else "C" if "C" in found else "X" if found == {"X"} else "F"
@@ -411,7 +411,7 @@ def _notes(comments: Sequence[Comment]) -> Iterator[str]:
         yield segment("NTE", {1: str(number), 2: one.source if one.source in ("L", "P") else "O", 3: one.text})
 
 
-#: What of an answer's codes is said: its texts may say what a patient's message says.
+#: The parts of an answer that are logged: only codes, because its texts may repeat a patient's data.
 _CODE = re.compile(r"[A-Za-z0-9^._-]{1,20}$")
 
 

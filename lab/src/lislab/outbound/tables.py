@@ -20,7 +20,7 @@ class _Read(NamedTuple):
 
 class Tables:
     """The tables of a file of codes and of a file of lines, each of which may be left out. With `say` they are read
-    again when a file changed; if one has a fault then, that is said, and they stay as they were."""
+    again when a file changed. If one has a fault then, that is logged, and they stay as they were."""
 
     def __init__(self, codes: Optional[str], lines: Optional[str], say: Optional[Callable[[str], None]] = None) -> None:
         self._codes, self._lines, self._say = codes, lines, say
@@ -69,8 +69,8 @@ class Tables:
         return self._read.readings.get(line, Reading())
 
     def applied(self, one: Stored) -> Coded:
-        """A message by the settings and the table of its line; as it is, if that has none or the message isn't complete.
-        It fails as `applied` of a table does."""
+        """A message by the settings and the table of its line; as it is, if that has none or the message isn't
+        complete. It fails as `applied` of a table does."""
         self._look()
         reading, table = self.reading(one.line), self._read.lines.get(one.line, self._read.others)
         one = in_its_letters(one, reading)

@@ -91,8 +91,8 @@ class Keeping:
             self._part = b""
 
     def expected(self) -> "Tuple[Counter[bytes], Counter[bytes]]":
-        """The records of complete messages, which must be kept; those of others, which may be. A message that came before
-        may be kept again."""
+        """The records of complete messages, which must be kept; those of others, which may be. A message that came
+        before may be kept again."""
         must: List[bytes] = []
         may: List[bytes] = []
         whole: List[List[bytes]] = []

@@ -1,5 +1,5 @@
-"""The state of deliveries: whether one goes on, since when nothing goes and why, how many messages wait, and how many are in
-quarantine. A delivery is known by its cursor."""
+"""The state of deliveries: whether one goes on, since when nothing goes and why, how many messages wait, and how many
+are in quarantine. A delivery is known by its cursor."""
 import os
 import time
 from typing import Any, Dict, Sequence

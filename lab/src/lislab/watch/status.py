@@ -179,7 +179,8 @@ def text_of(data: Dict[str, Any]) -> str:
     for name, settings in sorted(data["would"].items()):
         rows += [f"{name}: {setting} would deliver {many(count, 'message')}" for setting, count in sorted(settings.items())]
     for name, codes in sorted(data["unknown_codes"].items()):
-        rows.append(f"{name}: codes that its code mapping lacks: " + ", ".join(f"{code} {codes[code]}" for code in codes))
+        lacking = ", ".join(f"{code} {count}" for code, count in codes.items())
+        rows.append(f"{name}: codes that its code mapping lacks: {lacking}")
     for name, kinds in sorted(data["not_said"].items()):
         counts = ", ".join(f"{count} of kind {kind}" for kind, count in sorted(kinds.items()))
         rows.append(f"{name}: suppressed events: {counts}")

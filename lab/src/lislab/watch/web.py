@@ -171,8 +171,8 @@ class Pages:
 
 
 class Server(ThreadingHTTPServer):
-    """The server: so many requests at once, and no more, of all and of an address. For one more the oldest connection is
-    cut whose request hasn't come: a request takes moments, and who sends slowly keeps nobody away."""
+    """The server: so many requests at once, and no more, of all and of an address. For one more the oldest connection
+    is cut whose request hasn't come: a request takes moments, and who sends slowly keeps nobody away."""
 
     daemon_threads = True
 
