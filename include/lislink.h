@@ -218,7 +218,7 @@ typedef struct lis_scanner {
 
 /* How many bytes the block of a scanner has. */
 size_t lis_scanner_size(void);
-/* What the address of that block is a multiple of. */
+/* The alignment that this block needs, in bytes. */
 size_t lis_scanner_align(void);
 /* Makes a new scanner in the block, which has read nothing. */
 void lis_scanner_init(void *at);
@@ -285,7 +285,7 @@ typedef struct lis_sender {
 
 /* How many bytes the block of a sender has. */
 size_t lis_sender_size(void);
-/* What the address of that block is a multiple of. */
+/* The alignment that this block needs, in bytes. */
 size_t lis_sender_align(void);
 /* Makes a new sender in the block: without a text, and without a session. */
 void lis_sender_init(void *at);
@@ -427,7 +427,7 @@ typedef struct lis_receiver {
 
 /* How many bytes the block of a receiver has. */
 size_t lis_receiver_size(void);
-/* What the address of that block is a multiple of. */
+/* The alignment that this block needs, in bytes. */
 size_t lis_receiver_align(void);
 /* Makes a new receiver in the block: ready, with room, on a line that isn't open. */
 void lis_receiver_init(void *at);
@@ -523,7 +523,7 @@ typedef struct lis_station {
 
 /* How many bytes the block of a station has. */
 size_t lis_station_size(void);
-/* What the address of that block is a multiple of. */
+/* The alignment that this block needs, in bytes. */
 size_t lis_station_align(void);
 /* Makes a new station in the block: a computer's, whose frames' texts have at most LIS_LIMIT_FRAME_TEXT bytes. */
 void lis_station_init(void *at);
@@ -716,7 +716,7 @@ LIS_ENUM(lis_reason) {
     LIS_REASON_OUT_OF_MEMORY = 7    /* there was no memory for bytes that are held */
 } LIS_ENUM_END(lis_reason);
 
-/* What a reader found: a record, or one that can't be read. What its kind doesn't have is 0. */
+/* What a reader found: a record, or one that can't be read. Members that do not apply to its kind are 0. */
 typedef struct lis_found {
     lis_found_kind kind;    /* what it is */
     uint8_t letter;         /* of a record: its letter in upper case */
@@ -734,7 +734,7 @@ typedef struct lis_reader {
 
 /* How many bytes the block of a reader has. */
 size_t lis_reader_size(void);
-/* What the address of that block is a multiple of. */
+/* The alignment that this block needs, in bytes. */
 size_t lis_reader_align(void);
 /* Makes a new reader in the block, at the beginning of a stream. */
 void lis_reader_init(void *at);
@@ -865,7 +865,7 @@ typedef struct lis_writer {
 
 /* How many bytes the block of a writer has. */
 size_t lis_writer_size(void);
-/* What the address of that block is a multiple of. */
+/* The alignment that this block needs, in bytes. */
 size_t lis_writer_align(void);
 /* Makes a new writer in the block: outside a message, with the usual delimiters. */
 void lis_writer_init(void *at);

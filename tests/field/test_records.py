@@ -40,7 +40,7 @@ def table(data, *options):
 def in_a_full_disk(words):
     """A run of lislab that can write no byte to a file."""
     limits = lambda: resource.setrlimit(resource.RLIMIT_FSIZE, (0, resource.RLIM_INFINITY))
-    env = {**os.environ, "PYTHONPATH": f"{ROOT}/python/src:{ROOT}/lab/src"}
+    env = {**os.environ, "PYTHONPATH": f"{ROOT}/python/src:{ROOT}/lab/src", "PYTHONDONTWRITEBYTECODE": "1"}
     words = [sys.executable, "-m", "lislab", *words]
     return subprocess.run(words, env=env, capture_output=True, preexec_fn=limits, check=False)
 

@@ -116,8 +116,9 @@ class HostTest(kit.Test):
 
 
 def process(words, **how):
-    """A process of this test."""
-    one = subprocess.Popen([sys.executable, *words], **{"text": True, "env": ENV, **how})
+    """A process of this test. One whose files may not grow writes no bytecode, because other tests would load a part."""
+    env = {**ENV, "PYTHONDONTWRITEBYTECODE": "1"} if "preexec_fn" in how else ENV
+    one = subprocess.Popen([sys.executable, *words], **{"text": True, "env": env, **how})
     _PROCESSES.append(one)
     return one
 

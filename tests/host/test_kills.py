@@ -70,7 +70,7 @@ class Kills(HostTest):
         limit = functools.partial(resource.setrlimit, resource.RLIMIT_FSIZE, (room, resource.RLIM_INFINITY))
         host = Host(store, piped=True, preexec_fn=limit)
         one = sending(host.port, "--analyzers", "5", "--made", "40", "--tries", "0", "--log", log)
-        full = wait_for(lambda: "not kept" in host.says() or len(acknowledged(log)) == 200, 60)
+        full = wait_for(lambda: "not stored" in host.says() or len(acknowledged(log)) == 200, 60)
         self.true("it gets full", full and wait_for(lambda: stuck(log)))
         before = acknowledged(log)
         self.same("full: acknowledged and lost", Found(store).lost(log), [])

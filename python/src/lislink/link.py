@@ -41,7 +41,7 @@ class WrongThread(RuntimeError):
 
 
 class Signal(NamedTuple):
-    """A signal of the line. What its kind doesn't have is 0, False or empty."""
+    """A signal of the line. Attributes that do not apply to its kind are 0, False or empty."""
 
     #: What it is.
     kind: Kind

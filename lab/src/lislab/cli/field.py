@@ -36,7 +36,7 @@ def _import_options(parser: argparse.ArgumentParser) -> None:
         "--form", choices=forms, metavar="FORMAT", help="format of the log, if it is not recognized"
     )
     parser.add_argument("--analyzer-side", metavar="NAME", help="name of the analyzer's side in the log")
-    parser.add_argument("--swap", action="store_true", help="take the other side for the analyzer")
+    parser.add_argument("--swap", action="store_true", help="treat the other side as the analyzer")
     parser.add_argument("--port", type=int, help="only this TCP port")
     parser.add_argument("--stream", type=int, metavar="N", help="only this TCP connection, counted from 1")
     parser.add_argument("--fd", type=int, metavar="N", help="only this file descriptor of an strace")

@@ -385,7 +385,7 @@ def add_forms(one: argparse.ArgumentParser) -> None:
     """The options that say which messages are written, and how."""
     one.add_argument("--line", metavar="NAME", help="only messages of this line")
     one.add_argument("--without-repeats", action="store_true", help="leave out repeated messages")
-    what = "map test codes and units by this table, for lines without a table of their own"
+    what = "map test codes and units by this file, for lines without a mapping of their own"
     one.add_argument("--codes", metavar="FILE", help=what)
     file = "read every line's settings and code mapping from a lines file"
     one.add_argument("--lines", metavar="FILE", help=file)

@@ -21,7 +21,7 @@ from .common import STOPPED, USAGE, say
 GROUPS = (
     ("Look at a connection", ("ladder", "capture", "replay", "normalize", "table")),
     ("Run a host", ("serve", "lines", "status", "watch", "order", "store")),
-    ("Hand on results", ("deliver", "export", "codes")),
+    ("Forward results", ("deliver", "export", "codes")),
     ("Validate an interface", ("play", "send")),
 )
 

@@ -53,7 +53,7 @@ def _add_deliver(one: argparse.ArgumentParser) -> None:
     one.add_argument("--ca", metavar="FILE", help="trust the certificate authorities of this PEM file, not the system's")
     one.add_argument("--headers", metavar="FILE", help="send these HTTP headers, rows of Name: value")
     one.add_argument(
-        "--seconds", type=_FACTOR, default=60.0, help="wait so long for a command or an answer (%(default)s)"
+        "--seconds", type=_FACTOR, default=60.0, help="wait SECONDS for a command or an answer (%(default)s)"
     )
     one.add_argument("--once", action="store_true", help="deliver what there is, then exit")
     one.add_argument(
@@ -204,7 +204,7 @@ def _is_taken(cursor: str) -> bool:
 
 
 def _add_codes(one: argparse.ArgumentParser) -> None:
-    one.add_argument("--store", metavar="STORE", help="list the codes of this store that the table lacks")
+    one.add_argument("--store", metavar="STORE", help="list the codes of this store that the mapping lacks")
     one.add_argument("--line", metavar="NAME", help="only results of this line")
     one.add_argument("--lines", metavar="FILE", help="a lines file, for each line's setting `test`")
     one.add_argument("file", metavar="FILE", help=f"the mapping, CSV with the columns {', '.join(codes.COLUMNS)}")

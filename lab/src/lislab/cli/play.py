@@ -75,7 +75,7 @@ def _add_line(one: argparse.ArgumentParser) -> None:
         type=_FACTOR,
         default=60.0,
         metavar="SECONDS",
-        help="wait so long for a connection or a new session (%(default)s)",
+        help="wait SECONDS for a connection or a new session (%(default)s)",
     )
 
 

@@ -39,8 +39,8 @@ def add_command(commands: Any) -> None:
     one.add_argument("--store", required=True, metavar="STORE", help="the store of the host")
     one.add_argument("--status", metavar="FILE", help="the host's state file; its socket is next to it (STORE.status)")
     one.add_argument("--once", action="store_true", help="print once; exit with 1 if a line is bad")
-    one.add_argument("--every", type=float, default=2.0, metavar="SECONDS", help="look so often (%(default)s)")
-    one.add_argument("--line", metavar="NAME", help="show the traffic of this line as it goes")
+    one.add_argument("--every", type=float, default=2.0, metavar="SECONDS", help="look every SECONDS (%(default)s)")
+    one.add_argument("--line", metavar="NAME", help="show the traffic of this line live")
     one.add_argument("--save", metavar="FILE", help="with --line: write its last bytes as a capture, then exit")
     one.add_argument("--notify", metavar="COMMAND", help="run this when a line turns bad, and when it is good again")
     one.add_argument("--http", metavar="HOST:PORT", help="serve status pages and /metrics")
@@ -49,9 +49,9 @@ def add_command(commands: Any) -> None:
         action="append",
         default=[],
         metavar="NETWORK",
-        help="with --http: let this network look too; may be repeated",
+        help="with --http: let this network connect too; may be repeated",
     )
-    one.add_argument("--token", metavar="FILE", help="with --http: the file of the token that opens records")
+    one.add_argument("--token", metavar="FILE", help="with --http: the file of the token (password) for pages with records")
     one.add_argument("--cursor", action="append", default=[], metavar="FILE", help="also show the delivery with this cursor; may be repeated")
     one.set_defaults(run=run_watch)
 

@@ -3,7 +3,7 @@ hears each such frame with another byte in its place.
 
 Where such a frame ends is decided here, by code that is tested and not proved: at LF after ETX or ETB, two bytes and
 CR. Whether it is taken is decided by the proved receiver: the digits of its checksum are changed by as much as its
-bytes, so that it is right exactly if what came was right. What is kept is what came."""
+bytes, so the receiver accepts the frame exactly if the original is right. The host stores the original."""
 import re
 from typing import Iterator, NamedTuple, Optional
 

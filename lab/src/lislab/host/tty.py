@@ -147,7 +147,7 @@ class SerialWire(Wire):
         self._alarm = self._loop.call_later(self._late, self._take_back)
 
     def _take_back(self) -> None:
-        """Drops a reply that flow control still holds up: later it could be taken for the answer to something else."""
+        """Drops a reply that flow control still holds up: later it could be mistaken for the reply to a later frame."""
         if self._alarm is not None:
             self._alarm.cancel()
             self._alarm = None

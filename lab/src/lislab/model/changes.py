@@ -13,10 +13,10 @@ CHANGES: Dict[str, str] = {
     "blank": "empty records and blanks around a record are left out",
     "header-3": "a header with three delimiters gets '&' as the fourth",
     "header-5": "the fifth byte of a header's delimiters is left out (HL7's H|^~\\& becomes H|~^\\, which means the same)",
-    "bytes": "a byte that no record holds becomes its escape, as &XFF& (FF, GS, others; not those of the link)",
+    "bytes": "a byte that no record holds becomes its escape, for example &XFF& (FF, GS, others; not those of the link)",
     "behind-l": "records between L and the next header are left out",
     "last-cr": "the last record gets its CR",
     "last-l": "a message without an end gets L|1|N",
     "orders": "an order O|n is put above a result that has none, a patient P|n above an order: such results carry no sample",
-    "long": "a result, comment or maker's record of over 65,536 bytes is left out, with the comments on it",
+    "long": "a result, comment or manufacturer record of over 65,536 bytes is left out, with the comments on it",
 }
