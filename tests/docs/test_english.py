@@ -7,7 +7,7 @@ from tests.docs import english
 from tests.docs.test_pages import pages
 
 #: The most words of all pages of docs/ together; README's head is a table of readers.
-MOST = 34000
+MOST = 33200
 LONG = "The host stores " + "a record and " * 15 + "replies."
 GOOD = """# A page
 
