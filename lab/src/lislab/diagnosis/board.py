@@ -12,7 +12,7 @@ from .pulse import Probe, Pulse, Says
 
 
 class Board:
-    """The pulses of a host's lines, by the lines' names. `scale` is that of the host's timers."""
+    """The pulses of a host's lines, by the lines' names. `scale` multiplies the timers, as in the host."""
 
     def __init__(self, scale: float) -> None:
         self._scale, self._begun = scale, time.time()

@@ -37,17 +37,17 @@ class Noise(NamedTuple):
 
 
 class Kept(NamedTuple):
-    """A text is kept."""
+    """A text is stored."""
 
 
 class NotKept(NamedTuple):
-    """A text could not be kept."""
+    """A text could not be stored."""
 
     error: Exception
 
 
 class MessageEnded(NamedTuple):
-    """A message ended, and that is kept."""
+    """A message ended, and its end is stored."""
 
     end: End
 
@@ -65,7 +65,7 @@ class Late(NamedTuple):
 
 
 class Restarted(NamedTuple):
-    """The receiver begins anew."""
+    """The receiver was restarted."""
 
 
 class OwnAnswered(NamedTuple):
@@ -105,7 +105,7 @@ Sees = Mapping[Type[Event], Callable[..., object]]
 
 
 class Observers:
-    """Those who listen to a line. One that fails is no reason to stop the line, and it is said."""
+    """The observers of a line. If one raises an exception, the host logs it and the line goes on."""
 
     def __init__(self, those: Sequence[Sees], say: Callable[[str, str], None]) -> None:
         self._say = say

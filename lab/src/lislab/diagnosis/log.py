@@ -38,7 +38,7 @@ class Log(NamedTuple):
 
 
 def left_out(lines: List[int], what: str = "without bytes") -> List[str]:
-    """A remark on the lines that were left out of a log, if there are some."""
+    """A remark on the lines of a log that were left out, if there are some."""
     if not lines:
         return []
     shown = ", ".join(map(str, lines[:20])) + (", .." if len(lines) > 20 else "")

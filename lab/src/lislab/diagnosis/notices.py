@@ -1,5 +1,5 @@
-"""What a host says of its lines' trouble: where it is and which byte or code, never what a record says; and not more
-of a line than a reader takes in."""
+"""What a host logs about trouble on its lines: where it is and which byte or code, never the contents of a record. The
+number of events of a line is limited, so that the log stays readable."""
 import time
 from collections import Counter
 from typing import Callable, Dict, Tuple
@@ -7,7 +7,7 @@ from typing import Callable, Dict, Tuple
 from lislink.codes import Note
 from ..model.said import about
 
-#: So many notices of a line and a kind at once, and then one each so many seconds.
+#: The host logs so many events of a line and a kind at once, and then one every so many seconds.
 AT_ONCE, SECONDS = 10, 30.0
 #: The kinds of notices: lines that came, went or may not connect; messages that aren't complete; rejected frames;
 #: replies that were late; sessions and bytes of which nothing was understood; codes that a table lacks; letters of
@@ -25,20 +25,20 @@ REJECTED = (
 
 
 class Notices:
-    """Notices of all lines. What a line has too many of is counted by kind, and the number is said with its next one,
-    or when one could be said again."""
+    """The events of all lines. If a line has too many of one kind, the host suppresses and counts them, and logs how
+    many with the next event of this kind, or as soon as one would be logged again."""
 
     def __init__(self, say: Callable[[str], None], clock: Callable[[], float] = time.monotonic) -> None:
         self._say, self._clock = say, clock
         self._left: Dict[Tuple[str, str], float] = {}
         self._at: Dict[Tuple[str, str], float] = {}
         self._dropped: "Counter[Tuple[str, str]]" = Counter()
-        #: How many there were of each line and kind, and how many of these were not said.
+        #: How many events each line had of each kind, and how many of these were suppressed.
         self.counts: Dict[str, "Counter[str]"] = {}
         self.not_said: Dict[str, "Counter[str]"] = {}
 
     def say(self, name: str, text: str, kind: str = OTHER) -> None:
-        """A notice of a line."""
+        """Logs an event of a line, or suppresses it."""
         self.counts.setdefault(name, Counter())[kind] += 1
         if not self._has_room((name, kind)):
             self._dropped[name, kind] += 1
@@ -49,14 +49,14 @@ class Notices:
             self._say(f"{name}: {text}" + (f" ({dropped} earlier ones were suppressed)" if dropped else ""))
 
     def say_dropped(self, all_of_them: bool = False) -> None:
-        """Says how many were not said of the lines and kinds of which one could be said now, or of all."""
+        """Logs how many events were suppressed: for lines and kinds of which one would be logged now, or for all."""
         for name, kind in list(self._dropped):
             if all_of_them or self._has_room((name, kind)):
                 with about(name):
                     self._say(f"{name}: {self._dropped.pop((name, kind))} events of kind {kind} were suppressed")
 
     def _has_room(self, key: Tuple[str, str]) -> bool:
-        """Whether another notice may be said, which then is."""
+        """Whether another event may be logged; then it counts."""
         now = self._clock()
         left = self._left.get(key, AT_ONCE) + (now - self._at.get(key, now)) / SECONDS
         self._left[key], self._at[key] = min(left, AT_ONCE), now

@@ -1,5 +1,5 @@
-"""How each line of a host does, while it runs: what came last, and what is wrong since when. A probe sees what one
-connection hears and what that meant; the pulse of a line has what its probes saw."""
+"""The state of every line of a running host: what it received last, and what is wrong since when. A probe observes one
+connection; the pulse of a line has what its probes observed."""
 import bisect
 import re
 import time
@@ -56,7 +56,7 @@ class Trouble:
     def __init__(self, verdict: Verdict) -> None:
         self.verdict, self.since, self.count = verdict, time.time(), 0
         self.last = ""
-        #: What takes bytes that make no frame, if something does.
+        #: Another protocol to which bytes fit that make no frame, if there is one.
         self.plain = ""
         #: Why frames are rejected, how often each, in words and by kinds.
         self.why: "Counter[str]" = Counter()
@@ -85,7 +85,7 @@ class Trouble:
 
 
 class Says(NamedTuple):
-    """What is said of a line: the verdict, since when it holds, its sentence, and what to do."""
+    """The report on a line: the verdict, since when it holds, its sentence, and what to do."""
 
     verdict: Verdict
     since: float
@@ -113,7 +113,7 @@ def span(seconds: float) -> str:
 
 
 def says(verdict: Verdict, since: float, count: int = 0, **values: Any) -> Says:
-    """What a verdict says of a line."""
+    """The report on a line with a verdict."""
     told = {f"{name}s": many(count, name) for name in ("frame", "byte", "message", "order")}
     told["times"] = "once" if count == 1 else f"{count} times"
     told.update({"since": clock(since), "plain": "", **values})
@@ -121,22 +121,22 @@ def says(verdict: Verdict, since: float, count: int = 0, **values: Any) -> Says:
 
 
 def says_failed(found: Failed) -> Says:
-    """What is said of a line's orders that have failed: no word of a patient."""
+    """The report on a line's failed orders, without the patient."""
     last = found.newest[0]
     return says(Verdict.FAILED_ORDERS, found.since, found.many, why=f"{last.number}: {last.reason}")
 
 
 class Pulse:
-    """How a line does: whatever connection it has. `scale` is that of its timers."""
+    """The state of a line over all its connections. `scale` multiplies its timers."""
 
     def __init__(self, frame: int, scale: float) -> None:
         self.frame, self.scale, self.ring = frame, scale, Ring()
         self.begun, self.last = time.time(), None  # type: float, Optional[float]
         self.troubles: Dict[str, Trouble] = {}
-        #: What was bad and is over: since when, until when, and what was said of it.
+        #: Trouble that is over: since when, until when, and its sentence.
         self.past: "Deque[Tuple[float, float, str]]" = deque(maxlen=PAST)
         self.probes: "List[Probe]" = []
-        #: What is said of orders that have failed, as long as there are some.
+        #: The report on failed orders, as long as there are some.
         self._failed: Optional[Says] = None
         #: How many connections there were; sessions in a row that had no byte between ENQ and EOT.
         self.connections = self.polls = 0
@@ -166,7 +166,7 @@ class Pulse:
             self.past.append((found.since, time.time(), found.text))
 
     def _bad(self, kind: str) -> Optional[Says]:
-        """What is said of a kind of trouble, if it is bad by itself."""
+        """The report on a kind of trouble, if it is bad by itself."""
         if kind == "hopeless":
             return None
         looks = {"frames": self._frames, "echo": self._echo, "queries": self._queries, "noise": self._noise}
@@ -179,8 +179,8 @@ class Pulse:
         self._failed = says_failed(found) if found else None
 
     def says(self, unusable: str = "", is_called: bool = False) -> Says:
-        """What is said of the line now; `unusable` is why its device can't be had, or it can't be connected to, if that
-        is so. Orders that have failed are named as long as nobody did something about them, whatever else is wrong."""
+        """The report on the line now. `unusable` is the reason if its device can't be opened or its address can't be
+        reached. Failed orders are named until somebody acts on them, whatever else is wrong."""
         found, failed = self._says(unusable, is_called), self._failed
         if failed is None or found.state != BAD:
             return failed or found
@@ -197,7 +197,7 @@ class Pulse:
         return line or self._of("lost") or self._of("messages") or self._queries() or self._well()
 
     def _of(self, kind: str) -> Optional[Says]:
-        """What is said of a kind of trouble, if there is some."""
+        """The report on a kind of trouble, if there is some."""
         one = self.troubles.get(kind)
         if one is None:
             return None
@@ -277,7 +277,7 @@ class Probe:
         pulse.probes.append(self)
         #: Whether a session is open, since when, how many frames it had, and how many of them were accepted.
         self.is_open, self.opened, self.units, self._good = False, 0.0, 0, 0
-        #: What came since ENQ before a frame, or without a session, and since when it is so; what was sent last.
+        #: The bytes received since ENQ before a frame, or without a session, and since when; the bytes sent last.
         self._got, self._stray, self._since, self._sent = bytearray(), bytearray(), (0.0, 0.0), b""
         #: The bytes of the unit that is open, those that are heard now, and where the next unit begins in them.
         self._carry, self._now, self._start = bytearray(), b"", 0
@@ -370,7 +370,7 @@ class Probe:
                 pulse.remember(probe.strange())
 
     def _reject(self, step: Step, raw: bytes) -> None:
-        """A frame is rejected: the reason is that of a ladder."""
+        """A frame is rejected; the reason has the same name as in a ladder."""
         if step.note in _FRAMES:
             verdict = _FRAMES[step.note]
             cause = Cause(verdict, verdict.live.format(due=self._due))
@@ -399,7 +399,7 @@ class Probe:
         self._got = bytearray(self._now[self._start : self._start + TOGETHER])
 
     def _over(self, note: Optional[Note] = None, is_enq: bool = False) -> None:
-        """The session is over: what it says of the line, if no frame of it was accepted."""
+        """The session is over: updates the line's state if no frame of it was accepted."""
         if not self.is_open:
             return
         verdict, parity = self._without_frame(is_enq)
@@ -425,7 +425,7 @@ class Probe:
         return (Verdict.NO_FRAME if is_heard else Verdict.NOT_HEARD), ""
 
     def silent(self) -> Optional[Says]:
-        """What is said of a session that goes on without a frame."""
+        """The report on an open session without a frame."""
         if not self.is_open or self.units or not self._is_long_ago():
             return None
         verdict, parity = self._without_frame()
@@ -434,7 +434,7 @@ class Probe:
         return says(verdict, since, before.count if before else 1, plain=plain_hint(self._got), **_parity(parity))
 
     def strange(self) -> Optional[Says]:
-        """What is said of bytes without a session."""
+        """The report on bytes without a session."""
         if not self._stray or not self._is_long_ago():
             return None
         verdict, parity = self._stranger()
@@ -482,7 +482,7 @@ class Probe:
             pulse.right("late")
 
     def _not_kept(self, failed: NotKept) -> None:
-        """A text could not be kept."""
+        """A text could not be stored."""
         error, why = failed.error, str(failed.error)
         is_full = _FULL.search(why) is not None
         verdict = Verdict.DISK_FULL if is_full else Verdict.STORE_GONE

@@ -1,4 +1,4 @@
-"""What a host says of a connection: frames that it rejects, sessions and bytes of which nothing is understood,
+"""What a host logs about a connection: rejected frames, sessions without an accepted frame, bytes without a session,
 noise."""
 from typing import Callable, Optional
 
@@ -7,7 +7,7 @@ from lislink.link import Step
 from .events import Came, Closed, Late, Meant, OwnAnswered, ReplyAfterAll, Restarted, Sees
 from .notices import CONNECTION, FRAME, NOISE, REJECTED, REPLY, SESSION
 
-#: After so many bytes without a session that is said of a line that stays open; and after so many empty sessions.
+#: After so many bytes without a session, or so many empty sessions, the host logs that.
 BYTES, EMPTY = 1000, 5
 #: What helps an analyzer whose sessions begin without the end of the one before.
 ANEW = "careful=no of its line answers its first ENQ"
@@ -62,8 +62,8 @@ class Watch:
         self._say(f"closed {closed.why}; bytes {self.heard}, sessions {self.sessions}", CONNECTION)
 
     def _note_enq(self, step: Step) -> None:
-        """Says of an ENQ whether it is noise: it came in a session, and had no reply. An analyzer that begins anew
-        without EOT sends the next one at once; noise is followed by the rest of its frame, or by EOT."""
+        """Logs an ENQ that is noise: it came in a session, and had no reply. An analyzer that begins again without EOT
+        sends the next ENQ at once; noise is followed by the rest of its frame, or by EOT."""
         at, before = self.at, self._noise_at
         self._noise_at = at if step.note is Note.ENDED else -1
         if step.note is Note.ENDED:
@@ -102,7 +102,7 @@ class Watch:
             self._note_enq(step)
 
     def _reject(self, why: str) -> None:
-        """A frame was rejected. It comes again, and may be rejected again: that is said once."""
+        """A frame was rejected. The analyzer resends it, and it may be rejected again: the host logs that only once."""
         self._rejected += 1
         self._why = self._why or why
         if self._rejected_at != self._taken:
@@ -110,7 +110,7 @@ class Watch:
             self._say(f"frame {self._taken + 1} of a session is rejected; it {why}", FRAME)
 
     def session_over(self, place: Optional[int] = None) -> None:
-        """A session is over, or given up: at this place of the bytes that are heard, or after them."""
+        """A session ended or was aborted, at this place of the bytes that are heard, or after them."""
         start, self._start = self._start, None
         if start is not None and not self._accepted:
             self._without_a_frame(start, self._before + (len(self._data) if place is None else place) - start)
@@ -138,7 +138,7 @@ class Watch:
         return self._before + len(self._data)
 
     def _no_session(self, count: int) -> None:
-        """So many bytes came: if no session was among them, that is said once."""
+        """Logs once that so many bytes came without a session."""
         if count and not self.sessions and not self._said:
             self._said = True
             what = f"{count} bytes came without an ENQ that begins a session"

@@ -13,7 +13,7 @@ MOST = 100 << 20
 
 
 class Tape:
-    """A capture that is written. A disk that takes no more of it is no reason to stop a line."""
+    """A capture that is being written. If the disk is full, the line goes on without it."""
 
     def __init__(self, path: str) -> None:
         self.path, self._left = path, MOST

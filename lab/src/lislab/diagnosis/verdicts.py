@@ -5,7 +5,7 @@ import re
 from typing import Any, FrozenSet, Iterable, Optional
 
 GOOD, PLAIN, WARN, BAD = "good", "plain", "warn", "bad"
-#: What to do about a frame that is rejected, if its verdict says nothing else; about a checksum by another way to sum.
+#: What to do about a rejected frame, if its verdict has no advice of its own; about a checksum that sums otherwise.
 _SENDER_WRONG = "the sender is wrong: a receiver must not take such a frame"
 _FIX_SUM = "fix the sender: a receiver must not take such a checksum"
 _DAMAGED = "other frames of the sender are right: bytes were damaged on the way; look at cable, shield and speed"
@@ -21,13 +21,13 @@ class Meaning(enum.Enum):
 
     NOTHING = (PLAIN, "")
     # events
-    TIMED_OUT = (WARN, "the receiver's 30 seconds are over: the line is given up")
+    TIMED_OUT = (WARN, "the receiver's 30 seconds are over: it closes the session")
     TIMER = (PLAIN, "the receiver's timer runs out: the line wasn't open")
     RESTARTED = (PLAIN, "the receiver is restarted")
     READY = (PLAIN, "the computer is ready")
     IS_BUSY = (PLAIN, "the computer is busy: ENQ is answered NAK")
     CONTENDING = (PLAIN, "the computer wants to send: ENQ is answered ENQ")
-    SILENCE = (WARN, "a receiver gives the line up after 30 (a line T here says so)")
+    SILENCE = (WARN, "a receiver closes the session after 30 (a line T here means that)")
     # what the analyzer sends
     OPENED = (GOOD, "the line is opened")
     NOT_READY = (WARN, "not ready: no line")
@@ -53,7 +53,7 @@ class Meaning(enum.Enum):
     OWN_SESSION = (PLAIN, "the computer's own session: not part of what the analyzer sends")
     UNANSWERED = (PLAIN, "an earlier unit wasn't answered")
     OTHER = (BAD, "the receiver would answer {wanted}")
-    BUSY = (BAD, "the receiver would answer {wanted}: the computer is busy (a line S busy says so in version 2)")
+    BUSY = (BAD, "the receiver would answer {wanted}: the computer is busy (in version 2 a line S busy means that)")
     REJECTS_GOOD = (BAD, "the receiver would answer {wanted}: the computer rejects a good frame")
     TAKES_BAD = (BAD, "the receiver would answer {wanted}: the computer took what must be rejected")
     INTERRUPT = (WARN, "the computer acknowledges and asks to interrupt (EOT)")
@@ -68,8 +68,8 @@ class Meaning(enum.Enum):
 
 @enum.unique
 class Verdict(enum.Enum):
-    """What is wrong with a line, or worth a look: its name, how bad it is, what a ladder says of it, what to do, and
-    what is said of a line that runs, which never has a byte of a record."""
+    """A verdict on a line: its name, how bad it is, the sentence of a ladder, what to do, and the sentence about a
+    running line, which never has a byte of a record."""
 
     HL7 = (
         "hl7",
@@ -252,7 +252,7 @@ class Verdict(enum.Enum):
         _FIX_SUM,
         "it leaves out the frame number",
     )
-    SUM_OF_TEXT = ("sum-of-text", BAD, "{share} rejected: {why}", _FIX_SUM, "it counts the text alone")
+    SUM_OF_TEXT = ("sum-of-text", BAD, "{share} rejected: {why}", _FIX_SUM, "it counts only the text")
     SUM_XOR = ("sum-xor", BAD, "{share} rejected: {why}", _FIX_SUM, "it is an exclusive or")
     SUM_XOR_TEXT = (
         "sum-xor-text",
@@ -553,6 +553,6 @@ def advice_on(kind: Verdict, has_good: bool, way: Optional[Verdict] = None, coun
 
 
 def plain_hint(data: bytes) -> str:
-    """What else takes bytes that make no frame: they may be blocks from STX to ETX."""
+    """The protocol to which bytes fit that make no frame: they may be blocks from STX to ETX."""
     blocks = re.findall(rb"\x02[^\x02]*", data)
     return _PLAIN if blocks and all(one.rstrip(b"\x04\x05").endswith(b"\x03") for one in blocks) else ""

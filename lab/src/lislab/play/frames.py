@@ -1,4 +1,4 @@
-"""Frames and units in plain Python: made, read, cut out of bytes, and shown."""
+"""Frames and units in plain Python: makes, reads, finds and prints them."""
 import re
 from typing import Iterator, NamedTuple, Optional
 

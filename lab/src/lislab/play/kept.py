@@ -34,7 +34,7 @@ def from_command(words: str) -> Source:
 
 
 def from_store(name: str) -> Source:
-    """What a store of `lislab serve` has, whole or not."""
+    """The messages in a store of `lislab serve`, complete or not."""
     def read() -> bytes:
         try:
             store = open_store(name)
@@ -72,7 +72,7 @@ class Keeping:
             self._before = records_in(self._source())
 
     def enquiry(self) -> None:
-        """A session begins, or the line begins anew."""
+        """A session begins, or the line was restarted."""
         self._part, self._accepted, self._sent = b"", 0, None
 
     def sent(self, data: bytes) -> None:
@@ -91,8 +91,8 @@ class Keeping:
             self._part = b""
 
     def expected(self) -> "Tuple[Counter[bytes], Counter[bytes]]":
-        """The records of complete messages, which must be kept; those of others, which may be. A message that came
-        before may be kept again."""
+        """The records of complete messages, which must be stored, and those of others, which may be. A message that
+        came before may be stored again."""
         must: List[bytes] = []
         may: List[bytes] = []
         whole: List[List[bytes]] = []

@@ -11,7 +11,7 @@ from .wire import UNIT, Closed, End, LineFailed
 
 #: For how long is waited at the end for what shouldn't come, in seconds.
 AFTER = 0.5
-#: The most units that are noted of what came and wasn't wanted, and of what comes for `frames`.
+#: The most units that are kept of bytes that were not wanted, and of those that arrive for `frames`.
 SURPLUS, FRAMES = 20, 10_000
 _SECOND = 1_000_000_000
 
@@ -103,7 +103,8 @@ class Player:
         self.events: List[Event] = []
 
     def play(self) -> Outcome:
-        """Plays all, also past differences. After a silence it goes on where the script begins anew."""
+        """Runs the whole script, also after differences. After a missing reply it continues where a new session
+        begins."""
         skipped: List[int] = []
         at, before = 0, None  # type: int, Optional[int]
         self._ensure_open()
@@ -185,7 +186,7 @@ class Player:
                 self._keeping.sent(unit)
 
     def _note_surplus(self, line: int, seconds: float) -> None:
-        """What came and isn't wanted is a difference."""
+        """Reports bytes that arrived and were not wanted as a difference."""
         if self._is_shut:
             return
         came = self._end.drop(seconds)
@@ -274,7 +275,7 @@ class Player:
                 self._note(step.line, self._own, reply)
 
     def _next_begin(self, at: int) -> int:
-        """The next step at which a session begins, or the line begins anew."""
+        """The next step at which a session begins, or the line is restarted."""
         for place in range(at, len(self._steps)):
             step = self._steps[place]
             if step.mark in "CR" or (step.mark in "><" and _is_enquiry(step.unit)):

@@ -1,5 +1,5 @@
-"""Scripts: a capture as it is, or the readable form of docs/validate.md, read into steps. A script that is wrong names its
-line."""
+"""Scripts: a capture as it is, or the readable form of docs/validate.md, read into steps. A script that is wrong names
+its line."""
 import re
 from typing import Dict, Iterator, List, NamedTuple, Optional, Sequence, Tuple
 

@@ -1,11 +1,11 @@
-"""What a step of a script wants to come, and how what came differs from it."""
+"""What a step of a script expects to arrive, and how what arrived differs from it."""
 import re
 from typing import Iterator, List, NamedTuple, Optional, Sequence, Tuple, Union
 
 from lislink.message import NAMES as FIELDS
 from .frames import ACK, EOT, NAK, checksum, made, quoted, read_frame, shown
 
-#: What differs: what was wanted, and what came, each as one word.
+#: A difference: what was wanted and what arrived, each as one word.
 Difference = Tuple[str, str]
 #: What any text fits.
 ANY = b".."
@@ -46,7 +46,7 @@ Unit = Union[Exact, Framed, AnyUnit, Frames]
 
 
 def bytes_of(unit: Unit) -> Optional[bytes]:
-    """The bytes of a unit that is sent; None if it only says what may come."""
+    """The bytes of a unit to send; None if the unit can only be received."""
     if isinstance(unit, Exact):
         return unit.data
     if isinstance(unit, Framed) and ANY not in unit.text:
@@ -55,7 +55,7 @@ def bytes_of(unit: Unit) -> Optional[bytes]:
 
 
 def as_word(unit: Unit) -> str:
-    """What is wanted, in one word."""
+    """The wanted unit, in one word."""
     if isinstance(unit, Exact):
         return shown(unit.data)
     if isinstance(unit, Framed):
@@ -65,7 +65,7 @@ def as_word(unit: Unit) -> str:
 
 
 class Marks:
-    """The delimiters of the records that came: those of the last header."""
+    """The delimiters of the records that arrive: those of the last header."""
 
     def __init__(self) -> None:
         self.field, self.repeat, self.component = b"|", b"\\", b"^"
@@ -174,7 +174,7 @@ def _frame_differences(wanted: Framed, got: bytes, marks: Marks) -> Iterator[Dif
 
 
 def _of_bad_frame(wanted: Framed, got: bytes) -> Iterator[Difference]:
-    """What came is no good frame: if only its checksum is wrong, that is said."""
+    """The difference of a frame that is not good: only `sum=`, if only its checksum is wrong."""
     right = read_frame(got[:-4] + checksum(got[1:-4]) + got[-2:]) if len(got) > 6 else None
     if right is None:
         yield as_word(wanted), shown(got)
@@ -184,7 +184,7 @@ def _of_bad_frame(wanted: Framed, got: bytes) -> Iterator[Difference]:
 
 
 def differences(wanted: Unit, got: bytes, marks: Marks) -> List[Difference]:
-    """How a unit that came differs from what is wanted."""
+    """How a unit that arrived differs from the wanted one."""
     if isinstance(wanted, Framed):
         return list(_frame_differences(wanted, got, marks))
     if isinstance(wanted, Exact):

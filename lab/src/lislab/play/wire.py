@@ -16,7 +16,7 @@ STARTS = 5.0
 
 
 class LineFailed(Exception):
-    """The line failed: it isn't there, or takes no bytes."""
+    """The line failed: it isn't there, or accepts no bytes."""
 
 
 class Closed(Exception):
@@ -42,7 +42,7 @@ Place = Union[To, On, Serial]
 
 
 class End:
-    """A line as it is now. It keeps what came and wasn't read."""
+    """A line as it is now. It keeps bytes that arrived and were not read."""
 
     def __init__(self, place: Place, within: float, announce: Callable[[str], None]) -> None:
         self._place, self._within = place, within
@@ -110,7 +110,7 @@ class End:
             line.close()
 
     def close(self) -> None:
-        """Closes the connection; a serial line stays open, and what came is dropped."""
+        """Closes the connection; a serial line stays open, and its unread bytes are dropped."""
         self._take(0.0)
         self._came.clear()
         if isinstance(self._line, socket.socket):
@@ -144,7 +144,7 @@ class End:
         while data:
             _, ready, _ = select.select([], [descriptor], [], max(0.0, until - time.monotonic()))
             if not ready:
-                raise LineFailed("the serial line takes no bytes: look at its flow control")
+                raise LineFailed("the serial line accepts no bytes: check its flow control")
             data = data[os.write(descriptor, data) :]
 
     def _take(self, seconds: float) -> bool:
@@ -168,13 +168,13 @@ class End:
         return bool(data)
 
     def waiting(self) -> bytes:
-        """What came and wasn't read."""
+        """The bytes that arrived and were not read."""
         while len(self._came) < UNIT and self._take(0.0):
             pass
         return bytes(self._came)
 
     def drop(self, seconds: float) -> bytes:
-        """Drops what came and wasn't read, and what comes in this time."""
+        """Drops the unread bytes, and those that arrive in this time."""
         until = time.monotonic() + seconds
         while self._take(until - time.monotonic()) and len(self._came) < UNIT:
             pass

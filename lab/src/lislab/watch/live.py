@@ -48,7 +48,7 @@ class LiveLadder(Ladder):
         self._forget()
 
     def _forget(self) -> None:
-        """Drops what was given, so that a line that is looked at for a day takes no more memory."""
+        """Drops what was shown, so that watching a line for a day takes no more memory."""
         line, since, place = self._begun
         drop = max(0, self._given - HELD)
         del self.rows[:drop]

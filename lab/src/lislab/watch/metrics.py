@@ -54,7 +54,7 @@ _COUNTERS = (
 
 
 def metrics_of(data: Mapping[str, Any], undelivered: Mapping[str, int], orders: Mapping[str, int]) -> str:
-    """The metrics of what a host says of itself, of how much each delivery has still to do, and of the orders
+    """The metrics of a host's own state, of how many messages each delivery has still to send, and of the orders
     by their states."""
     out, lines = Metrics(), data["lines"]
     out.add("lislab_up", "gauge", "Whether the host answers.")

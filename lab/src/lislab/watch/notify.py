@@ -11,8 +11,8 @@ SECONDS, _STAYS = 60.0, Verdict.FAILED_ORDERS.key
 
 
 class Notifier:
-    """Runs a command for each line that turns bad, or good again, one after another. What the command does and prints
-    is its own; one that fails is said, and not run again."""
+    """Runs a command for each line that turns bad, or good again, one after another. A command that fails is reported,
+    and not run again."""
 
     def __init__(self, words: List[str], say: Callable[[str], None]) -> None:
         self._words, self._say = words, say

@@ -207,7 +207,7 @@ _COUNTED = {
 
 
 def line_page(name: str, one: Mapping[str, Any], tally: Tally, more: LineData) -> str:
-    """A line: its state, its numbers, what came last, and its last bytes."""
+    """A line: its state, its counts, its last messages, and its last bytes."""
     counts = [(words, one.get(key, 0)) for key, words in _COUNTED.items()]
     causes = [(f"rejected: {key}", count) for key, count in sorted(one.get("causes", {}).items())]
     ended = [(f"messages {key}", count) for key, count in sorted(one.get("ended", {}).items())]

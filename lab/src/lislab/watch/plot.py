@@ -25,7 +25,7 @@ def bars(times: Sequence["tuple[float, int]"], now: float, span: float, count: i
 
 
 def svg(label: str, shown: Sequence[Bar], form: str) -> str:
-    """The plot; `form` is that of a bar's time. No text in it is from a line."""
+    """The plot; `form` formats a bar's time. No text in it comes from a line."""
     most = max([one.many for one in shown] + [1])
     room, wide = HEIGHT - FOOT - 8, (WIDTH - LEFT) / max(len(shown), 1)
     parts = []

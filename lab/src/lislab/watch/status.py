@@ -56,7 +56,7 @@ def age_of(state: Dict[str, Any]) -> Optional[float]:
 
 
 def is_fresh(age: Optional[float]) -> bool:
-    """Whether a state of this age is that of now."""
+    """Whether a state of this age is current."""
     return age is not None and -OLD < age < OLD
 
 
@@ -150,7 +150,7 @@ def _failed_of(found: Failed) -> Dict[str, Any]:
 
 
 def _old(age: Optional[float]) -> str:
-    """What is said of a state that isn't that of now."""
+    """The remark on a state that isn't current."""
     if age is None:
         return "; there is no state that it wrote"
     where = "old" if age > 0 else "ahead of the clock"

@@ -62,7 +62,7 @@ class Answer(NamedTuple):
 
 
 class Pages:
-    """Makes the pages of a host. What it says is asked for once a second at most, however many look."""
+    """Makes the pages of a host. It asks the host at most once a second, however many readers there are."""
 
     def __init__(self, host: Host, cursors: Sequence[str]) -> None:
         self.host, self.tally, self._cursors = host, tally.Tally(host.store), cursors
@@ -112,7 +112,7 @@ class Pages:
         return Answer(200, HTML, page.line_page(name, one, self.tally, more))
 
     def _ladder(self, name: str) -> str:
-        """The rows of a line's last bytes; drawn anew if there are others."""
+        """The rows of a line's last bytes; drawn again if there are new ones."""
         try:
             head, pieces = self.host.ring(name)
         except WatchError as error:
@@ -149,7 +149,7 @@ class Pages:
                 return left, {**dict.fromkeys(STATES, 0), **book.counts()}
 
         data, counts = self.data(), ({}, {})  # type: Dict[str, Any], Tuple[Dict[str, int], Dict[str, int]]
-        with contextlib.suppress(StoreError):  # what the host says is worth more than none
+        with contextlib.suppress(StoreError):  # the host's own state is better than nothing
             counts = tally.each(self.host.store, work)
         return Answer(200, metrics.FORM, metrics.metrics_of(data, *counts))
 
@@ -171,8 +171,8 @@ class Pages:
 
 
 class Server(ThreadingHTTPServer):
-    """The server: so many requests at once, and no more, of all and of an address. For one more the oldest connection
-    is cut whose request hasn't come: a request takes moments, and who sends slowly keeps nobody away."""
+    """The server. It limits the requests at once, of all and of one address. For one more it closes the oldest
+    connection whose request hasn't arrived, so that a slow sender keeps nobody away."""
 
     daemon_threads = True
 
@@ -264,7 +264,7 @@ class Handler(BaseHTTPRequestHandler):
             return None
         if asked.token:
             return Answer(401, HTML, page.page("A token is needed", "<p>Any name, and the token as its password.</p>"))
-        return Answer(403, HTML, page.page("What records say is shown by a token alone", f"<p>{NO_TOKEN}</p>"))
+        return Answer(403, HTML, page.page("Records are shown only with a token", f"<p>{NO_TOKEN}</p>"))
 
     def _is_named(self) -> bool:
         """Whether the request is for an address of this server, and not for a name that somebody else has given it."""
@@ -304,7 +304,7 @@ class Handler(BaseHTTPRequestHandler):
 
 
 def token_of(path: Optional[str]) -> str:
-    """The token in a file; none without one. If the file isn't there it is made, its owner's alone, with a new one."""
+    """The token in a file; none without a file. A missing file is made with a new token, readable only by its owner."""
     if path is None:
         return ""
     if not os.path.exists(path):
