@@ -222,10 +222,10 @@ size_t lis_scanner_size(void);
 size_t lis_scanner_align(void);
 /* Makes a new scanner in the block, which has read nothing. */
 void lis_scanner_init(void *at);
-/* Gives the scanner's memory back; the block is the caller's again. To begin anew, call _end and then _init. */
+/* Gives the scanner's memory back; the block is the caller's again. To start again, call _end and then _init. */
 void lis_scanner_end(lis_scanner s);
 /* Sets how long the text of a frame may be, LIS_LIMIT_FRAME_TEXT (as after _init) or LIS_LIMIT_LONG_FRAME_TEXT, and
- * begins anew, as after _init. LIS_STATUS_BAD_NUMBER for another limit, LIS_STATUS_OUT_OF_MEMORY: then nothing has
+ * starts again, as after _init. LIS_STATUS_BAD_NUMBER for another limit, LIS_STATUS_OUT_OF_MEMORY: then nothing has
  * changed. The long limit takes about 128 kB from the heap, which the other limit or _end gives back. */
 lis_status lis_scanner_set_limit(lis_scanner *s, size_t limit);
 /* Reads one byte: `out` is the signal that it completes. It is always written. */
@@ -269,7 +269,7 @@ LIS_ENUM(lis_outcome) {
     LIS_OUTCOME_DONE = 1,       /* each text was acknowledged */
     LIS_OUTCOME_TIMED_OUT = 2,  /* no reply came in time */
     LIS_OUTCOME_SIX_TRIES = 3,  /* a frame was answered otherwise than by ACK or EOT six times */
-    LIS_OUTCOME_RESTARTED = 4   /* it was given up, as by lis_sender_restart */
+    LIS_OUTCOME_RESTARTED = 4   /* it was restarted, for example by lis_sender_restart */
 } LIS_ENUM_END(lis_outcome);
 
 /* A text that stays with the caller. */
@@ -315,7 +315,7 @@ lis_status lis_sender_start(lis_sender *s, lis_bytes *out, lis_place *fault);
 lis_status lis_sender_start_lent(lis_sender *s, const lis_text *texts, size_t texts_len, lis_bytes *out,
                                  lis_place *fault);
 /* A reply byte came: `out` is what is to be sent, and is always written. If nothing is to be sent and the phase is as
- * before, the timer runs on; else it begins anew. With the long limit lis_sender_frame may have what is to be sent. */
+ * before, the timer runs on; else it starts again. With the long limit lis_sender_frame may have what is to be sent. */
 void lis_sender_reply(lis_sender *s, uint8_t byte, lis_bytes *out);
 /* Copies the frame that was sent and awaits its reply to the front of `out`; `size` is its length. LIS_STATUS_ABSENT if
  * no frame awaits its reply; LIS_STATUS_TOO_SHORT if it is longer than `out`: then nothing is copied, and you can call
@@ -446,7 +446,7 @@ size_t lis_receiver_hear(lis_receiver *s, const uint8_t *bytes, size_t bytes_len
 /* The receiver's timer ran out: LIS_SECONDS_RECEIVER went by since the last step that was not LIS_NOTE_QUIET. `out` is
  * always written. On a line that isn't open it is quiet, and nothing changes. */
 void lis_receiver_timer(lis_receiver *s, lis_step *out);
-/* Gives up what goes on: the line is closed, the text that isn't complete is dropped, and the receiver is ready and has
+/* Ends what is open: the line is closed, the text that isn't complete is dropped, and the receiver is ready and has
  * room. The text that was completed last stays, and nothing is sent. Call it if a text can't be kept, if a reply would
  * be late, and for each connection that was lost, before the first byte of the next one. */
 void lis_receiver_restart(lis_receiver *s);
@@ -472,7 +472,7 @@ lis_status lis_receiver_set_text_limit(lis_receiver *s, size_t bytes);
 /* Says whether the receiver hears carefully from now on; it doesn't after _init, and _set_limit and _restart leave it.
  * Give it true after _init: then one damaged byte of a frame acknowledges nothing. lis_receiver_hear and
  * lis_receiver_byte follow it. An ENQ on an open line, also one that was a byte of a frame, ends the session as EOT
- * does, with no reply: LIS_NOTE_ENDED. An analyzer that begins anew without EOT is answered at its next ENQ. An STX
+ * does, with no reply: LIS_NOTE_ENDED. An analyzer that starts again without EOT is answered at its next ENQ. An STX
  * inside an unfinished frame begins none, and that frame is answered NAK. All else is heard as it is without it. */
 void lis_receiver_set_careful(lis_receiver *s, bool careful);
 /* How much noise was heard carefully since _init or _set_limit: each ENQ on an open line, and each STX inside an
@@ -509,7 +509,7 @@ LIS_ENUM(lis_role) {
 /* What a byte or the timer meant to a station, and what is to be sent.
  *
  * Keep, then send, as for `lis_step`. But if a text can't be kept, call lis_station_close_line, and start no session
- * for longer than LIS_SECONDS_REPLY. The timer begins anew after each answer but a step that is LIS_NOTE_QUIET. */
+ * for longer than LIS_SECONDS_REPLY. The timer starts again after each answer but a step that is LIS_NOTE_QUIET. */
 typedef struct lis_answer {
     bool is_step;      /* whether it was for the receiver; else it was for the sender */
     lis_bytes send;    /* what is to be sent: the step's reply, or what the sender sends */
@@ -629,7 +629,7 @@ lis_status lis_station_line_start(lis_station_line *line, lis_bytes *out, lis_pl
 lis_status lis_station_line_start_lent(lis_station_line *line, const lis_text *texts, size_t texts_len, lis_bytes *out,
                                        lis_place *fault);
 /* Whether a late reply could meet the station's next ENQ, that of a start or the one after a wait: over a line that
- * answers late, connect it anew first (docs/protocol.md, 'A bidirectional line that answers late'). */
+ * answers late, connect it again first (docs/protocol.md, 'A bidirectional line that answers late'). */
 bool lis_station_line_needs_new(const lis_station_line *line);
 
 /* ---- Records, each a text without its CR. These calls take no memory and keep nothing. ---- */
@@ -819,7 +819,7 @@ lis_status lis_reader_finish(const lis_reader *s, lis_found *out);
 /* After LIS_FOUND_REFUSED: makes the reader as after _init, so that it reads on at a header. The message that was open
  * is dropped: it has no end. So a session that broke off costs its own message alone. True if the record that can't be
  * read is that header (LIS_REASON_SECOND_HEADER): give it again, from its first byte. Else go on at the next one, which
- * lis_header_find finds. Without a fault the reader begins anew too. */
+ * lis_header_find finds. Without a fault the reader starts again too. */
 bool lis_reader_resume(lis_reader *s);
 /* Where the next header begins among bytes: how many come before it, or all if none does. `*begins` is whether a record
  * begins with the first byte, and is then whether one begins after the last one, for the next piece of a stream. What

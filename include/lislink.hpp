@@ -251,7 +251,7 @@ public:
     explicit scanner(std::nothrow_t) noexcept : own_(std::nothrow) {}    // throws nothing
     explicit operator bool() const noexcept { return static_cast<bool>(own_); }    // false if there was no memory
 
-    // Sets how long the text of a frame may be, LIS_LIMIT_FRAME_TEXT or LIS_LIMIT_LONG_FRAME_TEXT, and begins anew.
+    // Sets how long the text of a frame may be, LIS_LIMIT_FRAME_TEXT or LIS_LIMIT_LONG_FRAME_TEXT, and starts again.
     [[nodiscard]] lis_status try_set_frame_limit(std::size_t limit) noexcept {
         return lis_scanner_set_limit(own_.get(), limit);
     }
@@ -313,7 +313,7 @@ public:
 }
 #endif
 
-// A connection of a sender, by its number: what came over an earlier one is dropped.
+// A connection of a sender, by its number: bytes of an earlier one are dropped.
 enum class connection : std::uint64_t {};
 
 // Sends texts. The bytes that a call returns are to be sent; there may be none.
@@ -545,7 +545,7 @@ public:
         lis_receiver_timer(get(), &step);
         return step;
     }
-    // Gives up what goes on: call it when a connection was lost, before the first byte of the next one.
+    // Ends what is open: call it when a connection was lost, before the first byte of the next one.
     void restart() noexcept { lis_receiver_restart(get()); }
     // Says whether there is room for another frame from now on; without it a new frame is answered NAK.
     void set_room(bool room) noexcept { lis_receiver_set_room(get(), room); }

@@ -70,7 +70,7 @@ public:
 
         bool is_step() const noexcept { return is_step_; }         // whether it was for the receiver, not the sender
         const lis_step &step() const noexcept { return step_; }    // the receiver's step
-        // Whether nothing happened: the timer runs on. After any other answer it begins anew.
+        // Whether nothing happened: the timer runs on. After any other answer it starts again.
         bool is_quiet() const noexcept { return is_step_ && step_.note == LIS_NOTE_QUIET; }
         // The text that is complete, to be kept before anything is sent.
         std::optional<std::string_view> text() const noexcept {
@@ -150,7 +150,7 @@ public:
     // Which text and which byte of it the last start failed for.
     lis_place fault() const noexcept { return fault_; }
     // Whether a late reply could meet the next ENQ, that of a start or the one after a wait: over a line that answers
-    // late, connect it anew first.
+    // late, connect it again first.
     bool needs_new_line() const noexcept { return spent_ || phase() != LIS_PHASE_NEUTRAL; }
 
     // Hears bytes up to the first answer, or all of them if there is none, and takes them from the front of `bytes`. If

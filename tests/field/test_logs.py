@@ -203,7 +203,7 @@ def errors():
         ),
         "type 249",
     ),
-    ("replies alone", b"RX: 06\nRX: 06\n", "replies alone"),
+    ("replies alone", b"RX: 06\nRX: 06\n", "only replies"),
     ("a capture", b"> 05\n", "already"),
     )
 

@@ -104,7 +104,7 @@ class Outcome(enum.IntEnum):
     TIMED_OUT = 2
     #: A frame was answered otherwise than by ACK or EOT six times.
     SIX_TRIES = 3
-    #: It was given up, as by Sender.restart.
+    #: It was restarted, for example by Sender.restart.
     RESTARTED = 4
 
 

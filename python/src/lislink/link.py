@@ -239,7 +239,7 @@ class SendingEnd(Owner):
     @property
     def needs_new_line(self) -> bool:
         """Whether a late reply could meet the next ENQ, that of a start or the one after a wait. A start raises
-        LinkError OLD_LINE then, until `connected` is called. Over a line that answers late, connect a station anew
+        LinkError OLD_LINE then, until `connected` is called. Over a line that answers late, connect a station again
         before ENQ goes out again after a wait, too."""
         return not self._is_new and self.outcome not in (Outcome.DONE, Outcome.SIX_TRIES)
 
@@ -323,7 +323,7 @@ class ReceivingEnd(Owner, Generic[Meaning]):
         """Says whether it hears carefully from now on: then one damaged byte of a frame acknowledges nothing.
 
         An ENQ on an open line, also one that was a byte of a frame, ends the session with no reply: Note.ENDED. An
-        analyzer that begins anew without EOT is answered at its next ENQ. An STX inside an unfinished frame begins
+        analyzer that starts again without EOT is answered at its next ENQ. An STX inside an unfinished frame begins
         none, and that frame is answered NAK."""
         self._call("set_careful", as_flag(careful, "careful"))
 
@@ -473,7 +473,7 @@ class Receiver(ReceivingEnd[Step]):
         return self._told(out)
 
     def restart(self) -> None:
-        """Gives up what goes on: the line is closed, and what is held is dropped. Nothing is sent."""
+        """Ends what is open: the line is closed, and what is held is dropped. Nothing is sent."""
         self._call("restart")
 
     def set_room(self, room: bool) -> None:

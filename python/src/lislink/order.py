@@ -408,8 +408,8 @@ def nothing_of(query: Row, way: str, clock: Optional[float] = None) -> List[byte
 
 
 def failure(clock: Optional[float] = None) -> List[bytes]:
-    """The answer to a query that can't be looked up: the terminator for an error in the last request (LIS02-A2, 12.1.3).
-    It doesn't say that there is no order."""
+    """The answer to a query that can't be looked up: the terminator for an error in the last request (LIS02-A2,
+    12.1.3). It doesn't say that there is no order."""
     return texts_of([], "ascii", end=CANT, clock=clock)
 
 

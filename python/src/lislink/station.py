@@ -10,7 +10,7 @@ from .link import FRAME_TEXT, LinkError, ReceivingEnd, SendingEnd, Step
 
 
 class Answer(NamedTuple):
-    """What a byte or the timer meant to a station: keep the text, then send the bytes. The station's timer begins anew
+    """What a byte or the timer meant to a station: keep the text, then send the bytes. The station's timer starts again
     at each answer."""
 
     #: The bytes to send; there may be none.

@@ -134,7 +134,7 @@ family! {
     TimedOut = LIS_OUTCOME_TIMED_OUT,
     /// a frame was answered otherwise than by ACK or EOT six times.
     SixTries = LIS_OUTCOME_SIX_TRIES,
-    /// it was given up, as by lis_sender_restart.
+    /// it was restarted, for example by lis_sender_restart.
     Restarted = LIS_OUTCOME_RESTARTED,
 }
 

@@ -227,7 +227,7 @@ impl Receiver {
         step_of(&step)
     }
 
-    /// Gives up what goes on: call it when a connection was lost, before the first byte of the next one.
+    /// Ends what is open: call it when a connection was lost, before the first byte of the next one.
     pub fn restart(&mut self) {
         unsafe { sys::lis_receiver_restart(self.block.get()) };
     }

@@ -4,7 +4,7 @@ use lislink_sys as sys;
 use std::marker::PhantomData;
 use std::time::Duration;
 
-/// A connection of a sender, by its number: what came over an earlier one is dropped.
+/// A connection of a sender, by its number: bytes of an earlier one are dropped.
 #[derive(Clone, Copy, Debug, PartialEq, Eq)]
 pub struct Connection(u64);
 

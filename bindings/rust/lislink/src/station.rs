@@ -32,7 +32,7 @@ impl StationAnswer<'_> {
         self.step
     }
 
-    /// Whether nothing happened: the timer runs on. After any other answer it begins anew.
+    /// Whether nothing happened: the timer runs on. After any other answer it starts again.
     #[must_use]
     pub fn is_quiet(&self) -> bool {
         self.step.is_some_and(|step| step.note == Note::Quiet)
@@ -108,7 +108,7 @@ impl Station {
     }
 
     /// Whether a late reply could meet the next ENQ, that of a start or the one after a wait: over a line that answers
-    /// late, connect it anew first.
+    /// late, connect it again first.
     #[must_use]
     pub fn needs_new_line(&self) -> bool {
         self.spent || self.phase() != Phase::Neutral

@@ -223,7 +223,8 @@ class Analyzer:
         self.waits: List[float] = []
 
     async def send(self, texts: Sequence[bytes]) -> Sent:
-        """Sends a message, by a new connection after each session that failed, until it is done or given up."""
+        """Sends a message until it is done or has failed too often, with a new connection after each session that
+        failed."""
         begun, tried, why = time.monotonic(), 0, ""
         while not self._tries or tried < self._tries:
             tried += 1

@@ -105,7 +105,7 @@ def run_capture(ask: argparse.Namespace) -> int:
         data = read_input(ask.log)
         if ask.form is None and looks_like_capture(data):
             if not ask.swap:
-                raise LogError("this is a capture already (--swap turns it round)")
+                raise LogError("this is a capture already (--swap swaps its sides)")
             capture, remarks = sniffers.swapped(read_capture(data)), ["the sides are swapped"]
         else:
             capture, remarks = _imported(data, ask)

@@ -16,8 +16,8 @@ _FILL = b"\0\x1a"
 
 
 class Result(NamedTuple):
-    """What a result means: its fields, those of its order and of its patient from the third on. The bytes are those of a
-    record without escapes, with the first three delimiters before them; a delimiter that a value has is after NUL."""
+    """What a result means: its fields, those of its order and of its patient from the third on. The bytes are those of
+    a record without escapes, with the first three delimiters before them; a delimiter that a value has is after NUL."""
 
     fields: bytes
     order: bytes

@@ -1,5 +1,5 @@
-"""What looks wrong in a session, even if each rule is kept: in words, with the command that helps. A table says what
-is looked for, and the verdict on it; what a verdict says is in `watch.verdicts`."""
+"""Finds what looks wrong in a session, even if it breaks no rule, and names the command that helps. A table has what to
+look for, with the verdict on it; the sentences of the verdicts are in `diagnosis.verdicts`."""
 import re
 from collections import Counter
 from typing import Any, Callable, Dict, Iterator, List, NamedTuple, Optional, Union
@@ -341,7 +341,7 @@ def _of_fault(ladder: Ladder, fault: Fault) -> Look:
 
 
 def _fixes(options: List[str]) -> str:
-    """What fixes the records of a file, and those of a host's line."""
+    """The options that fix the records of a file, and the settings for a host's line."""
     if options == ["--long"]:
         return "`lislab normalize --long` leaves the record out, as a host does"
     names = " or ".join(f"`fix={one[2:]}`" for one in options)
@@ -350,7 +350,7 @@ def _fixes(options: List[str]) -> str:
 
 
 def _was_lost(ladder: Ladder) -> bool:
-    """Whether a frame was rejected, dropped or lost, or a session was given up."""
+    """Whether a frame was rejected, dropped or lost, or a session was aborted."""
     return any(row.level == BAD and row.side == ">" for row in ladder.rows) or Note.TIMED_OUT in ladder.notes
 
 

@@ -197,7 +197,7 @@ def _headers(work: Work, records: List[Record]) -> Iterator[Record]:
         yield number, record, end
 
 
-#: Bytes that no record holds, but for NUL, Ctrl-Z, LF and those of the link.
+#: Bytes that no record may hold, except NUL, Ctrl-Z, LF and the bytes of the link.
 _NO_TEXT = re.compile(rb"[\x01\x08\x0e-\x14\x16\x18\x19\x1b-\x1f\x7f\xff]")
 
 
@@ -303,7 +303,7 @@ def rejected_lines(data: bytes) -> Iterator[str]:
 
 
 def explain(data: bytes) -> Iterator[str]:
-    """What is wrong with the records, which options fix it, and what is left with them."""
+    """Reports what is wrong with the records, which options fix it, and what stays wrong with them."""
     before = list(rejected_lines(data))
     if not before and not any(changed_lines(data, data)):
         yield "nothing is wrong: all records are read"

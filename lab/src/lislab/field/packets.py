@@ -46,7 +46,7 @@ def is_packets(data: bytes) -> bool:
 
 
 def packets_of(data: bytes, remarks: List[str]) -> Iterator[Packet]:
-    """The packets of a file; a last one that isn't whole is left out with a remark."""
+    """The packets of a file; an incomplete last one is left out with a remark."""
     return _pcapng(data, remarks) if data[:4] == _PCAPNG else _pcap(data, remarks)
 
 
@@ -395,7 +395,7 @@ def joined(found: List[Connection], every: List[Connection], form: str) -> Log:
             f"{sum(one.skipped for one in found)} bytes aren't in the file, and were passed over: units are missing or torn"
         )
     if sum(one.early for one in found):
-        remarks.append(f"{sum(one.early for one in found)} segments came out of order, and were put in their place")
+        remarks.append(f"{sum(one.early for one in found)} segments arrived out of order and were reordered")
     others = [one for one in every if one not in found and one.pieces]
     if others:
         count = sum(len(piece.data) for one in others for piece in one.pieces)
@@ -459,6 +459,6 @@ def _pairs(text: str) -> List[str]:
 
 
 def _link_of(data: bytes) -> int:
-    """The kind of the link of a packet that is dumped: IP alone if it has as many bytes as it says, else Ethernet."""
+    """The link type of a packet in a dump: raw IP if its length field fits, otherwise Ethernet."""
     is_ip = len(data) > 20 and data[0] >> 4 == 4 and len(data) == struct.unpack_from(">H", data, 2)[0]
     return 101 if is_ip else 1

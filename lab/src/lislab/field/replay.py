@@ -23,7 +23,7 @@ class Frame(NamedTuple):
     number: int
 
 
-#: What goes out: a control byte, or a frame by its number.
+#: What the computer sends: a control byte, or a frame by its number.
 Unit = Union[int, Frame]
 
 

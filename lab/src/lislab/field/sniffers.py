@@ -1,4 +1,4 @@
-"""Captures out of sniffers' logs: which form a log has, which side is the analyzer, and the lines of the capture."""
+"""Converts sniffers' logs to captures: finds a log's form, which side is the analyzer, and the lines of the capture."""
 import gzip
 import re
 import shlex
@@ -16,7 +16,7 @@ ENQ, ACK, NAK, EOT, STX, LF = 5, 6, 0x15, 4, 2, 10
 
 
 class Options(NamedTuple):
-    """What a user says of a log."""
+    """The options of a user for a log."""
 
     form: Optional[str] = None
     analyzer: Optional[str] = None
@@ -231,7 +231,7 @@ def _of_one_side(pieces: List[Piece], ask: Options, remarks: List[str]) -> List[
     if not any(byte in data for byte in (ENQ, STX)) and not ask.mixed:
         found = [one for one in (ACK, NAK) if one in data]
         if found and len(data.strip(bytes([ACK, NAK, EOT]))) == 0:
-            raise LogError("the log holds replies alone: it is the computer's side")
+            raise LogError("the log has only replies: it is the computer's side")
     told: List[Piece] = []
     replies = False
     for piece in pieces:
@@ -251,11 +251,11 @@ def _of_one_side(pieces: List[Piece], ask: Options, remarks: List[str]) -> List[
         if start < len(piece.data):
             told.append(Piece(piece.time, "analyzer", piece.data[start:]))
     if ask.mixed:
-        remarks.append("both sides are in one stream: ACK and NAK outside frames are taken for the computer's")
+        remarks.append("both sides are in one stream: ACK and NAK outside frames are assumed to be the computer's")
     elif replies:
         remarks.append("ACK or NAK is among the bytes: if both sides are in one stream, --mixed takes them apart")
     if not ask.mixed:
-        remarks.append("one direction alone: what the computer answered isn't in the log")
+        remarks.append("only one direction: the computer's replies are not in the log")
     return told
 
 
@@ -294,7 +294,7 @@ def _analyzer(pieces: List[Piece], sides: List[str], ask: Options, remarks: List
                 return telling[0]
             first = next(piece.side for piece in pieces if piece.side != NEW and ENQ in piece.data)
             remarks.append(
-                f"both sides send ENQ; the first, {first!r}, is taken for the analyzer (--swap turns it round)"
+                f"both sides send ENQ; the first, {first!r}, is assumed to be the analyzer (--swap reverses that)"
             )
             return first
     options = " or ".join(f"--analyzer-side={shlex.quote(one)}" for one in sides)
@@ -376,7 +376,7 @@ def _lines(pieces: List[Piece], analyzer: str, timer: Optional[float]) -> Captur
 
 def of_two_dumps(analyzer: bytes, computer: bytes) -> Tuple[Capture, List[str]]:
     """A capture of the bytes of each direction: a reply of the computer is put after each ENQ and each frame. The
-    order is made up by the rules of the link, and a remark says so."""
+    order is a guess by the rules of the link, and a remark reports that."""
     lines: List[Line] = []
     at = used = 0
     with Scanner() as scanner:

@@ -1,4 +1,4 @@
-"""Results as a table: CSV, TSV or JSON lines, out of the messages that the proved reader reads."""
+"""Results as a table (CSV, TSV or JSON lines), from messages that the proved reader reads."""
 import csv
 import io
 import json

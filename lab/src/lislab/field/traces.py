@@ -136,7 +136,7 @@ def words(text: str) -> bytes:
 
 
 #: How escapes with a backslash are written: with a doubled backslash for one, as in C, Java and JSON; with a backslash
-#: as it is; or for the control bytes by their numbers alone.
+#: as it is; or only for the control bytes, by their numbers.
 _DOUBLED, _ALONE, _NUMBERS = "doubled", "alone", "numbers"
 _ESCAPE = re.compile(r"\\(?:[xX](?P<x>[0-9A-Fa-f]{2})|u00(?P<u>[0-9A-Fa-f]{2})|(?P<letter>[rntabfve0\\\"'/]))")
 _LETTERS = {"r": 13, "n": 10, "t": 9, "a": 7, "b": 8, "f": 12, "v": 11, "e": 27, "0": 0}
@@ -541,7 +541,7 @@ def _unmarked(lines: List[str], grammar: Grammar) -> Log:
 
 
 def _without_sides(lines: List[str], grammar: Grammar) -> Tuple[List[Piece], str]:
-    """The pieces of lines without directions, and what was taken for the two sides."""
+    """The pieces of lines without directions, and a remark on what is assumed to be the two sides."""
     indents = [_indent(line) for line in lines]
     least = min(indents)
     wide = max(indents) - least >= 4
@@ -556,8 +556,8 @@ def _without_sides(lines: List[str], grammar: Grammar) -> Tuple[List[Piece], str
             side = "replies" if data in (b"\x06", b"\x15") else "rest"
         pieces.append(Piece(find_time(line), side, data))
     if wide:
-        return pieces, "the columns are taken for the two sides"
-    return pieces, "lines that are one ACK or NAK are taken for the computer's"
+        return pieces, "the columns are assumed to be the two sides"
+    return pieces, "lines that are one ACK or NAK are assumed to be the computer's"
 
 
 def _indent(line: str) -> int:

@@ -33,7 +33,7 @@ _ENDS = {
     Note.OPENED: "a new session began before its L record",
     Note.NOT_READY: "a new session began before its L record",
     Note.ENDED: "the session ended before its L record",
-    Note.TIMED_OUT: "the analyzer fell silent before its L record",
+    Note.TIMED_OUT: "the analyzer sent nothing more before its L record",
 }
 _NOISE = "there was noise on the line before its L record"
 _TAKEN = (Note.ACCEPTED, Note.DUPLICATE)

@@ -46,7 +46,7 @@ _COUNTERS = (
     ("lislab_texts_not_stored_total", "Texts that could not be stored, and were not acknowledged.", "not_stored"),
     ("lislab_late_replies_total", "Replies that were not sent, since they would have been late.", "late"),
     ("lislab_noise_total", "ENQ and STX that came inside a session or a frame.", "noise"),
-    ("lislab_timeouts_total", "Sessions in which the analyzer fell silent.", "timeouts"),
+    ("lislab_timeouts_total", "Sessions that timed out because the analyzer sent nothing.", "timeouts"),
     ("lislab_unknown_codes_total", "Results with a code that the line's code mapping lacks.", "unknown_codes"),
     ("lislab_host_sessions_total", "Sessions of the host, which send orders.", "own_sessions"),
     ("lislab_host_sessions_failed_total", "Sessions of the host that failed.", "failed_sessions"),

@@ -201,7 +201,7 @@ _COUNTED = {
     "not_stored": "texts that could not be stored",
     "late": "replies that would have been late",
     "noise": "ENQ and STX inside a session or a frame (noise)",
-    "timeouts": "sessions that fell silent",
+    "timeouts": "sessions that timed out",
     "unknown_codes": "results with a code that the table of the line lacks",
 }
 
