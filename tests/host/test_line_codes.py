@@ -1,4 +1,4 @@
-"""The tables of codes that lines name: what a file of lines says of them, what a delivery makes by them, and what a
+"""The code mappings that lines name: what a file of lines says of them, what a delivery makes by them, and what a
 host says of codes that they lack."""
 import contextlib
 import glob
@@ -112,7 +112,7 @@ class LineCodes(HostTest):
         file = self.written("again.lines", rows.format("one"))
         self.written("one.codes", HEAD + "GLU,G1\nK,K1\n")
         tables = Tables(None, file, said.append)
-        taken, left = "the code mappings are read again", "the tables of codes stay as they were"
+        taken, left = "the code mappings are read again", "the code mappings stay as they were"
         missing = f"{self.path('one.codes')}:2: the laboratory's code is missing"
         for step, (name, text, wanted, words) in enumerate((
             ("one.codes", HEAD + "GLU,G2\nK,K2\n", "G2", [taken]),
@@ -181,7 +181,7 @@ class LineCodes(HostTest):
         self.same("no other one", host.says().count(lacks), 2)
         self.shows(host, "a: codes that its code mapping lacks: K 2\n", END, 2)
         self.reload(host, table, HEAD + "GLU,\n", f"{table}:2: the laboratory's code is missing\n")
-        self.has("it is left", host.says(), "the file of lines is not taken")
+        self.has("it is left", host.says(), "the lines file has faults")
         self.shows(host, "a: codes that its code mapping lacks: K 2\n", END, 2)
         again = "the lines are read again: 0 closed, 0 opened, 2 as they were"
         self.reload(host, table, HEAD + "K,K,,,,mg\nGLU,GLUC,,,,\n", f"{again}; 1 with another code mapping\n")

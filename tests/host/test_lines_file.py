@@ -29,7 +29,7 @@ from tests.host.hosts import (
 from tests.host.test_lines import ACK, ENQ, EOT, NAK, TEXTS, Client, chained, frames
 
 #: What is said after the file was read again, and after one that has a fault.
-TAKEN, LEFT = "the lines are read again: ", "the file of lines is not taken"
+TAKEN, LEFT = "the lines are read again: ", "the lines file has faults"
 #: Timers that don't run out on a busy machine.
 SLOW = 0.3
 GOOD = """\

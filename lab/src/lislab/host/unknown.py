@@ -1,5 +1,5 @@
-"""What a line's table of codes lacks: the results of its complete messages are looked up as a delivery looks them
-up."""
+"""The codes that a line's code mapping lacks: the results of its complete messages are looked up as a delivery looks
+them up."""
 import contextlib
 from collections import Counter
 from typing import Callable, Dict, Optional, Tuple

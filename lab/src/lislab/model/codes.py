@@ -1,4 +1,4 @@
-"""A table of codes: which code, unit and factor the laboratory has for an analyzer's code. It changes a message's
+"""A test code mapping: the laboratory's code, unit and factor for an analyzer's code. It changes a message's
 records; the store keeps what came."""
 import csv
 import decimal

@@ -63,7 +63,7 @@ def _is_wanted(one: Stored, wanted: Wanted) -> bool:
 
 
 class Form(NamedTuple):
-    """How messages are written: in which form, by which table of codes and settings of lines, and as their receiver
+    """How messages are written: in which form, by which code mapping and settings of lines, and as their receiver
     wants it. A table has these columns; its formulas are made harmless; controls go out too, or they alone."""
 
     form: str

@@ -1,4 +1,4 @@
-"""By what messages go out: the settings of each line and its table of codes, as a file of lines has them, and a table
+"""How messages are delivered: by the settings and the code mapping of each line, from a lines file, and by a mapping
 for all other lines. A delivery that goes on reads them again when they changed."""
 import os
 from typing import Callable, Dict, List, NamedTuple, Optional, Sequence, Tuple
