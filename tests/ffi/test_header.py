@@ -181,11 +181,12 @@ class Header(kit.Test):
     def test_quotations(self):
         """Each block of C or Python on a page is in a sample, whole and in its order, at one depth."""
         files = [*glob.glob(f"{IN_C}/*"), *glob.glob(f"{IN_PYTHON}/*.py")]
-        codes = [textwrap.dedent(open(file).read()) for file in files]
+        codes, count = [textwrap.dedent(open(file).read()) for file in files], 0
         for page in PAGES:
             blocks = re.findall(r"(?<!<!-- sketch -->\n)^```(?:c|python)\n(.*?)^```$", kit.read(page), re.S | re.M)
             for block in blocks:
                 deeper = [textwrap.indent(block, " " * depth) for depth in range(0, 21, 4)]
                 self.check(any(f"\n{it}" in f"\n{code}" for it in deeper for code in codes), page,
                            f"no sample has\n{block}")
-            self.check(bool(blocks), f"{page}: no block of code")
+            count += len(blocks)
+        self.check(count > 1, "blocks of code", str(count))

@@ -524,7 +524,7 @@ class Fixes(HostTest):
         found = lines.read_lines(file.name, [])
         shown = "a: listen=127.0.0.1:1 frame=240 encoding=iso8859-1 fix=nul,bytes,last-l"
         self.same("as it is shown", [lines.text_of(one) for one in found.places], [shown])
-        self.same("a fault", found.faults, [f"{file.name}:7: a line fixes {', '.join(options.NAMES)}, not lfs"])
+        self.same("a fault", found.faults, [f"{file.name}:7: fix is one or more of {', '.join(options.NAMES)}, not lfs"])
 
 
 def heavy_units(size):

@@ -63,32 +63,44 @@ haematology 2: listen=[2001:db8::7]:4001 frame=63993 encoding=gbk allow=2001:db8
 coagulation: serial=/dev/ttyUSB0:9600 mode=7E1 flow=xonxoff frame=240 encoding=iso8859-1 sample=O.4.3 test=5 \
 zone=Europe/Berlin letters=mark twice=deliver
 lines 3 faults 0
-""" #: Files with faults: the row of each, and what is said of it. FAULTS = ( ("", [(1, "there is no line: [NAME], and
-below it listen or connect = HOST:PORT, or serial = DEVICE:SPEED")]), ("\n# no line\n", [(1, "there is no line")]),
-("listen = 1\n[a]\nlisten = 2\n", [(1, "expected a line's name first, for example [chemistry]")]), ("[a]\nlisten =
-1\n[b]\nlisten = 2\n[a]\nlisten = 3\n", [(5, "the name a is in row 1 too")]), ("[a]\nlisten = 1\n\nlisten = 2\n", [(4,
-"listen is there twice")]), ("[a]\nlisten = 1\nx = 2\n", [(3, "no setting x: a line with listen has allow, frame,
-encoding, orders, none")]), ("[a]\nserial = /dev/x:9600\nallow = 10.0.0.0/8\n", [(3, "a line with serial has mode, flow,
-frame, encoding,")]), ("[a]\nframe = 240\n", [(1, "a has no place: it is at one listen, connect or serial")]),
-("[a]\nlisten = 1\nserial = /dev/x:1\n", [(1, "a has listen and serial: it is at one listen, connect or serial")]),
-("[a]\nlisten = x\n", [(2, "x: expected HOST:PORT")]), ("[a]\nlisten =\n", [(2, "expected HOST:PORT")]), ("[a]\nserial =
-/dev/x\n", [(2, "expected DEVICE:SPEED, for example /dev/ttyUSB0:9600")]), ("[a]\nlisten = 1\nframe = 241\n", [(3, "at
-most 240 or 63993 bytes of text, not 241")]), ("[a]\nlisten = 1\nencoding = latin-77\n", [(3, "no encoding latin-77:
-name one, for example latin-1, utf-8 or gbk")]), ("[a]\nlisten = 1\norders = yes\n", [(3, "orders is query or download,
-not yes")]), ("[a]\nlisten = 1\nnone = x\n", [(3, "none is L-I, Q-X, silence, not x")]), ("[a]\nlisten = 1\nallow =
-10.0.0.0/99\n", [(3, "expected a network, for example 10.0.5.0/24")]), ("[a]\nserial = /dev/x:9600\nmode = 9\n", [(3,
-"data bits, parity and stop bits, as 8N1 or 7E1")]), ("[a]\nserial = /dev/x:9600\nflow = x\n", [(3, "flow control is
-none, rtscts or xonxoff")]), ("[a]\nlisten = 1\nsample = R.3\n", [(3, "R.3: the sample is O.3, O.4, a component such as
-O.4.3, or none")]), ("[a]\nlisten = 1\ntest = 0\n", [(3, "0: the test is a component of R-3, for example 4, or several,
-for example 4^7")]), ("[a]\nlisten = 1\nzone = Berlin\n", [(3, "there is no time zone Berlin: name one, for example
-Europe/Berlin")]), ("[a]\nlisten = 1\nletters = x\n", [(3, "quarantine or mark is wanted, not x")]), ("[a]\nlisten =
-1\ntwice = x\n", [(3, "quarantine or deliver is wanted, not x")]), ("[a]\nlisten = 1\n  frame = 240\n", [(2, "takes one
-word, and a row that begins with a blank belongs to it")]), ("[a]\nlisten = 1\nframe\n", [(3, "a row is KEY = VALUE,
-[NAME], or a comment after #")]), ("[a]\nlisten = 10.0.0.1:4001\n", [(2, "10.0.0.1:4001 isn't loopback: name the
-networks that may connect")]), ("[a]\nlisten = 1\n[b]\nlisten = 127.0.0.1:1\n", [(4, "the port 127.0.0.1:1 is in row 2
-too")]), ("[a]\nserial = /dev/x:1\n[b]\nserial = /dev/x:2\n", [(4, "the device /dev/x is in row 2 too")]), ("[ ]\nlisten
-= 1\n", [(1, "the name of a line is wanted")]), ( "[a]\nlisten = 1\nname\nframe = 0\n[b]\nframe = 1\nlisten = y\n[c]\n",
-[(3, "a row is"), (6, "240"), (7, "y: HOST:PORT"), (8, "c has no place")], ), )
+"""
+#: Files with faults: the row of each, and what is said of it.
+FAULTS = (
+    ("", [(1, "there is no line: [NAME], and below it listen or connect = HOST:PORT, or serial = DEVICE:SPEED")]),
+    ("\n# no line\n", [(1, "there is no line")]),
+    ("listen = 1\n[a]\nlisten = 2\n", [(1, "expected a line's name first, for example [chemistry]")]),
+    ("[a]\nlisten = 1\n[b]\nlisten = 2\n[a]\nlisten = 3\n", [(5, "the name a is in row 1 too")]),
+    ("[a]\nlisten = 1\n\nlisten = 2\n", [(4, "listen is there twice")]),
+    ("[a]\nlisten = 1\nx = 2\n", [(3, "no setting x: a line with listen has allow, frame, encoding, orders, none")]),
+    ("[a]\nserial = /dev/x:9600\nallow = 10.0.0.0/8\n", [(3, "a line with serial has mode, flow, frame, encoding,")]),
+    ("[a]\nframe = 240\n", [(1, "a has no place: it is at one listen, connect or serial")]),
+    ("[a]\nlisten = 1\nserial = /dev/x:1\n", [(1, "a has listen and serial: it is at one listen, connect or serial")]),
+    ("[a]\nlisten = x\n", [(2, "x: expected HOST:PORT")]),
+    ("[a]\nlisten =\n", [(2, "expected HOST:PORT")]),
+    ("[a]\nserial = /dev/x\n", [(2, "expected DEVICE:SPEED, for example /dev/ttyUSB0:9600")]),
+    ("[a]\nlisten = 1\nframe = 241\n", [(3, "at most 240 or 63993 bytes of text, not 241")]),
+    ("[a]\nlisten = 1\nencoding = latin-77\n", [(3, "no encoding latin-77: name one, for example latin-1,")]),
+    ("[a]\nlisten = 1\norders = yes\n", [(3, "orders is query or download, not yes")]),
+    ("[a]\nlisten = 1\nnone = x\n", [(3, "none is L-I, Q-X, silence, not x")]),
+    ("[a]\nlisten = 1\nallow = 10.0.0.0/99\n", [(3, "expected a network, for example 10.0.5.0/24")]),
+    ("[a]\nserial = /dev/x:9600\nmode = 9\n", [(3, "data bits, parity and stop bits, as 8N1 or 7E1")]),
+    ("[a]\nserial = /dev/x:9600\nflow = x\n", [(3, "flow control is none, rtscts or xonxoff")]),
+    ("[a]\nlisten = 1\nsample = R.3\n", [(3, "R.3: the sample is O.3, O.4, a component such as O.4.3, or none")]),
+    ("[a]\nlisten = 1\ntest = 0\n", [(3, "0: the test is a component of R-3, for example 4, or several")]),
+    ("[a]\nlisten = 1\nzone = Berlin\n", [(3, "there is no time zone Berlin: name one, for example Europe/Berlin")]),
+    ("[a]\nlisten = 1\nletters = x\n", [(3, "expected quarantine or mark, not x")]),
+    ("[a]\nlisten = 1\ntwice = x\n", [(3, "expected quarantine or deliver, not x")]),
+    ("[a]\nlisten = 1\n  frame = 240\n", [(2, "has one word; a row that begins with a space belongs to")]),
+    ("[a]\nlisten = 1\nframe\n", [(3, "a row is KEY = VALUE, [NAME], or a comment after #")]),
+    ("[a]\nlisten = 10.0.0.1:4001\n", [(2, "10.0.0.1:4001 isn't loopback: name the networks that may connect")]),
+    ("[a]\nlisten = 1\n[b]\nlisten = 127.0.0.1:1\n", [(4, "the port 127.0.0.1:1 is in row 2 too")]),
+    ("[a]\nserial = /dev/x:1\n[b]\nserial = /dev/x:2\n", [(4, "the device /dev/x is in row 2 too")]),
+    ("[ ]\nlisten = 1\n", [(1, "expected the name of a line")]),
+    (
+        "[a]\nlisten = 1\nname\nframe = 0\n[b]\nframe = 1\nlisten = y\n[c]\n",
+        [(3, "a row is"), (6, "240"), (7, "y: expected HOST:PORT"), (8, "c has no place")],
+    ),
+)
 
 
 def sections(**places):

@@ -25,7 +25,7 @@ class Status(HostTest):
             one.start("h")
             for age, held, wanted, words in (
                 (None, True, (1, True, None), "the host is running; there is no state that it wrote"),
-                (0, True, (0, True, 0), "the host is running since"),
+                (0, True, (0, True, 0), "the host has been running since"),
                 (60, True, (1, True, 60), "the host is running; its state is 60 seconds old"),
                 (-3600, True, (1, True, -3600), "its state is 3600 seconds ahead of the clock"),
                 (0, False, (1, False, 0), "the host is not running"),

@@ -378,5 +378,5 @@ def print_summary(summary: Summary) -> None:
     sessions = ", ".join(f"{name} {count}" for name, count in sorted(summary.outcomes.items()))
     shares = ((0.5, "median"), (0.99, "99%"), (1, "longest"))
     waits = ", ".join(f"{milliseconds(summary.waits, share)} ms ({text})" for share, text in shares)
-    head = f"lislab: done {summary.done}, failed {summary.failed}, {rate:.1f} a second"
+    head = f"lislab: done {summary.done}, failed {summary.failed}, {rate:.1f} per second"
     print(f"{head}; sessions {sessions}; replies after {waits}", file=sys.stderr)

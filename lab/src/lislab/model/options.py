@@ -186,7 +186,7 @@ def _fix(words: str) -> Tuple[str, ...]:
     given = [SAME.get(one, one) for one in words.replace(",", " ").replace("+", " ").split()]
     for one in given:
         if one not in NAMES and one not in ALWAYS:
-            raise OptionError(f"a line fixes {', '.join(NAMES)}, not {one}")
+            raise OptionError(f"fix is one or more of {', '.join(NAMES)}, not {one}")
     return tuple(one for one in NAMES if one in given)
 
 

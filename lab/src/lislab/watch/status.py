@@ -161,8 +161,9 @@ def text_of(data: Dict[str, Any]) -> str:
     """The same for a reader."""
     if data["running"]:
         head = (
-            f"the host is running since {data['since']}, process {data['process']}: {many(data['commits'], 'commit')}, "
-            f"{data['failed_commits']} failed; {many(data['refused_connections'], 'connection')} turned away"
+            f"the host has been running since {data['since']}, process {data['process']}: "
+            f"{many(data['commits'], 'commit')}, {data['failed_commits']} failed; "
+            f"{many(data['refused_connections'], 'connection')} turned away"
         )
         head = head if is_fresh(data["state_age"]) else f"the host is running{_old(data['state_age'])}"
     else:
