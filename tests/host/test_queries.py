@@ -416,7 +416,7 @@ class Queries(HostTest):
 
     def test_settings(self):
         """Settings of queries that can't be."""
-        rows = {"query-sample = 0": "component of Q-3", "echo = O.5": "O.3 or O.4", "again = soon": "a time is wanted",
+        rows = {"query-sample = 0": "component of Q-3", "echo = O.5": "O.3 or O.4", "again = soon": "expected a time",
                 "query-all = maybe": "yes or no", "ask =": "expected a command"}
         for row, wanted in rows.items():
             lines = self.path("wrong.lines")
