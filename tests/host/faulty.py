@@ -9,7 +9,7 @@
     careless      three commits of ten fail, and its texts are acknowledged all the same
     forgetful     what can't be read isn't kept
     hasty         a delivery notes a message before it delivers it
-    dropped       three whole messages of ten are not put into the store
+    dropped       three complete messages of ten are not put into the store
     unmarked      a repeat isn't marked
     late          a reply goes out however old it is
     growing       each text stays in memory

@@ -127,7 +127,7 @@ def chained(client, ended):
 
 
 GOOD = b"".join(TEXTS)
-#: Sessions with what can't be read: their texts, how many whole messages they have, and the reasons.
+#: Sessions with what can't be read: their texts, how many complete messages they have, and the reasons.
 ODD = (
     (
         [b"H|\\^&\r", b"R|1\r", b"L|1\r"],
@@ -336,7 +336,7 @@ class Lines(HostTest):
         found = self.after_odd(None)
         wholes = sum(whole for _, whole, _ in ODD)
         sent = sum(len(text) for texts, _, _ in ODD for text in texts)
-        self.same("whole messages", [one.body for one in found.whole], [GOOD] * wholes)
+        self.same("complete messages", [one.body for one in found.whole], [GOOD] * wholes)
         self.same(
             "reasons", [one.reason for one in found.others], [why for *_, whys in ODD for why in whys]
         )

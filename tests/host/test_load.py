@@ -46,7 +46,7 @@ class Load(HostTest):
         self.true("a host whose memory grows is noticed", max(used) >= used[0] + 4096, f"{used} KiB")
 
     def used(self, fault, messages):
-        """The host's memory after each part of the messages, in KiB. A text of each has a whole message."""
+        """The host's memory after each part of the messages, in KiB. A text of each has a complete message."""
         store, used, begun = self.path(f"memory{fault}.db"), [], time.monotonic()
         host, parts = Host(store, fault=fault, scale=1.0), 20 if messages >= 100000 else 4
         for part in range(1, parts + 1):

@@ -50,7 +50,7 @@ TABLES = {
 
 
 def stored(body, key="0000000000000001", **more):
-    """A whole message that is kept."""
+    """A complete message that is kept."""
     return test_told.stored(body, key, **more)
 
 

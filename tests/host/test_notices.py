@@ -112,7 +112,7 @@ class Said(HostTest):
         self.same("counts", (notices.counts["bad"], notices.not_said["bad"][FRAME]), ({"other": 3600, FRAME: 41}, 31))
 
     def test_letters(self):
-        """A whole message whose letters look like those of another encoding is said, once, wherever it is cut."""
+        """A complete message whose letters look like those of another encoding is said, once, wherever it is cut."""
         host = Host(self.path("letters.db"), "--listen", "0,name=named,encoding=utf-8", scale=1.0)
         named = next(int(row.split()[1].rsplit(":", 1)[1]) for row in host.rows if row.endswith(" named\n"))
         names = [("Zoë", "latin-1"), ("Zoë", "utf-8"), ("“Zoë”", "cp1252"), ("Zoe", "ascii")]

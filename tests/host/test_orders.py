@@ -311,7 +311,7 @@ class SpoolBooks(Books, HostTest):
 
     def test_files(self):
         """What is in a file is taken once, also if the host dies before the file is gone; a file with a fault is put
-        aside whole, with why."""
+        aside as a whole, with the reason."""
         where = self.new()
         one = open_book(where)
         self.addCleanup(one.close)

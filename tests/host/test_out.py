@@ -31,7 +31,7 @@ def good_part():
 
 
 def messages_of(store):
-    """The whole messages of a store."""
+    """The complete messages of a store."""
     one = open_store(store)
     try:
         return list(one.messages())

@@ -24,7 +24,7 @@ def records(samples, value="5.4"):
 
 
 def keep(store, bodies, line="fire"):
-    """Puts whole messages into a store: their keys."""
+    """Puts complete messages into a store: their keys."""
     bodies = list(bodies)
     keys = [f"{at:016x}" for at in range(1, len(bodies) + 1)]
     one = open_store(store)

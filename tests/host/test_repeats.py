@@ -96,7 +96,7 @@ class EachWrite:
                 self.same(f"write {number} fails, {how}", found, ([("m", BODY)], [("1", "fixed: delivered as m")]))
 
     def owed(self, fault):
-        """The whole messages, and the others, after a commit with a fault that is made again twice."""
+        """The complete messages, and the others, after a commit with a fault that is made again twice."""
         store = open_store(self.where())
         store.start("h")
         store.commit([begun("1")])
@@ -118,7 +118,7 @@ class EachWrite:
         return repr([(one.key, one.again_of, one.body == BODY) for one in whole])
 
     def found(self, fault, undo_first):
-        """The whole messages after a commit with a fault, and two repeats."""
+        """The complete messages after a commit with a fault, and two repeats."""
         where = self.where()
         store = open_store(where)
         store.start("h")

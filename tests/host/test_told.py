@@ -14,7 +14,7 @@ MANY = 3400
 
 
 def stored(body, key="18b0a0c0d0e0f00011223344", encoding="utf-8", **more):
-    """A whole message that is kept."""
+    """A complete message that is kept."""
     one = Stored(1, key, "chemistry", "10.0.5.7", encoding, 1767225600.0, 1767225600.0, COMPLETE, "", None, body)
     return one._replace(**more)
 

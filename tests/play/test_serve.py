@@ -31,7 +31,7 @@ class Serve(HostTest):
             self.check(not any(row.startswith("difference") for row in ran.lines), f"{name}: differences", ran.text)
             found = Found(host.store)
             self.same(f"{name}: marked repeats", found.again(), 1)
-            self.same(f"{name}: whole messages", len(found.whole), 19)
+            self.same(f"{name}: complete messages", len(found.whole), 19)
             self.same(f"{name}: stop", host.stop(), 0)
 
     def test_silence(self):
@@ -64,7 +64,7 @@ class Serve(HostTest):
             self.same(f"{name}: capture", made.status, 0)
             ran = play(path, "--fast", *words, scale=PATIENT)
             self.check(ran.status == 0 and ran.text.endswith("differences 0\n"), name, ran.text + ran.error)
-        self.same("whole messages", len(Found(host.store).whole), len(LOGS))
+        self.same("complete messages", len(Found(host.store).whole), len(LOGS))
 
     def test_queries(self):
         """The plays of queries and of contention, against a host that has orders for S1, S2 and S3."""
