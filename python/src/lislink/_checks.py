@@ -1,4 +1,4 @@
-"""What a caller gives is looked at here: ctypes alone would wrap numbers, and read text that is no bytes."""
+"""Checks the arguments of callers, because ctypes would wrap numbers and accept text in place of bytes."""
 from typing import Any, Iterator
 
 

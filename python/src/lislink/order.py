@@ -115,12 +115,12 @@ def is_column(name: str) -> bool:
 
 
 def no_column(name: str) -> str:
-    """That there is no such column, and which there are."""
+    """The error for a column that doesn't exist, with those that do."""
     known = ", ".join((*COLUMNS, *MORE))
-    return f"there is no column {name}: {known}, and a field that these don't set, as O.19 or P.9.2"
+    return f"there is no column {name}: {known}, and a field that these don't set, for example O.19 or P.9.2"
 
 
-#: What is said of a file of HL7.
+#: The error for a file of HL7.
 _HL7 = (
     "this is HL7, which isn't read: orders come as CSV, JSON lines or records, as rows of the store's table, or from the "
     "command of a line"

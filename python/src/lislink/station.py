@@ -10,8 +10,8 @@ from .link import FRAME_TEXT, LinkError, ReceivingEnd, SendingEnd, Step
 
 
 class Answer(NamedTuple):
-    """What a byte or the timer meant to a station: keep the text, then send the bytes. The station's timer starts again
-    at each answer."""
+    """What a byte or the timer meant to a station. Store the text, then send the bytes. The station's timer starts
+    again at each answer."""
 
     #: The bytes to send; there may be none.
     send: bytes

@@ -1,1 +1,1 @@
-"""What is wrong on a line: verdicts, the causes of faults, what a line that runs has seen."""
+"""Diagnosis of a line: verdicts, causes of faults, and the state of a running line."""

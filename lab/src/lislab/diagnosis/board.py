@@ -1,4 +1,4 @@
-"""The board of a host that runs: the pulse of each line, as data for who looks, and the pieces of a line's ring."""
+"""The board of a running host: the pulse of each line as data, and pieces of a line's ring, for `lislab watch`."""
 import json
 import time
 from typing import Any, Callable, Dict, Iterable, List, Mapping, Optional

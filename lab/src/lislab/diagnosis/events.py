@@ -1,4 +1,4 @@
-"""What happens on a line, for those who listen. A line waits for none of them, and none can break it."""
+"""The events of a line, for its observers. The line waits for none of them, and none can break it."""
 from typing import Callable, Dict, List, Mapping, NamedTuple, Sequence, Type, Union
 
 from lislink.link import Step

@@ -1,4 +1,4 @@
-"""What bytes look like that are none of this link."""
+"""Recognizes the bytes of other protocols."""
 import re
 from typing import Optional
 

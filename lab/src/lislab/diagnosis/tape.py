@@ -1,4 +1,4 @@
-"""What went over a line, written as it goes: a capture of version 2, and a file with the times of its lines."""
+"""Records the traffic of a line: a capture of version 2, and a file with the times of its lines."""
 import os
 import time
 from typing import List

@@ -1,1 +1,1 @@
-"""What went over a line: sniffers' logs, ladders, record files of dialects, tables."""
+"""Recorded traffic: sniffers' logs, ladders, record files of dialects, tables."""

@@ -1,4 +1,4 @@
-"""Record files of dialects made readable: each change is asked for by its own option, and reported with its line."""
+"""Makes record files of dialects readable. Each change has an option of its own, and is reported with its line."""
 import bisect
 import re
 from typing import Dict, Iterator, List, NamedTuple, Set, Tuple

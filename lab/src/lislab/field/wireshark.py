@@ -1,4 +1,5 @@
-"""What Wireshark and tshark write as text: Follow TCP Stream (hex dump, C arrays, YAML, raw) and fields, JSON, PDML."""
+"""Reads what Wireshark and tshark write as text: Follow TCP Stream (hex dump, C arrays, YAML, raw) and fields, JSON,
+PDML."""
 import base64
 import binascii
 import csv

@@ -1,1 +1,1 @@
-"""What is kept and what it means: stores, orders, the settings of lines, the codes and results of messages."""
+"""Stored data and its meaning: stores, orders, the settings of lines, the codes and results of messages."""

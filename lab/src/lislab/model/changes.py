@@ -1,4 +1,4 @@
-"""The changes of records that can be asked for: of a file by `lislab normalize`, of a line by `fix=`."""
+"""The changes of records: options of `lislab normalize` for a file, and names of the setting `fix` for a line."""
 from typing import Dict
 
 #: The changes, in the order in which they are made: the option and what it does.

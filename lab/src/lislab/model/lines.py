@@ -1,4 +1,4 @@
-"""The file of a host's lines: a section a line, as configparser reads it. Each fault has its row and what is right."""
+"""The lines file: one section per line, as configparser reads it. Each fault has its row and the right form."""
 import configparser
 import os
 import re

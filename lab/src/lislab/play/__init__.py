@@ -1,1 +1,1 @@
-"""Scripts that play an analyzer or a computer, and compare what the other end does."""
+"""Test scripts that play an analyzer or a host, and compare what the other end does."""

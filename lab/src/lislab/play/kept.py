@@ -1,4 +1,4 @@
-"""What was acknowledged in a play, and whether the other end has kept it, once."""
+"""The records that were acknowledged in a script, and whether the other end has stored each of them once."""
 import shlex
 import subprocess
 from collections import Counter

@@ -1,4 +1,4 @@
-"""Plays a script: sends what one end sends, waits for what is to come, and notes what differs."""
+"""Runs a script: sends what one end sends, waits for what must arrive, and notes the differences."""
 import itertools
 import time
 from typing import Callable, List, NamedTuple, Optional, Sequence, Tuple

@@ -1,4 +1,4 @@
-"""The end of a line that is played: a connection that it makes or waits for, or a serial line."""
+"""The end of a line that a script plays: a connection that it makes or waits for, or a serial line."""
 import os
 import select
 import socket

@@ -1,1 +1,1 @@
-"""What a host and its deliveries do, for those who look."""
+"""The state of a host and its deliveries, for readers and programs."""

@@ -1,4 +1,4 @@
-"""What `lislab watch` sees: of a host that runs, by its socket; else of the store."""
+"""The data of `lislab watch`: from a running host by its socket, otherwise from the store."""
 import contextlib
 import time
 from typing import Any, Dict, List, Optional, Sequence, Tuple

@@ -1,4 +1,4 @@
-"""The ladder of a line as it goes: rows are given when no later byte can change them."""
+"""The ladder of a line, live: it gives a row once no later byte can change it."""
 from typing import Iterator, List
 
 from lislink.capture import Capture, Line

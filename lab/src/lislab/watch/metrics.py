@@ -1,4 +1,4 @@
-"""What a host does as metrics, in Prometheus' text form (version 0.0.4)."""
+"""The metrics of a host, in Prometheus' text format (version 0.0.4)."""
 from typing import Any, Dict, List, Mapping, Sequence, Tuple
 
 from ..diagnosis.pulse import BUCKETS

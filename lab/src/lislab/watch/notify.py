@@ -1,4 +1,4 @@
-"""A command that is run once when a line turns bad, and once when it is good again."""
+"""Runs a command once when a line turns bad, and once when it is good again."""
 import os
 import subprocess
 import threading

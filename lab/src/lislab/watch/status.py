@@ -1,4 +1,4 @@
-"""`lislab status`: the lines of a host, what is kept, and what isn't delivered yet."""
+"""`lislab status`: the lines of a host, what its store has, and what isn't delivered yet."""
 import json
 import time
 from typing import Any, Dict, Iterator, List, NamedTuple, Optional
