@@ -229,7 +229,7 @@ class Ways(Hides, HostTest):
             self.has(f"{path}: why", found.words, f"{len(HOSTILE) - 1} orders failed since ")
             self.same(f"{path}: tags", sorted(found.tags - TAGS), [])
             self.hides(found.words)
-        self.has("the last ones", found.words, "Orders that failed")
+        self.has("the last ones", found.words, "Failed orders")
         self.same("each of them", sum(f"<td>{at}</td>" in text for at in range(1, len(HOSTILE))), len(HOSTILE) - 1)
         self.true("as text", found.words.count(SCRIPT) > len(HOSTILE), found.words[-500:])
         rows = site.get("/metrics")[2].splitlines()

@@ -83,7 +83,7 @@ FAULTS = (
     ("[a]\nlisten = 1\norders = yes\n", [(3, "orders is query or download, not yes")]),
     ("[a]\nlisten = 1\nnone = x\n", [(3, "none is L-I, Q-X, silence, not x")]),
     ("[a]\nlisten = 1\nallow = 10.0.0.0/99\n", [(3, "expected a network, for example 10.0.5.0/24")]),
-    ("[a]\nserial = /dev/x:9600\nmode = 9\n", [(3, "data bits, parity and stop bits, as 8N1 or 7E1")]),
+    ("[a]\nserial = /dev/x:9600\nmode = 9\n", [(3, "data bits, parity and stop bits, for example 8N1")]),
     ("[a]\nserial = /dev/x:9600\nflow = x\n", [(3, "flow control is none, rtscts or xonxoff")]),
     ("[a]\nlisten = 1\nsample = R.3\n", [(3, "R.3: the sample is O.3, O.4, a component such as O.4.3, or none")]),
     ("[a]\nlisten = 1\ntest = 0\n", [(3, "0: the test is a component of R-3, for example 4, or several")]),

@@ -102,7 +102,7 @@ def page(title: str, body: str, is_live: bool = False) -> str:
     return f"""<!doctype html>
 <html lang="en"><head><meta charset="utf-8"><meta name="viewport" content="width=device-width,initial-scale=1">
 <title>{html.escape(title)}</title><link rel="icon" href="data:,"><link rel="stylesheet" href="/style.css">
-{again if is_live else ""}</head><body><header><h1>{html.escape(title)}</h1><nav>{link("/", "all lines")} &middot;
+{again if is_live else ""}</head><body><header><h1>{html.escape(title)}</h1><nav>{link("/", "all interfaces")} &middot;
 {link("/trouble", "incomplete and invalid messages")} &middot; {link("/metrics", "metrics")}</nav></header>
 <main>{body}</main><footer><p class="note">Made by lislab at {when(time.time())}. It only reads.</p></footer></body>
 </html>
@@ -121,17 +121,17 @@ def lines_page(data: Mapping[str, Any], tally: Tally, delivered: Mapping[str, Se
     rows = "".join(_line_row(name, one, tally.last(name)) for name, one in found)
     head = "" if data["running"] else f'<p class="alarm"><b>{MARKS["bad"]}</b>: {safe(_down(data))}</p>'
     bad = sum(one["state"] == "bad" for one in data["lines"].values())
-    total = f"{many(len(data['lines']), 'line')}, {bad} bad"
+    total = f"{many(len(data['lines']), 'interface')}, {bad} bad"
     table = (
-        '<table class="lines"><thead><tr><th>line</th><th>state</th><th>why</th><th>connected</th><th>last message</th>'
+        '<table class="lines"><thead><tr><th>interface</th><th>state</th><th>why</th><th>connected</th><th>last message</th>'
         f"</tr></thead><tbody>{rows}</tbody></table>"
     )
     table += _deliveries(data.get("deliveries", {}))
     why = f'<p class="alarm">The store can\'t be read: {safe(tally.why)}</p>' if tally.why else ""
     past = [(name, *each) for name, one in data["lines"].items() for each in one.get("past", [])]
     live = f'<section data-live="lines">{head}<p>{total}</p><div class="wide">{table}</div>{past_table(past)}</section>'
-    took = [f"<h2>From kept to delivered, {safe(name)}</h2>{_took(found)}" for name, found in delivered.items()]
-    return page("Lines", live + why + _plots(tally, None) + "".join(took), True)
+    took = [f"<h2>Time from storing to delivery, {safe(name)}</h2>{_took(found)}" for name, found in delivered.items()]
+    return page("Interfaces", live + why + _plots(tally, None) + "".join(took), True)
 
 
 def _deliveries(found: Mapping[str, Any]) -> str:
@@ -147,7 +147,7 @@ def _deliveries(found: Mapping[str, Any]) -> str:
 def no_line_page(names: Iterable[str]) -> str:
     """There is no line of the name that was asked for: those that there are."""
     rows = "".join(f"<p>{link('/line', name, name=name)}</p>" for name in names)
-    return page("There is no such line", rows)
+    return page("There is no such interface", rows)
 
 
 def past_table(past: Sequence[Any]) -> str:
@@ -160,8 +160,8 @@ def past_table(past: Sequence[Any]) -> str:
         f"<td>{safe(text)}</td></tr>"
         for name, since, until, text in last
     )
-    head = "<tr><th>line</th><th>bad since</th><th>until</th><th>why</th></tr>"
-    return f'<h2>What was bad since the host started</h2><div class="wide"><table>{head}{rows}</table></div>'
+    head = "<tr><th>interface</th><th>bad since</th><th>until</th><th>why</th></tr>"
+    return f'<h2>Earlier trouble since the host started</h2><div class="wide"><table>{head}{rows}</table></div>'
 
 
 def _down(data: Mapping[str, Any]) -> str:
@@ -180,7 +180,7 @@ def _plots(tally: Tally, line: Optional[str]) -> str:
     hours, now = tally.hours(line), time.time()
     day = plot.svg("messages an hour, last day", plot.bars(hours, now, HOUR, 24), "%H:%M")
     month = plot.svg("messages a day, last month", plot.bars(hours, now, DAY, 31), "%m-%d")
-    return f"<h2>Messages an hour, last day</h2>{day}<h2>Messages a day, last month</h2>{month}"
+    return f"<h2>Messages per hour, last day</h2>{day}<h2>Messages per day, last month</h2>{month}"
 
 
 class LineData(NamedTuple):
@@ -196,13 +196,13 @@ class LineData(NamedTuple):
 _COUNTED = {
     "sessions": "sessions",
     "frames": "frames accepted",
-    "duplicates": "frames that came again",
+    "duplicates": "repeated frames",
     "texts": "texts",
     "not_stored": "texts that could not be stored",
     "late": "replies that would have been late",
     "noise": "ENQ and STX inside a session or a frame (noise)",
     "timeouts": "sessions that timed out",
-    "unknown_codes": "results with a code that the table of the line lacks",
+    "unknown_codes": "results with a code that the code mapping lacks",
 }
 
 
@@ -215,11 +215,11 @@ def line_page(name: str, one: Mapping[str, Any], tally: Tally, more: LineData) -
     advice = f'<p class="note">{safe(one["advice"])}</p>' if one["advice"] else ""
     body = f"""<section data-live="state"><p>{state(one)} {safe(one["says"])}</p>{advice}
 {past_table([(name, *each) for each in one.get("past", [])])}
-<h2>Since the host started</h2><table>{cells}</table></section>
-<h2>From the first byte to kept</h2>{_took(tally.took(name))}{_plots(tally, name)}
+<h2>Counts since the host started</h2><table>{cells}</table></section>
+<h2>Time from the first byte to storing</h2>{_took(tally.took(name))}{_plots(tally, name)}
 {failed_table(more.failed)}<h2>Incomplete and invalid messages</h2>{heads_table(more.trouble)}
 <h2>Last messages, the newest first</h2>{heads_table(more.heads)}
-<h2>The last bytes of the line, the oldest first</h2>
+<h2>The last bytes, the oldest first</h2>
 <section data-live="ladder"><div class="wide">{more.rows}</div></section>"""
     return page(name if name.isprintable() else repr(name), body, True)
 
@@ -249,7 +249,7 @@ def heads_table(found: Sequence[Head]) -> str:
         f"<td>{safe(one.reason)}</td><td>{one.size}</td></tr>"
         for one in found
     )
-    head = "<tr><th>message</th><th>time</th><th>line</th><th>state</th><th>reason</th><th>bytes</th></tr>"
+    head = "<tr><th>message</th><th>time</th><th>interface</th><th>state</th><th>reason</th><th>bytes</th></tr>"
     return f'<div class="wide"><table>{head}{rows}</table></div>' if rows else "<p>There is none.</p>"
 
 
@@ -264,7 +264,7 @@ def failed_table(found: Optional[Failed]) -> str:
     )
     head = "<tr><th>order</th><th>time</th><th>sample</th><th>tests</th><th>tried</th><th>reason</th></tr>"
     note = f'<p class="note">{many(found.many, "order")}; these are the last ones.</p>'
-    return f'<h2>Orders that failed</h2><div class="wide"><table>{head}{rows}</table></div>{note}'
+    return f'<h2>Failed orders</h2><div class="wide"><table>{head}{rows}</table></div>{note}'
 
 
 def trouble_page(found: Sequence[Head]) -> str:
@@ -280,7 +280,7 @@ def message_page(one: Stored) -> str:
     found: List[Any] = list(read_all(one.body, one.encoding)) if len(one.body) <= RECORDS else []
     parts = [_records(each) if isinstance(each, Found) else _fault(each) for each in found]
     if one.state != COMPLETE or not found:
-        parts.append(f"<h2>Its bytes</h2><p><code>{html.escape(words(one.body, 20 * VALUE))}</code></p>")
+        parts.append(f"<h2>Bytes</h2><p><code>{html.escape(words(one.body, 20 * VALUE))}</code></p>")
     return page(f"Message {one.number if one.number is not None else one.key}", f"<dl>{told}</dl>{''.join(parts)}")
 
 

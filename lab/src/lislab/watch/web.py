@@ -86,10 +86,10 @@ class Pages:
         try:
             return one(self, given)
         except (StoreError, WatchError) as error:
-            return Answer(503, HTML, page.page("It can't be read", f'<p class="alarm">{page.safe(error)}</p>'))
+            return Answer(503, HTML, page.page("The store can't be read", f'<p class="alarm">{page.safe(error)}</p>'))
         except Exception as error:  # a page that can't be made is no reason to say nothing
             why = f"{type(error).__name__}: {error}"
-            return Answer(500, HTML, page.page("It can't be shown", f'<p class="alarm">{page.safe(why)}</p>'))
+            return Answer(500, HTML, page.page("The page can't be shown", f'<p class="alarm">{page.safe(why)}</p>'))
 
     def _lines(self, _: Dict[str, str]) -> Answer:
         delivered = {os.path.basename(one): sorted(read_took(one)) for one in self._cursors}
@@ -248,7 +248,7 @@ class Handler(BaseHTTPRequestHandler):
             address = urlsplit(self.path)
             given = {key: values[-1] for key, values in parse_qs(address.query, max_num_fields=8).items()}
         except ValueError:
-            return Answer(400, HTML, page.page("This is no address", ""))
+            return Answer(400, HTML, page.page("Bad address", ""))
         return self._refused(address.path) or self.server.pages.answer(address.path, given)
 
     def _refused(self, path: str) -> Optional[Answer]:
