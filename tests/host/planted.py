@@ -535,7 +535,7 @@ FAULTS = {
     "test_watch.Watch.test_last_bytes": Edit("diagnosis/ring.py", 'lines.append(Line("R"))', 'lines.append(Line("T"))'),
     "test_watch.Watch.test_no_reply_to_the_host": Edit("host/duplex.py", "        self._tell(OwnFailed(why))\n", ""),
     "test_watch.Watch.test_no_socket": Edit(
-        "host/serve.py", 'say(f"lislab watch can\'t look: {error}")', "raise"
+        "host/serve.py", 'say(f"lislab watch can\'t connect: {error}")', "raise"
     ),
     "test_watch.Watch.test_noise_is_not_bad": Edit(
         "diagnosis/pulse.py", "            if pulse.polls < EMPTY:\n", "            if pulse.polls < 2:\n"
