@@ -112,10 +112,10 @@ AddStatus status texts =
     ((status ≡ FULL) × (most_texts ≤ texts))
     ⊎ ((texts < most_texts) × ((status ≡ OK) ⊎ (status ≡ OUT_OF_MEMORY)))
 
--- the same of a text of so many bytes for the link, which may be longer than a text is
-abbrev pub AddTextStatus : ℕ → ℕ → ℕ → Type 0
-AddTextStatus status texts size =
-    ((status ≡ TOO_LONG) × (longest_text < size)) ⊎ ((size ≤ longest_text) × AddStatus status texts)
+-- the same of bytes for the link: what is wrong with them as a text comes first
+abbrev pub AddTextStatus : ℕ → ℕ → Option TextFault → Type 0
+AddTextStatus status texts None = AddStatus status texts
+AddTextStatus status texts (Some fault) = status ≡ text_status (Some fault)
 
 -- room for so many bytes: it is more than a text has, or it was made, or memory ran out
 abbrev pub ReserveStatus : ℕ → ℕ → Type 0

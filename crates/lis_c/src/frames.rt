@@ -2,15 +2,16 @@
 
 ghost use Rattle.std.specs.Prelude.{◌≡◌, ◌≢◌, ◌+◌, ◌/◌, ◌%◌, ◌≤◌, ◌<◌, ◌++◌, [], ◌∷◌, drop, length};
 ghost use Rattle.lis_c.specs.Emitted.{HoldsBytes};
-ghost use Rattle.lis_c.specs.Status.{OK, frame_status, long_frame_status, text_place};
+ghost use Rattle.lis_c.specs.Status.{OK, frame_status, long_frame_status, text_place, text_status};
 ghost use Rattle.lis_frame.specs.Frame.{checksum, end_byte, frame_bytes, upper_digit};
 ghost use Rattle.lis_text.specs.Control.{CR, LF};
+ghost use Rattle.lis_text.specs.LinkText.{longest_text};
 ghost use Rattle.lis_text.specs.Text.{text_fault};
 
 use crate::out::{LisBytes, put};
 use crate::status::{self, text_place, text_status};
 use lis_frame::{Frame, Text, frame_bytes};
-use lis_text::{CR, ETB, ETX, LF, STX, check_bytes, sum_of};
+use lis_text::{CR, ETB, ETX, LF, LONGEST_TEXT, STX, check_bytes, sum_of};
 
 /// Writes a frame (LIS01-A2, 6.3). `OK`; `TOO_LONG` or `FORBIDDEN`, with the byte's place, where the text is invalid;
 /// `BAD_NUMBER` where the number is over 7. Where it isn't `OK` nothing is written. It takes no memory.
@@ -41,6 +42,23 @@ pub extern "C" fn lis_frame_write(
         Some(frame) => {
             put(out, frame_bytes(&frame).as_slice());
             status::OK
+        }
+    }
+}
+
+/// Whether a session takes bytes as a text: `OK`; `TOO_LONG`; or `FORBIDDEN`, with the place of the first byte that no
+/// text may hold.
+#[unsafe(no_mangle)]
+pub extern "C" fn lis_text_check(text: &[u8], place: &mut usize) -> u8
+    ensures status { result ≡ text_status (text_fault longest_text text.now) }
+    ensures place { place.new ≡ text_place (text_fault longest_text text.now) }
+{
+    *place = 0;
+    match check_bytes(text, LONGEST_TEXT) {
+        Ok(()) => status::OK,
+        Err(fault) => {
+            *place = text_place(fault);
+            text_status(fault)
         }
     }
 }

@@ -15,17 +15,18 @@ ghost use Rattle.lis_link.specs.Sender.{new_sender, start_fault, started};
 ghost use Rattle.lis_link.specs.Representation.{SpareAfter};
 ghost use Rattle.lis_c.specs.Reading.{new_reader};
 ghost use Rattle.lis_text.specs.LinkText.{longest_text};
+ghost use Rattle.lis_text.specs.Text.{text_fault};
 
 use crate::borrowed::{CallerTexts, OwnOrCallerTexts};
 use crate::out::{LisStep, fault_code, fault_place};
 use crate::receiving::AnyReceiver;
 use crate::scanning::AnyScanner;
 use crate::sending::AnySender;
-use crate::status;
+use crate::status::{self, text_status};
 use lis_careful::CarefulHearing;
 use lis_link::{Note, StartFault, StartRefusedOf, Step};
 use lis_message::RecordReader;
-use lis_text::{LONGEST_TEXT, LinkText, List, MOST_TEXTS, Texts};
+use lis_text::{LONGEST_TEXT, LinkText, List, MOST_TEXTS, Texts, check_bytes};
 use std::alloc::{AllocError, Global};
 use std::mem;
 
@@ -113,7 +114,7 @@ impl SenderHandleState {
         ensures added { result ≡ OK →
             self.new ≡ record self.old { texts = self.old.texts ++ bytes.now ∷ [] } }
         ensures refused { result ≢ OK → self.new ≡ self.old }
-        ensures status { AddTextStatus result (length self.old.texts) (length bytes.now) }
+        ensures status { AddTextStatus result (length self.old.texts) (text_fault longest_text bytes.now) }
     {
         add_text(&mut self.texts, self.alloc, bytes)
     }
@@ -343,10 +344,10 @@ pub(crate) fn bounded(bytes: u64) -> u64
 pub(crate) fn add_text(texts: &mut Texts, alloc: Global, bytes: &[u8]) -> u8
     ensures added { result ≡ OK → texts.new ≡ texts.old ++ bytes.now ∷ [] }
     ensures refused { result ≢ OK → texts.new ≡ texts.old }
-    ensures status { AddTextStatus result (length texts.old) (length bytes.now) }
+    ensures status { AddTextStatus result (length texts.old) (text_fault longest_text bytes.now) }
 {
-    if bytes.len() > LONGEST_TEXT {
-        return status::TOO_LONG;
+    if let Err(fault) = check_bytes(bytes, LONGEST_TEXT) {
+        return text_status(fault);
     }
     if texts.len() >= MOST_TEXTS {
         return status::FULL;

@@ -13,6 +13,8 @@ ghost use Rattle.lis_c.specs.contracts.handle_state.SenderHandleState.{the_row a
 ghost use Rattle.lis_link.specs.Sender.{awaited, new_sender, on_reply, on_sender_timer, sender_restarted, start_fault};
 ghost use Rattle.lis_link.specs.Sender.{started};
 ghost use Rattle.lis_text.specs.Control.{ENQ};
+ghost use Rattle.lis_text.specs.LinkText.{longest_text};
+ghost use Rattle.lis_text.specs.Text.{text_fault};
 ghost use Rattle.std.specs.Borrow.{sem};
 ghost use Rattle.std.specs.Mem.{type_size};
 ghost use Rattle.std.specs.Ptr.{room_at};
@@ -83,15 +85,15 @@ pub unsafe extern "C" fn lis_sender_init(alloc: Global, at: *mut u8)
     (at as *mut SenderHandleState).write(SenderHandleState::new(alloc));
 }
 
-/// Puts a copy of a text to the next session: `OK`, `TOO_LONG` where no session takes so many bytes, `FULL` where there
-/// are as many as a session has, or `OUT_OF_MEMORY`. Where it isn't `OK` nothing has changed. A byte that no text may
-/// hold is reported by `lis_sender_start`.
+/// Puts a copy of a text to the next session: `OK`; `TOO_LONG` or `FORBIDDEN` where no session takes these bytes, which
+/// `lis_text_check` finds; else `FULL` where there are as many as a session has, or `OUT_OF_MEMORY`. Where it isn't `OK`
+/// nothing has changed.
 #[unsafe(no_mangle)]
 pub extern "C" fn lis_sender_add_text(s: &mut LisSender, text: &[u8]) -> u8
     ensures added { result ≡ OK →
         s.new.state ≡ record s.old.state { texts = s.old.state.texts ++ text.now ∷ [] } }
     ensures refused { result ≢ OK → s.new.state ≡ s.old.state }
-    ensures status { AddTextStatus result (length s.old.state.texts) (length text.now) }
+    ensures status { AddTextStatus result (length s.old.state.texts) (text_fault longest_text text.now) }
 {
     s.borrow().add(text)
 }

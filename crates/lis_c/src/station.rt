@@ -25,6 +25,8 @@ ghost use Rattle.lis_station.specs.Station.{on_station_timer, readied, station_f
 ghost use Rattle.lis_station.specs.Station.{station_seconds};
 ghost use Rattle.lis_station.specs.Station.{taken_by, turn_asked_for, turn_seconds};
 ghost use Rattle.lis_text.specs.Control.{ENQ};
+ghost use Rattle.lis_text.specs.LinkText.{longest_text};
+ghost use Rattle.lis_text.specs.Text.{text_fault};
 ghost use Rattle.std.specs.Borrow.{sem};
 ghost use Rattle.std.specs.Mem.{type_size};
 ghost use Rattle.std.specs.Ptr.{room_at};
@@ -135,7 +137,7 @@ pub extern "C" fn lis_station_add_text(s: &mut LisStation, text: &[u8]) -> u8
     ensures added { result ≡ OK →
         s.new.state ≡ record s.old.state { texts = s.old.state.texts ++ text.now ∷ [] } }
     ensures refused { result ≢ OK → s.new.state ≡ s.old.state }
-    ensures status { AddTextStatus result (length s.old.state.texts) (length text.now) }
+    ensures status { AddTextStatus result (length s.old.state.texts) (text_fault longest_text text.now) }
 {
     let handle_state = s.borrow();
     add_text(&mut handle_state.texts, handle_state.alloc, text)
