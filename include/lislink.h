@@ -296,22 +296,24 @@ void lis_sender_end(lis_sender s);
  * a session goes on, LIS_STATUS_BAD_NUMBER for another limit: then nothing has changed. With the long limit a frame may
  * have more bytes than a lis_bytes has room for, and the calls need a stack of 720 kB: see lis_sender_frame. */
 lis_status lis_sender_set_limit(lis_sender *s, size_t limit);
+/* Whether a session takes these bytes as a text: LIS_STATUS_OK, LIS_STATUS_TOO_LONG if they are over
+ * LIS_LIMIT_TEXT_BYTES, or LIS_STATUS_FORBIDDEN. `place` is always written: the forbidden byte's place, else 0. */
+lis_status lis_text_check(const uint8_t *text, size_t text_len, size_t *place);
 /* Adds a copy of a text to the next session, also while one goes on. A text is a record with its CR, or several: without
- * it the other side reads two records as one. LIS_STATUS_TOO_LONG if it has over LIS_LIMIT_TEXT_BYTES, LIS_STATUS_FULL,
- * LIS_STATUS_OUT_OF_MEMORY: then nothing has changed. What the text holds is looked at by lis_sender_start. */
+ * it the other side reads two records as one. LIS_STATUS_TOO_LONG or LIS_STATUS_FORBIDDEN as lis_text_check, which
+ * finds the byte; else LIS_STATUS_FULL or LIS_STATUS_OUT_OF_MEMORY. Then nothing has changed. */
 lis_status lis_sender_add_text(lis_sender *s, const uint8_t *text, size_t text_len);
 /* Drops the texts of the next session. */
 void lis_sender_clear(lis_sender *s);
-/* Starts a session with the texts that were added: `out` has ENQ, to be sent. Else LIS_STATUS_IN_SESSION,
- * LIS_STATUS_NO_TEXT, or LIS_STATUS_TOO_LONG or LIS_STATUS_FORBIDDEN with the text and the place in `fault`, which is
- * always written, else as 0. `out` is written only with LIS_STATUS_OK.
+/* Starts a session with the texts that were added: `out` has ENQ, to be sent. Else LIS_STATUS_IN_SESSION or
+ * LIS_STATUS_NO_TEXT, and the texts stay. `fault` is always written, as 0. `out` is written only with LIS_STATUS_OK.
  *
  * The session takes the texts: once it is over, however it ended, the sender has none of them. So keep your own until
- * LIS_OUTCOME_DONE, and add them again for another try. If no session starts, the texts stay: after LIS_STATUS_TOO_LONG
- * or LIS_STATUS_FORBIDDEN drop them by lis_sender_clear, and add the good ones again. */
+ * LIS_OUTCOME_DONE, and add them again for another try. */
 lis_status lis_sender_start(lis_sender *s, lis_bytes *out, lis_place *fault);
-/* Starts a session with texts that stay with the caller, and takes no memory. It fails as lis_sender_start does, and
- * with LIS_STATUS_FULL if there are more than LIS_LIMIT_TEXTS. The texts that were added stay for the next session. */
+/* Starts a session with texts that stay with the caller, and takes no memory. It fails as lis_sender_start does, with
+ * LIS_STATUS_FULL if there are more than LIS_LIMIT_TEXTS, and with LIS_STATUS_TOO_LONG or LIS_STATUS_FORBIDDEN: then
+ * `fault` has the text and the place. The texts that were added stay for the next session. */
 lis_status lis_sender_start_lent(lis_sender *s, const lis_text *texts, size_t texts_len, lis_bytes *out,
                                  lis_place *fault);
 /* A reply byte came: `out` is what is to be sent, and is always written. If nothing is to be sent and the phase is as

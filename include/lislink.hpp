@@ -125,6 +125,14 @@ inline void check(lis_status status, std::size_t index = 0, std::size_t place = 
 }
 #endif
 
+// Where the text is at fault that was added with this status.
+inline lis_place fault_of(lis_status status, std::string_view text) noexcept {
+    lis_place fault{};
+    if (status == LIS_STATUS_FORBIDDEN)
+        status = lis_text_check(at(text), text.size(), &fault.place);
+    return fault;
+}
+
 // A block and its handle. It has none if there was no memory, or if it was moved from.
 template <class Handle, std::size_t (*Size)(), std::size_t (*Align)(), void (*Init)(void *), void (*End)(Handle)>
 class owner {
@@ -351,7 +359,9 @@ public:
 
     // Adds a copy of a text to the next session.
     [[nodiscard]] lis_status try_add(std::string_view text) noexcept {
-        return lis_sender_add_text(get(), detail::at(text), text.size());
+        lis_status status = lis_sender_add_text(get(), detail::at(text), text.size());
+        fault_ = detail::fault_of(status, text);
+        return status;
     }
     // Starts a session: `out` is ENQ. LIS_STATUS_OLD_LINE before `connected`, and, from when a session timed out or was
     // restarted, until `connected` is called again. Once a session is over, its texts are gone, however it ended.
@@ -360,10 +370,13 @@ public:
         out = status == LIS_STATUS_OK ? this->out() : std::string_view();
         return status;
     }
-    // Which text and which byte of it the last start failed for.
+    // Which byte of its text the last try_add failed for.
     lis_place fault() const noexcept { return fault_; }
 #if defined(__cpp_exceptions)
-    void add(std::string_view text) { detail::check(try_add(text)); }    // as try_add
+    void add(std::string_view text) {    // as try_add
+        lis_status status = try_add(text);
+        detail::check(status, 0, fault_.place, at_fault::byte);
+    }
     // Starts a session, as try_start; returns ENQ.
     [[nodiscard]] std::string_view start() {
         std::string_view enq;

@@ -92,7 +92,10 @@ public:
     explicit station(lis_role role) { begin(role); }
     // Sets the role and how long the text of a frame may be, and makes the station new, without a text.
     void begin(lis_role role, std::size_t limit = LIS_LIMIT_FRAME_TEXT) { detail::check(try_begin(role, limit)); }
-    void add(std::string_view text) { detail::check(try_add(text)); }    // as try_add
+    void add(std::string_view text) {    // as try_add
+        lis_status status = try_add(text);
+        detail::check(status, 0, fault_.place, at_fault::byte);
+    }
     // Asks for the line, as try_start; returns ENQ.
     [[nodiscard]] std::string_view start() {
         std::string_view enq;
@@ -126,7 +129,9 @@ public:
     }
     // Adds a copy of a text to the next session.
     [[nodiscard]] lis_status try_add(std::string_view text) noexcept {
-        return lis_station_add_text(get(), detail::at(text), text.size());
+        lis_status status = lis_station_add_text(get(), detail::at(text), text.size());
+        fault_ = detail::fault_of(status, text);
+        return status;
     }
     void clear() noexcept { lis_station_clear(get()); }    // drops the texts of the next session
     // Asks for the line: `out` is ENQ. LIS_STATUS_OLD_LINE before `connected`, and, from when a session timed out or
@@ -147,7 +152,7 @@ public:
             return LIS_STATUS_OLD_LINE;
         return started(lis_station_start_lent(get(), texts, count, &answer_.send, &fault_), out);
     }
-    // Which text and which byte of it the last start failed for.
+    // Which byte of its text the last try_add failed for; or which text, and which byte of it, try_start_lent.
     lis_place fault() const noexcept { return fault_; }
     // Whether a late reply could meet the next ENQ, that of a start or the one after a wait: over a line that answers
     // late, connect it again first.

@@ -44,6 +44,7 @@ static void of_sender(void) {
     lis_sender_init(sender.at);
     SAME(lis_sender_frame(&sender, NULL, 0, &size), LIS_STATUS_ABSENT);
     SAME(lis_sender_start_lent(&sender, NULL, 0, &out, &fault), LIS_STATUS_NO_TEXT);
+    SAME(lis_text_check(NULL, 0, &size), LIS_STATUS_OK);
     SAME(lis_sender_add_text(&sender, NULL, 0), LIS_STATUS_OK);
     SAME(lis_sender_start(&sender, &out, &fault), LIS_STATUS_OK);
     lis_sender_reply(&sender, 6, &out);

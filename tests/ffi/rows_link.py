@@ -74,13 +74,13 @@ def texts_of(word):
 
 
 def begun(sender, texts):
-    """What a sender emits when it is started with texts, or why the last start failed."""
-    for text in texts:
-        sender.add_text(text)
-    try:
-        return emit_word(sender.start(is_quiet=True))
-    except LinkError as error:
-        return f"fault {text_fault(error)}" if error.index == len(texts) - 1 else f"fault of text {error.index}"
+    """What a sender emits when it is started with texts, or why one of them is rejected."""
+    for index, text in enumerate(texts):
+        try:
+            sender.add_text(text)
+        except LinkError as error:
+            return f"fault {text_fault(error)}" if index == len(texts) - 1 else f"fault of text {index}"
+    return emit_word(sender.start(is_quiet=True))
 
 
 class Session:
@@ -114,9 +114,9 @@ class Link:
         EVENTS[name](self, *words)
 
     def start(self, texts):
-        for text in texts_of(texts):
-            self.sender.add_text(text)
         try:
+            for text in texts_of(texts):
+                self.sender.add_text(text)
             emitted = self.sender.start(is_quiet=True)
         except LinkError:
             self.sender.clear()
@@ -319,14 +319,21 @@ class Ends:
         return self.sender_state()
 
     def sender_start(self, texts):
-        for text in texts_of(texts):
-            self.sender.add_text(text)
-        try:
-            emitted = emit_word(self.sender.start(is_quiet=True))
-        except LinkError as error:
-            why = {Status.IN_SESSION: "InSession", Status.NO_TEXT: "NoText"}.get(error.status)
-            emitted = f"refused:{why or f'BadText.{error.index}.{text_fault(error)}'}:{texts}"
-            self.sender.clear()
+        bad = None
+        for index, text in enumerate(texts_of(texts)):
+            try:
+                self.sender.add_text(text)
+            except LinkError as error:
+                bad = bad or f"BadText.{index}.{text_fault(error)}"
+        emitted = f"refused:{bad}:{texts}"
+        # A text is rejected as it is added, and the start says first whether a session goes on.
+        if not bad or self.sender.phase is not Phase.NEUTRAL:
+            try:
+                emitted = emit_word(self.sender.start(is_quiet=True))
+            except LinkError as error:
+                why = {Status.IN_SESSION: "InSession", Status.NO_TEXT: "NoText"}[error.status]
+                emitted = f"refused:{why}:{texts}"
+        self.sender.clear()
         return f"{emitted} {self.sender_state()}"
 
     def sender_reply(self, byte):

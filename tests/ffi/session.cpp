@@ -93,17 +93,18 @@ static void fail_to_keep(lislink::sender &sender, lislink::receiver &receiver, c
     sender.clear();
 }
 
-// An error of start names the text and the byte that no text may hold.
-static void throw_in_start(lislink::sender &sender) {
+// A text is rejected as it is added, and the error names the byte that no text may hold; those before it stay.
+static void throw_in_add(lislink::sender &sender) {
     sender.connected();
-    add(sender, {"H|\\^&\r", "P|1\nx\r"});
     try {
-        (void)sender.start();
+        add(sender, {"H|\\^&\r", "P|1\nx\r"});
         SAME(!"LF is refused");
     } catch (const lislink::error &refused) {
-        SAME(refused.status() == LIS_STATUS_FORBIDDEN && refused.index() == 1 && refused.place() == 3);
-        SAME(refused.what() == std::string("the text has a byte that no text may hold, text 1, byte 3 from 0"));
+        SAME(refused.status() == LIS_STATUS_FORBIDDEN && refused.index() == 0 && refused.place() == 3);
+        SAME(refused.what() == std::string("the text has a byte that no text may hold, byte 3 from 0"));
     }
+    SAME(sender.start() == "\x05");
+    sender.connected();
     sender.clear();
 }
 
@@ -326,7 +327,7 @@ int main() {
     lislink::sender first, sender = std::move(first);
     lislink::receiver other, receiver = std::move(other);
     keep_little_room(writer);
-    throw_in_start(sender);
+    throw_in_add(sender);
     fail_to_keep(sender, receiver, texts);
     throw_in_keep(receiver);
     answer_without_memory();

@@ -56,14 +56,26 @@ static unsigned seconds_of(lis_station *station) {
     return runs ? seconds : 99;
 }
 
+/* Which texts a session takes, and the place of the first byte that makes one none. */
+static void of_texts(void) {
+    static uint8_t longest[LIS_LIMIT_TEXT_BYTES + 1];
+    memset(longest, 'x', sizeof longest);
+    SAME(lis_text_check(longest, LIS_LIMIT_TEXT_BYTES, &fault.place), LIS_STATUS_OK);
+    SAME(fault.place, 0);
+    longest[LIS_LIMIT_TEXT_BYTES - 1] = longest[LIS_LIMIT_TEXT_BYTES] = '\n';
+    SAME(lis_text_check(longest, LIS_LIMIT_TEXT_BYTES, &fault.place), LIS_STATUS_FORBIDDEN);
+    SAME(fault.place, LIS_LIMIT_TEXT_BYTES - 1);
+    SAME(lis_text_check(longest, LIS_LIMIT_TEXT_BYTES + 1, &fault.place), LIS_STATUS_TOO_LONG);
+    SAME(fault.place, 0);
+}
+
 static void of_starts(void) {
     lis_station station = begun(LIS_ROLE_ANALYZER, LIS_LIMIT_FRAME_TEXT);
     SAME(lis_station_start(&station, &out, &fault), LIS_STATUS_NO_TEXT);
     add(&station, "ok");
-    add(&station, "bad\n");
-    SAME(lis_station_start(&station, &out, &fault), LIS_STATUS_FORBIDDEN);
-    SAME(fault.index * 10 + fault.place, 13);
+    SAME(lis_station_add_text(&station, (const uint8_t *)"bad\n", 4), LIS_STATUS_FORBIDDEN);
     lis_station_clear(&station);
+    SAME(lis_station_start(&station, &out, &fault), LIS_STATUS_NO_TEXT);
     add(&station, "a");
     SAME(to(&station, ENQ), ACK);
     SAME(lis_station_is_open(&station) && seconds_of(&station) == 30, true);
@@ -232,7 +244,8 @@ static void of_refusals(void) {
     refused_at = calls + 1;
     SAME(lis_station_begin(&station, LIS_ROLE_COMPUTER, LIS_LIMIT_LONG_FRAME_TEXT), LIS_STATUS_OUT_OF_MEMORY);
     refused_at = calls + 1;
-    SAME(lis_station_add_text(&station, frame, 1), LIS_STATUS_OUT_OF_MEMORY);
+    SAME(lis_station_add_text(&station, frame, 1), LIS_STATUS_FORBIDDEN);    /* which takes no memory */
+    SAME(lis_station_add_text(&station, frame + 1, 1), LIS_STATUS_OUT_OF_MEMORY);
     SAME(lis_station_reserve(&station, LIS_LIMIT_TEXT_BYTES + 1), LIS_STATUS_TOO_LONG);
     refused_at = calls + 1;
     SAME(lis_station_reserve(&station, 100), LIS_STATUS_OUT_OF_MEMORY);
@@ -265,6 +278,7 @@ static void of_null(void) {
 }
 
 int main(void) {
+    of_texts();
     of_starts();
     of_contention();
     of_turns();

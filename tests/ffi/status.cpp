@@ -15,10 +15,10 @@ static bool of_sender() {
     lislink::sender sender(std::nothrow);
     std::string_view enq;
     lislink::connection line{};
-    return is(static_cast<bool>(sender)) && is(sender.try_add("a\nb") == LIS_STATUS_OK)
+    return is(static_cast<bool>(sender)) && is(sender.try_add("a\nb") == LIS_STATUS_FORBIDDEN && sender.fault().place == 1)
         && is(sender.try_start(enq) == LIS_STATUS_OLD_LINE) && is((line = sender.connected(), true))
-        && is(sender.try_start(enq) == LIS_STATUS_FORBIDDEN && enq.empty() && sender.fault().place == 1)
-        && is((sender.clear(), sender.try_add("")) == LIS_STATUS_OK)
+        && is(sender.try_start(enq) == LIS_STATUS_NO_TEXT && enq.empty() && sender.fault().place == 0)
+        && is(sender.try_add("") == LIS_STATUS_OK && sender.fault().place == 0)
         && is(sender.try_start(enq) == LIS_STATUS_OK && enq == "\x05")
         && is(sender.patience() == std::chrono::seconds(15)) && is(sender.reply(line, 21).empty())
         && is(sender.patience() == std::chrono::seconds(10)) && is(sender.timer() == "\x05")

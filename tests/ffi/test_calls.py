@@ -138,10 +138,7 @@ class Calls(kit.Test):
     def test_sender(self):
         with Sender() as sender:
             self.rejects(sender.start, Status.NO_TEXT, 0, 0)
-            sender.add_text(b"ok")
-            sender.add_text(b"bad\n")
-            self.rejects(sender.start, Status.FORBIDDEN, 1, 3)
-            sender.clear()
+            self.rejects(lambda: sender.add_text(b"bad\n"), Status.FORBIDDEN, None, 3)
             self.rejects(lambda: sender.add_text(b"a" * 1048577), Status.TOO_LONG)
             self.rejects(sender.start, Status.NO_TEXT, 0, 0)
             sender.add_text(b"H|\\^&\r")

@@ -98,7 +98,8 @@ static void scan(struct ends *ends, const uint8_t *piece, size_t len) {
 
 static void start(struct ends *ends, const uint8_t *text, size_t len) {
     lis_place fault;
-    CHECK(lis_sender_add_text(&ends->sender, text, len) == LIS_STATUS_OK);
+    CHECK(lis_sender_add_text(&ends->sender, text, len) == lis_text_check(text, len, &fault.place));
+    CHECK(fault.place == 0 || fault.place < len);
     if (lis_sender_start(&ends->sender, &ends->out, &fault) == LIS_STATUS_OK)
         CHECK(ends->out.len == 1 && ends->out.bytes[0] == 5);
 }

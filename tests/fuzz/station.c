@@ -53,7 +53,7 @@ static lis_status start(lis_station *station, const uint8_t *text, size_t len) {
     lis_bytes out;
     lis_place fault;
     lis_station_clear(station);
-    CHECK(lis_station_add_text(station, text, len) == LIS_STATUS_OK);
+    CHECK(lis_station_add_text(station, text, len) == lis_text_check(text, len, &fault.place));
     lis_status status = lis_station_start(station, &out, &fault);
     CHECK(status != LIS_STATUS_OK || (out.len == 1 && out.bytes[0] == 5));
     return status;

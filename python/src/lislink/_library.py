@@ -120,6 +120,7 @@ _CALLS: Dict[str, Any] = {
     "writer_text": (_BYTE, _POINTER, _SIZE, _POINTER, _SIZE, _POINTER),
     "sender_set_limit": (_BYTE, _POINTER, _SIZE),
     "sender_frame": (_BYTE, _POINTER, _POINTER, _SIZE, _POINTER),
+    "text_check": (_BYTE, _POINTER, _SIZE, _POINTER),
     "sender_add_text": (_BYTE, _POINTER, _POINTER, _SIZE),
     "sender_clear": (None, _POINTER),
     "sender_start": (_BYTE, _POINTER, _POINTER, _POINTER),

@@ -247,10 +247,14 @@ class SendingEnd(Owner):
         if frame_limit == LONG_FRAME_TEXT:
             self._room = ctypes.create_string_buffer(LONG_FRAME_TEXT + 7)
 
-    def _put_text(self, text: bytes) -> None:
+    def _put_text(self, text: bytes, index: Optional[int] = None) -> None:
         """Adds a copy of a text to the next session."""
         text = as_bytes(text)
         status = self._call("add_text", address(text), len(text))
+        if status == Status.FORBIDDEN:
+            place = ctypes.c_size_t()
+            _library.calls()["text_check"](address(text), len(text), ctypes.byref(place))
+            raise LinkError(status, index, place.value)
         if status:
             raise LinkError(status)
 
@@ -399,7 +403,9 @@ class Sender(SendingEnd):
         self._set_room(frame_limit)
 
     def add_text(self, text: bytes) -> None:
-        """Adds a copy of a text to the next session."""
+        """Adds a copy of a text to the next session.
+
+        LinkError, and the sender is as before: TOO_LONG, FULL, OUT_OF_MEMORY; FORBIDDEN with the byte."""
         self._put_text(text)
 
     def clear(self) -> None:
@@ -409,9 +415,9 @@ class Sender(SendingEnd):
     def start(self, *, is_quiet: bool = False) -> bytes:
         """Starts a session with the texts that were added; returns ENQ, to be sent.
 
-        LinkError, and the texts stay: IN_SESSION, NO_TEXT; TOO_LONG or FORBIDDEN with the text and the byte; OLD_LINE
-        after a session that timed out or was restarted, since a late reply may come, until `connected` is called, or
-        `is_quiet` says that you waited until none can be on its way."""
+        LinkError, and the texts stay: IN_SESSION, NO_TEXT; OLD_LINE after a session that timed out or was restarted,
+        since a late reply may come, until `connected` is called, or `is_quiet` says that you waited until none can be
+        on its way."""
         return self._started(is_quiet)
 
     def reply(self, byte: int) -> bytes:

@@ -68,8 +68,8 @@ class Station(SendingEnd, ReceivingEnd[Answer]):
         ended."""
         self._call("clear")
         try:
-            for text in texts:
-                self._put_text(text)
+            for index, text in enumerate(texts):
+                self._put_text(text, index)
             return self._started(is_quiet)
         finally:
             self._call("clear")

@@ -340,6 +340,7 @@ extern "C" {
     pub fn lis_sender_init(at: *mut c_void);
     pub fn lis_sender_end(s: lis_sender);
     pub fn lis_sender_set_limit(s: *mut lis_sender, limit: usize) -> lis_status;
+    pub fn lis_text_check(text: *const u8, text_len: usize, place: *mut usize) -> lis_status;
     pub fn lis_sender_add_text(s: *mut lis_sender, text: *const u8, text_len: usize) -> lis_status;
     pub fn lis_sender_clear(s: *mut lis_sender);
     pub fn lis_sender_start(

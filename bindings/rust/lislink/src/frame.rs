@@ -50,6 +50,15 @@ pub fn frame(number: u8, last: bool, text: &[u8]) -> Result<Bytes, Error> {
     Ok(out)
 }
 
+/// Which byte is at fault in a text that was added with this status.
+pub(crate) fn place_at_fault(status: sys::lis_status, text: &[u8]) -> usize {
+    let mut place = 0;
+    if status == sys::LIS_STATUS_FORBIDDEN {
+        unsafe { sys::lis_text_check(text.as_ptr(), text.len(), &mut place) };
+    }
+    place
+}
+
 /// The most bytes of a frame's text.
 #[derive(Clone, Copy, Debug, PartialEq, Eq)]
 pub enum FrameLimit {

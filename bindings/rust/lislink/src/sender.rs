@@ -1,4 +1,5 @@
 //! The sender, and the connection that it uses.
+use crate::frame::place_at_fault;
 use crate::{block::Block, Bytes, Error, FrameLimit, Outcome, Phase};
 use lislink_sys as sys;
 use std::marker::PhantomData;
@@ -94,11 +95,12 @@ impl<'t> Sender<'t> {
     ///
     /// # Errors
     ///
-    /// No session takes a text as long, or one more text; or there is no memory.
+    /// No session takes a text as long, or with such a byte, which the error names; or one more text; or there is no
+    /// memory.
     pub fn add(&mut self, text: &[u8]) -> Result<(), Error> {
         let status =
             unsafe { sys::lis_sender_add_text(&mut self.line.sender, text.as_ptr(), text.len()) };
-        Error::of(status)
+        Error::at_byte(status, place_at_fault(status, text))
     }
 
     /// Drops the texts of the next session.
@@ -111,7 +113,7 @@ impl<'t> Sender<'t> {
     ///
     /// # Errors
     ///
-    /// A session goes on; there is no text; which text, and which byte of it, no session takes.
+    /// A session goes on, or there is no text.
     /// [`Status::OldLine`](crate::Status::OldLine) before [`connected`](Self::connected), and, from when a session
     /// timed out or was restarted, until `connected` is called again.
     pub fn start(&mut self) -> Result<Bytes, Error> {
@@ -125,7 +127,8 @@ impl<'t> Sender<'t> {
     ///
     /// # Errors
     ///
-    /// Those of [`start`](Self::start), or there are more texts than a session takes.
+    /// Those of [`start`](Self::start); there are more texts than a session takes; or which text, and which byte of it,
+    /// no session takes.
     pub fn start_lent(&mut self, texts: &'t [Text<'t>]) -> Result<Bytes, Error> {
         let (mut out, mut fault) = (Bytes::none(), sys::lis_place { index: 0, place: 0 });
         let (line, first) = (&mut self.line, texts.as_ptr().cast());

@@ -1,4 +1,5 @@
 //! The station: both ways of one line.
+use crate::frame::place_at_fault;
 use crate::receiver::{has_room, no_step, reserved, step_of};
 use crate::{block::Block, Bytes, Error, FrameLimit, Note, Outcome, Phase, Role, Step, Text};
 use lislink_sys as sys;
@@ -133,10 +134,10 @@ impl Station {
     }
 
     fn add_all<T: AsRef<[u8]>>(&mut self, texts: impl IntoIterator<Item = T>) -> Result<(), Error> {
-        texts.into_iter().try_for_each(|text| {
+        texts.into_iter().enumerate().try_for_each(|(index, text)| {
             let (station, text) = (self.block.get(), text.as_ref());
             let status = unsafe { sys::lis_station_add_text(station, text.as_ptr(), text.len()) };
-            Error::of(status)
+            Error::at_text(status, sys::lis_place { index, place: place_at_fault(status, text) })
         })
     }
 

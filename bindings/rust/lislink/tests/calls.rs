@@ -23,8 +23,7 @@ fn an_error_prints_its_place() {
     let mut sender = Sender::new();
     let _ = sender.connected();
     sender.add(b"good\r").unwrap();
-    sender.add(b"bad\x02\r").unwrap();
-    assert_eq!(said(sender.start()), format!("{words}, text 1, byte 3 from 0"));
+    assert_eq!(said(sender.add(b"bad\x02\r")), format!("{words}, byte 3 from 0"));
     sender.clear();
     assert_eq!(said(sender.start()), "there is no text to send");
     let long = "there are more bytes than the limit allows";
@@ -410,7 +409,8 @@ fn a_station_sends_and_receives() {
     assert!(station.needs_new_line());
     station.connected();
     assert!(!station.needs_new_line());
-    assert_eq!(status(station.start([b"a\n"])), Some(Status::Forbidden));
+    let refused = station.start([&b"a"[..], b"a\n"]).err().unwrap();
+    assert_eq!((refused.status, refused.index, refused.place), (Status::Forbidden, 1, 1));
     assert_eq!(sent(&mut station, b"\x05"), b"\x06");
     assert_eq!(status(station.start([b"a"])), Some(Status::LineOpen));
     assert_eq!(station.patience(), Some(Duration::from_secs(30)));
