@@ -169,7 +169,7 @@ class LinesFile(HostTest):
             self.same(f"{text!r}: {found}", rows, [True] * len(wanted))
             self.same(f"{text!r}: so many faults", len(found), len(wanted))
         file = self.written("faults.lines", b"[a]\nlisten = 1\n# \xff\n")
-        wanted = [f"{file}:3: a file of lines is written in UTF-8"]
+        wanted = [f"{file}:3: a lines file is written in UTF-8"]
         self.same("bytes of another encoding", lines.read_lines(file, []).faults, wanted)
 
     def test_start(self):
@@ -179,9 +179,9 @@ class LinesFile(HostTest):
         for words, status, why in (
             (["--lines", bad], 2, f"{bad}:3: a frame has at most 240"),
             (["--lines", good, "--listen", "0,name=a"], 2, "a is the name of a line that an option names too"),
-            (["--lines", good, "--lines", bad], 2, "one file of lines is read"),
+            (["--lines", good, "--lines", bad], 2, "only one lines file is read"),
             (["--lines", self.path("none.lines")], 3, "No such file"),
-            (["--lines", "5"], 2, "name a line by --listen, --connect or --serial, or a file of lines by --lines"),
+            (["--lines", "5"], 2, "name a line by --listen, --connect or --serial, or a lines file by --lines"),
         ):
             done = lislab("serve", "--store", self.path("start.db"), *words)
             self.true(f"{words}", done.returncode == status and why in done.stderr, done.stderr)

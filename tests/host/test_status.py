@@ -28,8 +28,8 @@ class Status(HostTest):
                 (0, True, (0, True, 0), "the host has been running since"),
                 (60, True, (1, True, 60), "the host is running; its state is 60 seconds old"),
                 (-3600, True, (1, True, -3600), "its state is 3600 seconds ahead of the clock"),
-                (0, False, (1, False, 0), "the host is not running"),
-                (-3600, False, (1, False, -3600), "the host is not running"),
+                (0, False, (1, False, 0), "the host isn't running"),
+                (-3600, False, (1, False, -3600), "the host isn't running"),
             ):
                 if not held:
                     one.close()

@@ -185,7 +185,7 @@ def _asked_of(ask: argparse.Namespace) -> serve.Asked:
     if len(files) < len(ask.lines):
         renamed.report("--lines N", renamed.OPTIONS["serve", "--lines N"])
     if len(files) > 1:
-        raise OptionError(f"one file of lines is read, not {' and '.join(files)}")
+        raise OptionError(f"only one lines file is read, not {' and '.join(files)}")
     networks = options.networks_of(ask.allow)
     found = _lines_of(ask, files, networks)
     listens = [one for one in found.places if isinstance(one, options.Listen)]
@@ -209,7 +209,7 @@ def _lines_of(ask: argparse.Namespace, files: Sequence[str], networks: Sequence[
     ]
     read = lines.lines_of(files[0], networks) if files else lines.Lines([], [], {}, [])
     if not named and not read.places:
-        raise OptionError("name a line by --listen, --connect or --serial, or a file of lines by --lines")
+        raise OptionError("name a line by --listen, --connect or --serial, or a lines file by --lines")
     twice = {place.name for place in named} & {place.name for place in read.places}
     if twice:
         raise OptionError(f"{files[0]}: {min(twice)} is the name of a line that an option names too")

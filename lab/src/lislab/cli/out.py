@@ -78,7 +78,7 @@ def _form_of(ask: argparse.Namespace) -> export.Form:
     """How messages are written, and that where they go fits it."""
     where: str = ask.to or ask.directory or ""
     if [bool(ask.to), bool(ask.directory), bool(ask.words)].count(True) != 1:
-        raise OptionError("name where to by --to or --directory, or a command after --")
+        raise OptionError("name the receiver by --to or --directory, or a command after --")
     scheme, slashes, _ = where.partition("://")
     scheme = scheme if slashes else ""
     if scheme not in ("", *_SCHEMES):

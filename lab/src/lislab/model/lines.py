@@ -81,7 +81,7 @@ class _File:
         try:
             rows = data.decode("utf-8-sig").splitlines()
         except UnicodeDecodeError as error:
-            self.fault(data.count(b"\n", 0, error.start) + 1, "a file of lines is written in UTF-8")
+            self.fault(data.count(b"\n", 0, error.start) + 1, "a lines file is written in UTF-8")
             return
         heads = [place for place, row in enumerate(rows) if _HEAD.match(row)]
         for first, over in zip([0, *heads], [*heads, len(rows)]):

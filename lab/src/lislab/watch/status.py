@@ -167,7 +167,7 @@ def text_of(data: Dict[str, Any]) -> str:
         )
         head = head if is_fresh(data["state_age"]) else f"the host is running{_old(data['state_age'])}"
     else:
-        head = "the host is not running"
+        head = "the host isn't running"
     cells = [list(_COLUMNS)] + [[str(row[one]) for one in _COLUMNS] for row in data["lines"]]
     widths = [max(len(row[place]) for row in cells) for place in range(len(_COLUMNS))]
     rows = ["  ".join(cell.ljust(width) for cell, width in zip(row, widths)).rstrip() for row in cells]
