@@ -1,4 +1,4 @@
-"""What a host is asked to do, and what its parts need of it."""
+"""The settings of a host, and what its parts need from it."""
 import asyncio
 from typing import Callable, Dict, Iterable, List, Mapping, NamedTuple, Optional, Protocol, Sequence
 
@@ -37,13 +37,13 @@ class Asked(NamedTuple):
 
 
 class SaidOnce:
-    """What was said last of a device, an address or a file, so that it is said once."""
+    """The last logged reason for each device, address and file, so that the host logs a reason only once."""
 
     def __init__(self) -> None:
         self.texts: Dict[str, str] = {}
 
     def say(self, name: str, why: str) -> None:
-        """Says why something can't be had, unless that was said of it last."""
+        """Logs why something can't be used, unless this was the last reason logged for it."""
         if self.texts.get(name) != why:
             self.texts[name] = why
             say(f"{name}: {why}")
@@ -83,7 +83,7 @@ class Hub(Protocol):
 
 
 def warn(places: Iterable[Place]) -> None:
-    """Says of which lines the link isn't the proved one, or a reply that is late could be taken for another one."""
+    """Warns of lines whose link isn't the proved one, or on which a late reply could be mistaken for another."""
     for place in places:
         if place.link:
             what = "no number and no checksum, so damage isn't noticed; and a receiver that isn't proved"

@@ -10,7 +10,7 @@ from .line import Line
 from .tasks import Tasks
 from .tcp import TcpWire, why
 
-#: How long the host waits until it connects to an address anew: at first, and at most; and how long for an answer.
+#: Seconds until the host connects to an address again, at first and at most; seconds that it waits for a connection.
 FIRST, MOST, ANSWER = 1.0, 60.0, 10.0
 
 
@@ -67,7 +67,7 @@ class Calls:
         host.said.forget(place.name)
 
     async def _connect(self, place: Connect) -> Optional[Line]:
-        """The line to an address, connected; if that can't be had, it is said once."""
+        """The line to an address, connected. If it can't be reached, the host logs that once."""
         host = self._host
         wire = TcpWire(host, Call(place))
         loop, seconds, reason = asyncio.get_running_loop(), ANSWER * host.limits.scale, ""

@@ -20,7 +20,7 @@ LINE_FEEDS = frozenset(("lf", "crlf"))
 MOST, MOST_RECORDS, MOST_TRIED = 2 << 20, 100_000, 1 << 18
 #: So many changes of a message are named one by one, first of all each record that is left out since it is too long.
 MOST_NAMED = 50
-#: Those that end a message, which may go on as long as its session does; and that which makes an end of its own.
+#: The fixes that end a message at the end of its session; the one of them that adds an end.
 _AT_THE_END, MAKES_AN_END = frozenset(("last-l", "last-cr")), frozenset(("last-l",))
 
 
@@ -103,7 +103,7 @@ def _messages(data: bytes) -> List[bytes]:
 
 
 def _is_after_l(body: bytes, names: FrozenSet[str]) -> bool:
-    """Whether this is fill that is left out, or comments and makers' records alone, which came after a message."""
+    """Whether this is filler that is left out, or only comments and manufacturer records that followed a message."""
     letters = {one.strip(b" \t\n")[:1].upper() for one in body.split(b"\r") if one.strip(b" \t\n")}
     are_comments = "behind-l" in names and bool(letters) and letters <= {b"C", b"M", b"S"}
     return are_comments or not normalize(body, set(names))[0]

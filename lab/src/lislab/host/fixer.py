@@ -1,5 +1,5 @@
-"""What becomes of a line's messages that aren't complete: in their order, by processes of their own, so that no reply
-of another line waits for it. A host that dies makes good at its next start what it left."""
+"""Fixes a line's messages that aren't complete, in their order and in processes of their own, so that no reply of
+another line waits. If the host dies, the next start fixes what it left."""
 import asyncio
 import contextlib
 import functools
@@ -53,7 +53,7 @@ def _pool() -> Executor:
 
 class Workers:
     """The processes that fix: one for short work, one for long, and one that only tries. Each is started when there is
-    work for it, and anew if it dies."""
+    work for it, and again if it dies."""
 
     def __init__(self, pool: Callable[[], Executor] = _pool) -> None:
         self._make = pool
@@ -102,8 +102,8 @@ class Workers:
 
 
 class InOrder:
-    """What is made of a line's messages after their sessions: each is kept before the next one is fixed, and before a
-    message that comes later is complete."""
+    """Work on a line's messages after their sessions, in order: each fixed message is stored before the next one is
+    fixed, and before a later message becomes complete."""
 
     def __init__(self) -> None:
         self._tasks = Tasks()
@@ -120,12 +120,12 @@ class InOrder:
         await work()
 
     async def over(self) -> None:
-        """Done when all that was begun so far is kept."""
+        """Returns when all work begun so far is stored."""
         if self._last is not None and not self._last.done():
             await asyncio.wait([self._last])
 
     async def stop(self, seconds: float) -> None:
-        """Waits so long for what was begun. What isn't done then is made good at the next start."""
+        """Waits so long for the work begun so far. The next start does what isn't done then."""
         if self._tasks.all:
             await asyncio.wait(list(self._tasks.all), timeout=seconds)
         await self._tasks.cancel()
@@ -152,8 +152,8 @@ class Fixer:
     async def of_all(
         self, changes: Sequence[Change], bodies: Bodies, is_over: bool, tries: List[Ended]
     ) -> List[Change]:
-        """These changes, with those of the messages that are made of the ones that end and aren't complete. The ends of
-        those are left out of which it is to be tried which setting would deliver them: they go to `tries`."""
+        """These changes, and the changes that store the fixed messages made of those that end and aren't complete. A
+        message for which the host will try which setting would deliver it goes to `tries`, without its end."""
         made: List[Change] = []
         for one in changes:
             if isinstance(one, End) and one.key in bodies:
@@ -167,7 +167,7 @@ class Fixer:
         `tries`."""
         try:
             found = await self._made(one)
-        except Exception as error:  # a fault of the fixing's own is no reason to lose what came
+        except Exception as error:  # an error in a fix is no reason to lose the message
             return [one.end._replace(reason=f"{one.end.reason}; it could not be fixed: {type(error).__name__}")]
         if found is not None:
             return await self._looked_up(made_of(one, found), one.begin.encoding)
@@ -199,7 +199,7 @@ class Fixer:
         return True
 
     def begin_tries(self, tries: List[Ended], later: Callable[[List[Change]], object]) -> None:
-        """Tries which settings would deliver messages whose bytes are kept; `later` is given the end of each."""
+        """Tries which settings would deliver messages whose bytes are stored; calls `later` with the end of each."""
         for one in tries:
             self._tries.begin(self._try(one, later))
         tries.clear()

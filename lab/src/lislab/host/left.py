@@ -1,4 +1,4 @@
-"""What a host left open that died: it is ended at the next start, and what its line fixes is made of it."""
+"""Messages that a host left open when it died: the next start ends them, and fixes them if their line does."""
 import hashlib
 from typing import Iterable, List, Mapping, NamedTuple, Sequence
 
@@ -10,7 +10,7 @@ HELD = 64 << 20
 
 
 class Left(NamedTuple):
-    """What was left open: the ends of messages of which nothing is made, and those of which something may be."""
+    """Messages that were left open: the ends of those that are not fixed, and those that may be fixed."""
 
     ends: List[End]
     to_fix: List[Ended]
@@ -30,8 +30,8 @@ def left_of(store: Store, left: Iterable[Stored], fixes: Mapping[str, Sequence[s
 
 
 def ended_of(one: Stored) -> Ended:
-    """A message that was left open, as it ends. All of it was acknowledged, and the end of its session may have come: if
-    its last record is whole, it is fixed as if it had."""
+    """A message that was left open, as it ends. All of it was acknowledged, and the end of its session may have come:
+    if its last record is whole, it is fixed as if it had."""
     digest = hashlib.sha256(one.body).hexdigest()
     end = End(one.key, one.line, INCOMPLETE, LEFT, digest, len(one.body), one.began)
     begin = Begin(one.key, one.line, one.peer, one.encoding, one.began)

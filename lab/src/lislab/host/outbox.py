@@ -1,4 +1,4 @@
-"""What the lines of a host have to send: orders that were asked for, worklists, and the answers of a command."""
+"""The orders that the lines of a host have to send: answers to queries, downloads, and the answers of a command."""
 import asyncio
 import functools
 import re
@@ -17,13 +17,14 @@ from ..model.store import StoreError
 from .program import output_of
 from .tasks import Tasks
 
-#: The most orders of a session that nobody asked for, and of an answer; seconds between looks at the store; the seconds
+#: The most orders of a download, and of an answer; seconds between looks at the store; the seconds
 #: that a command has, the most bytes that it may answer, and how many run at once; seconds until the next try, by the
 #: tries so far.
 MOST, ASKED, LOOK, COMMAND, ANSWER, AT_ONCE = 20, 10_000, 1.0, 5.0, 1 << 20, 4
 WAITS = (5.0, 15.0, 60.0, 300.0)
-#: How often a query is looked up while the store gives no answer, a look apart, and while its orders are being sent over
-#: another connection from there; an answer that couldn't be sent waits so many seconds for its analyzer to connect anew.
+#: How often a query is looked up while the store gives no answer, a look apart, and while its orders are being sent
+#: over another connection from there; an answer that couldn't be sent waits so many seconds for its analyzer to
+#: reconnect.
 LOOKS, OTHERS, KEPT = 3, 30, 600.0
 #: Of so many messages of a connection the queries are known, for what their orders have from them.
 MESSAGES = 8
@@ -44,7 +45,7 @@ class Site(NamedTuple):
     #: How its queries are read and answered; which component of an order's O-5 is the test.
     asks: Asks = Asks()
     component: int = 4
-    #: Whether ENQ goes out again on a new connection alone.
+    #: Whether ENQ goes out again only on a new connection.
     is_anew: bool = False
 
     @property
@@ -136,9 +137,9 @@ class Outbox:
         #: The queries whose orders aren't sent yet, message by message, by their place and seat; the seat is empty once
         #: the connection is over.
         self._queries: Dict[Tuple[str, str], List[Sequence[Query]]] = {}
-        #: The answers that wait for a place to connect anew, by it and the seat that asked, each with when it was made.
+        #: The answers that wait for an analyzer to reconnect, by its place and seat, each with the time of the answer.
         self._kept: Dict[Tuple[str, str], Tuple[Batch, float]] = {}
-        #: How often an analyzer was busy in a row, or asked for the line too, before a place was connected anew.
+        #: How often in a row an analyzer was busy, or requested the line too, before it reconnected.
         self.put_off: Dict[str, Tuple[int, int]] = {}
         #: How many orders may be in one session with this one: fewer after a session that was rejected.
         self._lots: Dict[int, int] = {}
@@ -208,7 +209,7 @@ class Outbox:
         while True:
             try:
                 told = await self._run(self._book.take_in)
-                for text in told:  # a file that can't be taken in is said once
+                for text in told:  # the host logs once that a file can't be read
                     if text not in self._told:
                         self._say(text)
                 self._told = set(told)
@@ -275,8 +276,8 @@ class Outbox:
         return [query for queries in found for query in queries]
 
     async def _look_up(self, site: Site, wanted: Sequence[Wanted]) -> Optional[Asked]:
-        """The orders that are marked as asked for; None if the store doesn't say. What is on its way to the same place is
-        waited for: it is sent, or it waits again."""
+        """The orders that are marked as asked for; None if the store doesn't say. What is on its way to the same place
+        is waited for: it is sent, or it waits again."""
         assert self._book is not None
         failed = 0
         for left in range(OTHERS, -1, -1):
@@ -294,8 +295,7 @@ class Outbox:
         return None
 
     async def take_back(self, site: Site, batches: Sequence[Batch]) -> None:
-        """The analyzer takes its query back: what it asked for waits as if it hadn't, also these batches, which are not
-        sent."""
+        """The analyzer cancels its query: its orders wait again, also those of these batches, which are not sent."""
         while self._kept_for(site) is not None:
             pass
         self._noted(site)
@@ -313,7 +313,8 @@ class Outbox:
         return nothing_of(queries[0].row, site.none)
 
     async def _asked_of_command(self, site: Site, command: Sequence[str], message: bytes) -> List[bytes]:
-        """The records that the command answers, each a text; none, and why is said, if they are no messages."""
+        """The records that the command prints, each a text; none, with the reason in the log, if they are no
+        messages."""
         try:
             async with self._asking:
                 about = {"LISLAB_LINE": site.line, "LISLAB_PEER": site.peer}
@@ -422,7 +423,7 @@ class Outbox:
             self._work.begin(self._mark(site, [one.number for one in batch.placed]))
 
     async def _mark(self, site: Site, numbers: List[int]) -> None:
-        """Marks orders as sent. Until that is done nobody sends them again but a host that starts anew."""
+        """Marks orders as sent. Until that is done, only a host that starts again resends them."""
         assert self._book is not None
         await self._until_kept(self._book.sent, site.line, numbers, first=True)
         self._in_hand.difference_update(numbers)
@@ -439,8 +440,8 @@ class Outbox:
             self._kept[site.place, site.seat] = batch, time.monotonic()
 
     def failed(self, site: Site, batch: Batch, why: str, is_rejected: bool = False) -> None:
-        """It was sent in vain. Orders that were rejected together are sent in halves, and then alone: one that an
-        analyzer rejects takes no other along."""
+        """A batch failed. Orders that were rejected together are sent in halves, and then one by one, so that one order
+        that an analyzer rejects blocks no other."""
         self._say(f"{site.line}: not sent: {batch.told}: {why}")
         self._note(site.place, site.seat, batch.queries)
         if is_rejected and len(batch.placed) > 1:

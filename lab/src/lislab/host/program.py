@@ -1,4 +1,4 @@
-"""A program that is asked for an answer. Whatever it has started ends with it if the answer doesn't come in time."""
+"""Runs a program for an answer. If the answer doesn't come in time, the program and all that it started are killed."""
 import asyncio
 import contextlib
 import os
@@ -35,9 +35,9 @@ class _Running(asyncio.SubprocessProtocol):
 
 
 async def output_of(words: Sequence[str], given: bytes, most: int, seconds: float, about: Mapping[str, str]) -> bytes:
-    """What a program prints that has these bytes as its standard input, and `about` in its environment; StoreError if it
-    prints more than `most` bytes, ends with another status than 0, or isn't over within so many seconds, with all that
-    has its output: then its process group is killed, so that nothing of it goes on."""
+    """What a program prints that has these bytes as its standard input, and `about` in its environment; StoreError if
+    it prints more than `most` bytes, ends with another status than 0, or isn't over within so many seconds, with all
+    that has its output: then its process group is killed, so that nothing of it goes on."""
     loop, pipe = asyncio.get_running_loop(), asyncio.subprocess.PIPE
     transport, running = await loop.subprocess_exec(
         lambda: _Running(most),

@@ -1,4 +1,4 @@
-"""The serial lines of a host: each device as long as it is asked for, and whether all can be heard."""
+"""The serial lines of a host: opens each device as long as a line needs it, and knows whether all are open."""
 import asyncio
 import time
 from typing import Dict, Optional, Sequence, Set
@@ -20,7 +20,7 @@ class Serials:
         self._host, self._tasks = host, tasks
         #: What serves each device.
         self.served: "Dict[str, asyncio.Task[None]]" = {}
-        #: The lines whose devices can't be what is asked for, and whether it was said that the host is ready.
+        #: The lines whose devices can't be set as asked, and whether the host has announced that it is ready.
         self._unusable: Set[Serial] = set()
         self._ready: Optional[bool] = None
 
@@ -46,7 +46,7 @@ class Serials:
             announce("ready")
 
     def _open(self, serial: Serial) -> Optional[SerialWire]:
-        """The wire of a serial line; if its device can't be opened, that is said once."""
+        """The wire of a serial line. If its device can't be opened, the host logs that once."""
         host = self._host
         try:
             late = host.limits.reply * host.limits.scale

@@ -1,4 +1,4 @@
-"""`lislab serve`: a host for many analyzers. Each text is kept before it is acknowledged."""
+"""`lislab serve`: a host for many analyzers. It stores each text before it acknowledges it."""
 import asyncio
 import functools
 import gc
@@ -38,8 +38,8 @@ from .tasks import Tasks
 from .turns import Turns
 from .unknown import Unknown
 
-#: So many bytes of long messages are held until they end, to be fixed if they aren't complete; and so many of long texts
-#: until they are complete.
+#: So many bytes of long messages are held until they end, to be fixed if they aren't complete; and so many of long
+#: texts until they are complete.
 HELD, TEXTS = 32 << 20, 16 << 20
 #: How long the thread that commits waits for its turn while a line is busy: it needs one after each statement.
 SWITCH = 0.0005
@@ -110,7 +110,7 @@ class Host:
         return TwoWayLine(self.outbox, site, parts)
 
     def _look_at_clock(self) -> None:
-        """Takes all lines anew after the machine was suspended: no timer ran meanwhile, and none is waited for."""
+        """Connects all lines again after the machine was suspended, because no timer ran meanwhile."""
         seconds = self._asleep.note()
         if seconds:
             say(f"the machine was suspended for {seconds:.0f} s: every line connects again")
@@ -239,7 +239,7 @@ class Host:
         return [name for name, one in self._unknown.items() if one.take(asked.tables.get(name))]
 
     async def stop(self) -> None:
-        """Takes no new line, lets the sessions that go on end for a while, and keeps what came."""
+        """Accepts no new line, lets open sessions finish for a while, and stores what was received."""
         self.stopping = True
         systemd.notify("STOPPING=1")
         self.ports.close()
@@ -281,7 +281,7 @@ class Host:
         }
 
     async def _look_now_and_then(self) -> None:
-        """Writes the state, and says how many notices were not said."""
+        """Writes the state, and logs how many events were suppressed."""
         while True:
             self.notices.say_dropped()
             await self._file.write()

@@ -1,4 +1,4 @@
-"""What a host counts, and its state as a file for `lislab status`."""
+"""The counts of a host, and its state as a file for `lislab status`."""
 import asyncio
 import functools
 import json
@@ -46,7 +46,7 @@ class StateFile:
         self._writer = ThreadPoolExecutor(1, "state")
 
     async def write(self) -> None:
-        """Writes the state, and says once if that can't be done."""
+        """Writes the state, and logs once if it can't."""
         if self._path is None:
             return
         work = functools.partial(write_state, self._path, self._look())

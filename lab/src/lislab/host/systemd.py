@@ -1,5 +1,5 @@
-"""What a host says to systemd: that it is ready, that it is alive, that it stops. Datagrams to the socket that
-`NOTIFY_SOCKET` names; without it nothing is said."""
+"""Tells systemd that the host is ready, alive or stopping, by datagrams to the socket that `NOTIFY_SOCKET` names;
+without it nothing is sent."""
 import asyncio
 import os
 import socket

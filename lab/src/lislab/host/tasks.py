@@ -1,10 +1,10 @@
-"""Work that goes on next to what began it."""
+"""Background work."""
 import asyncio
 from typing import Any, Callable, Coroutine, Optional, Set
 
 
 class Tasks:
-    """Tasks that nobody waits for, until the end. What fails is said, if there is somebody to say it to."""
+    """Background tasks. If one fails, that is logged, if there is a log."""
 
     def __init__(self, say: Optional[Callable[[str], None]] = None) -> None:
         self._say = say

@@ -1,12 +1,12 @@
-"""Telnet (RFC 854) as a terminal server speaks it on its ports: what it asks for is answered, and taken out of what
-comes. Each option but BINARY (RFC 856) and SUPPRESS-GO-AHEAD (RFC 858) is rejected."""
+"""Telnet (RFC 854) as a terminal server speaks it on its ports: the host answers its requests and removes them from the
+data. Each option but BINARY (RFC 856) and SUPPRESS-GO-AHEAD (RFC 858) is rejected."""
 import re
 from typing import Set, Tuple
 
 _IAC, _DONT, _DO, _WONT, _WILL, _SB, _SE = 255, 254, 253, 252, 251, 250, 240
 _BINARY, _GO_AHEAD = 0, 3
 _CR, _NUL = 13, 0
-#: What is said to each request: if it is taken, and if it isn't.
+#: The answer to each request: if it is accepted, and if it isn't.
 _ANSWERS = {_DO: (_WILL, _WONT), _DONT: (_WONT, _WONT), _WILL: (_DO, _DONT), _WONT: (_DONT, _DONT)}
 
 
@@ -23,7 +23,7 @@ class Telnet:
         self._state, self._after_cr = 0, False
 
     def heard(self, data: bytes) -> Tuple[bytes, bytes]:
-        """Bytes that came: those of the line, and what is to be answered at once."""
+        """Splits received bytes: the bytes of the line, and the answer to send at once."""
         if not self._state and not self._after_cr and _IAC not in data and _CR not in data:
             return data, b""
         line, answer = bytearray(), bytearray()

@@ -22,9 +22,9 @@ class Unusable(OptionError):
 
 
 def open_serial(serial: Serial) -> int:
-    """Opens a device: raw, for this program alone, with nothing of what came before. If pyserial is installed it opens
-    the device, which may then have any speed that its driver takes. Unusable if it isn't a terminal, or can't have the
-    speed; OSError if it can't be opened."""
+    """Opens a device: raw, only for this program, and without bytes that arrived before. If pyserial is installed it
+    opens the device, which may then have any speed that its driver takes. Unusable if it isn't a terminal, or can't
+    have the speed; OSError if it can't be opened."""
     try:
         descriptor, speed = _by_pyserial(serial), None
         if descriptor is None:
@@ -57,7 +57,7 @@ def _is_no_terminal(device: str) -> bool:
 
 
 def _check_speed(descriptor: int, serial: Serial) -> None:
-    """Unusable if the driver took another speed than the one that is asked for: it says so by no error."""
+    """Raises Unusable if the driver set another speed than asked, because it reports no error then."""
     try:
         into, out = _SPEEDS.unpack(fcntl.ioctl(descriptor, _TCGETS2, bytes(_SPEEDS.size)))
     except OSError:  # a kernel that has no such call, or another number for it

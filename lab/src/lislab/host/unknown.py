@@ -51,7 +51,7 @@ class Unknown:
             pair = field_and_unit(Entry(row, 0, encoding))
             if self._lacked(pair):
                 _add(self._ending.setdefault(key, Counter()), pair, 1)
-        except Exception:  # it is no reason to lose what came: a delivery says what is wrong with it
+        except Exception:  # no reason to lose the message: a delivery reports what is wrong with it
             return
 
     def look_at_all(self, key: str, body: bytes, encoding: str) -> None:
@@ -63,8 +63,8 @@ class Unknown:
                 self.look(key, row, encoding)
 
     def ended(self, key: str, is_whole: bool) -> Tuple[int, str]:
-        """A message is kept, or isn't complete: how many results of a complete message have codes that the table lacks,
-        and which these are."""
+        """A message ended. Returns how many results of a complete message have codes that the mapping lacks, and which
+        codes."""
         found = self._ending.pop(key, None)
         if not found or not is_whole:
             return 0, ""
@@ -75,7 +75,7 @@ class Unknown:
         return sum(found.values()), ", ".join(names[:NAMED]) + more
 
     def sees(self, counts: "Counter[str]", say: Callable[[str, str], None]) -> Sees:
-        """What it does when a message of the line ends: it counts the codes that the table lacks, and says which."""
+        """Counts and logs the codes that the mapping lacks when a message of the line ends."""
 
         def see(ended: MessageEnded) -> None:
             count, names = self.ended(ended.end.key, ended.end.state == COMPLETE)
@@ -101,5 +101,5 @@ def _add(found: "Counter[Pair]", pair: Pair, count: int) -> None:
 
 
 def _shown(name: str) -> str:
-    """A code in a line of what is said."""
+    """A code as the log prints it."""
     return "".join(one if one.isprintable() else "?" for one in name[:SHOWN]) + (".." if len(name) > SHOWN else "")
