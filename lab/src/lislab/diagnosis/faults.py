@@ -276,5 +276,5 @@ def _bad_record(status: Status, error: MessageError, record: bytes) -> RecordCau
     if record[:1] and record[:1] in b"HPORCQMSLhporcqmsl":
         return RecordCause("letter", f"no field delimiter after the letter {first}", [])
     return RecordCause(
-        "letter", f"'{first}' is no letter of a record: one of the maker's own, or a CR inside a text", []
+        "letter", f"'{first}' is no letter of a record: one of the manufacturer's own, or a CR inside a text", []
     )
