@@ -134,26 +134,28 @@ enum lis_block {
 #endif
 /* What a call that may fail returns. */
 LIS_ENUM(lis_status) {
-    LIS_STATUS_OK = 0,                  /* the call did what it is for */
-    LIS_STATUS_IN_SESSION = 1,          /* a session is going on */
-    LIS_STATUS_NO_TEXT = 2,             /* there is no text to send */
-    LIS_STATUS_TOO_LONG = 3,            /* there are more bytes than the limit allows */
-    LIS_STATUS_FORBIDDEN = 4,           /* the text has a byte that no text may hold: in a frame and a session 1 to 6,
-                                         * 10 and 16 to 23; in a record any below 32 but 7, 9, 11 and 12, 127 and 255 */
-    LIS_STATUS_FULL = 5,                /* there are as many texts as a session may have */
-    LIS_STATUS_OUT_OF_MEMORY = 6,       /* there is no memory for it */
-    LIS_STATUS_BAD_NUMBER = 7,          /* the number is not one of those that are known */
-    LIS_STATUS_TOO_SHORT = 8,           /* the buffer is too short */
-    LIS_STATUS_NO_RECORD = 9,           /* the text has no byte; or no record is begun, or none was found last */
-    LIS_STATUS_BAD_LETTER = 10,         /* the byte is no letter of such a record, or no field delimiter follows it */
-    LIS_STATUS_BAD_DELIMITERS = 11,     /* the bytes are no four delimiters */
-    LIS_STATUS_ABSENT = 12,             /* there is no such part, frame or text */
-    LIS_STATUS_UNFINISHED = 13,         /* a message, a record or a field isn't ended; or a fault came before */
-    LIS_STATUS_PUT_NOT_HEADER = 14,     /* outside a message a header comes first */
-    LIS_STATUS_PUT_NO_PARENT = 15,      /* an order belongs under a patient, a result under an order */
-    LIS_STATUS_PUT_SECOND_HEADER = 16,  /* the message has its header */
-    LIS_STATUS_OLD_LINE = 17,           /* of lis_line_start: there is no connection yet, or a session failed on it */
-    LIS_STATUS_LINE_OPEN = 18           /* of lis_station_start: the other side has the line */
+    LIS_STATUS_OK = 0,                  /* The call did what it is for. */
+    LIS_STATUS_IN_SESSION = 1,          /* A session is going on. */
+    LIS_STATUS_NO_TEXT = 2,             /* There is no text to send. */
+    LIS_STATUS_TOO_LONG = 3,            /* There are more bytes than the limit allows. */
+    LIS_STATUS_FORBIDDEN = 4,           /* The text has a byte that no text may hold: in a frame and a session 1 to 6,
+                                         * 10 and 16 to 23; in a record any below 32 but 7, 9, 11 and 12, 127 and
+                                         * 255. */
+    LIS_STATUS_FULL = 5,                /* There are as many texts as a session may have. */
+    LIS_STATUS_OUT_OF_MEMORY = 6,       /* There is no memory for it. */
+    LIS_STATUS_BAD_NUMBER = 7,          /* The number is not one of those that are known. */
+    LIS_STATUS_TOO_SHORT = 8,           /* The buffer is too short. */
+    LIS_STATUS_NO_RECORD = 9,           /* The text has no byte; or no record is begun, or none was found last. */
+    LIS_STATUS_BAD_LETTER = 10,         /* The byte is no letter of such a record, or no field delimiter follows it. */
+    LIS_STATUS_BAD_DELIMITERS = 11,     /* The bytes are no four delimiters. */
+    LIS_STATUS_ABSENT = 12,             /* There is no such part, frame or text. */
+    LIS_STATUS_UNFINISHED = 13,         /* A message, a record or a field isn't ended; or a fault came before. */
+    LIS_STATUS_PUT_NOT_HEADER = 14,     /* Outside a message a header comes first. */
+    LIS_STATUS_PUT_NO_PARENT = 15,      /* An order belongs under a patient, a result under an order. */
+    LIS_STATUS_PUT_SECOND_HEADER = 16,  /* The message already has its header. */
+    LIS_STATUS_OLD_LINE = 17,           /* A session was started without a connection, or on one where a session
+                                         * failed. */
+    LIS_STATUS_LINE_OPEN = 18           /* A session of a station was started while the other side has the line. */
 } LIS_ENUM_END(lis_status);
 #undef LIS_LOOKED_AT
 #define LIS_LOOKED_AT
@@ -182,22 +184,22 @@ typedef struct lis_place {
 
 /* What a signal is. */
 LIS_ENUM(lis_signal_kind) {
-    LIS_SIGNAL_NONE = 0,        /* no signal */
-    LIS_SIGNAL_ENQ = 1,         /* ENQ */
-    LIS_SIGNAL_EOT = 2,         /* EOT */
-    LIS_SIGNAL_FRAME = 3,       /* a good frame */
-    LIS_SIGNAL_BAD_FRAME = 4,   /* a bad frame, for a lis_fault */
-    LIS_SIGNAL_LONG_FRAME = 5   /* a good frame whose text has over 240 bytes; only after lis_scanner_set_limit */
+    LIS_SIGNAL_NONE = 0,        /* No signal. */
+    LIS_SIGNAL_ENQ = 1,         /* ENQ. */
+    LIS_SIGNAL_EOT = 2,         /* EOT. */
+    LIS_SIGNAL_FRAME = 3,       /* A good frame. */
+    LIS_SIGNAL_BAD_FRAME = 4,   /* A bad frame, for a lis_fault. */
+    LIS_SIGNAL_LONG_FRAME = 5   /* A good frame whose text has over 240 bytes; only after lis_scanner_set_limit. */
 } LIS_ENUM_END(lis_signal_kind);
 
 /* What is wrong with a frame: the first that applies. */
 LIS_ENUM(lis_fault) {
-    LIS_FAULT_NONE = 0,         /* nothing */
-    LIS_FAULT_TOO_LONG = 1,     /* it has more bytes than a frame may have */
-    LIS_FAULT_SHAPE = 2,        /* there are no end byte, checksum, CR and LF in their places */
-    LIS_FAULT_NUMBER = 3,       /* its number is no digit from 0 to 7 */
-    LIS_FAULT_FORBIDDEN = 4,    /* its text has a byte that no text may hold */
-    LIS_FAULT_SUM = 5           /* its checksum is another */
+    LIS_FAULT_NONE = 0,         /* Nothing. */
+    LIS_FAULT_TOO_LONG = 1,     /* It has more bytes than a frame may have. */
+    LIS_FAULT_SHAPE = 2,        /* There are no end byte, checksum, CR and LF in their places. */
+    LIS_FAULT_NUMBER = 3,       /* Its number is no digit from 0 to 7. */
+    LIS_FAULT_FORBIDDEN = 4,    /* Its text has a byte that no text may hold. */
+    LIS_FAULT_SUM = 5           /* Its checksum does not match. */
 } LIS_ENUM_END(lis_fault);
 
 /* A signal. Fields that do not apply to its kind are 0. */
@@ -256,20 +258,20 @@ lis_status lis_long_frame_write(uint8_t number, bool last, const uint8_t *text, 
 
 /* What a sender waits for, and the timer that runs meanwhile. */
 LIS_ENUM(lis_phase) {
-    LIS_PHASE_NEUTRAL = 0,      /* nothing: no session goes on, and no timer runs */
-    LIS_PHASE_AWAIT_LINE = 1,   /* ENQ was sent, the reply is awaited: LIS_SECONDS_REPLY */
-    LIS_PHASE_BUSY = 2,         /* the computer is busy, ENQ is sent again: LIS_SECONDS_BUSY */
-    LIS_PHASE_CONTENTION = 3,   /* the computer sent ENQ too, ENQ is sent again: LIS_SECONDS_CONTENTION */
-    LIS_PHASE_AWAIT_REPLY = 4   /* a frame was sent, the reply is awaited: LIS_SECONDS_REPLY */
+    LIS_PHASE_NEUTRAL = 0,      /* Nothing: no session goes on, and no timer runs. */
+    LIS_PHASE_AWAIT_LINE = 1,   /* ENQ was sent, and its reply is awaited for LIS_SECONDS_REPLY. */
+    LIS_PHASE_BUSY = 2,         /* The computer is busy; ENQ is sent again after LIS_SECONDS_BUSY. */
+    LIS_PHASE_CONTENTION = 3,   /* The computer sent ENQ too; ENQ is sent again after LIS_SECONDS_CONTENTION. */
+    LIS_PHASE_AWAIT_REPLY = 4   /* A frame was sent, and its reply is awaited for LIS_SECONDS_REPLY. */
 } LIS_ENUM_END(lis_phase);
 
 /* How a session ended. Only LIS_OUTCOME_DONE says that all texts were acknowledged. */
 LIS_ENUM(lis_outcome) {
-    LIS_OUTCOME_NONE = 0,       /* there was no session yet, or one is going on */
-    LIS_OUTCOME_DONE = 1,       /* each text was acknowledged */
-    LIS_OUTCOME_TIMED_OUT = 2,  /* no reply came in time */
-    LIS_OUTCOME_SIX_TRIES = 3,  /* a frame was answered otherwise than by ACK or EOT six times */
-    LIS_OUTCOME_RESTARTED = 4   /* it was restarted, for example by lis_sender_restart */
+    LIS_OUTCOME_NONE = 0,       /* There was no session yet, or one is going on. */
+    LIS_OUTCOME_DONE = 1,       /* Each text was acknowledged. */
+    LIS_OUTCOME_TIMED_OUT = 2,  /* No reply came in time. */
+    LIS_OUTCOME_SIX_TRIES = 3,  /* A frame was answered otherwise than by ACK or EOT six times. */
+    LIS_OUTCOME_RESTARTED = 4   /* It was restarted, for example by lis_sender_restart. */
 } LIS_ENUM_END(lis_outcome);
 
 /* A text that stays with the caller. */
@@ -384,26 +386,26 @@ bool lis_sender_timer_seconds(const lis_sender *s, uint32_t *seconds);
 
 /* What a byte or the timer meant. */
 LIS_ENUM(lis_note) {
-    LIS_NOTE_QUIET = 0,             /* nothing yet */
-    LIS_NOTE_OPENED = 1,            /* ENQ: a session begins, and what was held of an earlier text is dropped */
-    LIS_NOTE_NOT_READY = 2,         /* ENQ, answered as lis_receiver_set_ready says */
-    LIS_NOTE_ENDED = 3,             /* EOT: the session is over */
-    LIS_NOTE_ACCEPTED = 4,          /* a frame was taken; detail: its number */
-    LIS_NOTE_DUPLICATE = 5,         /* a frame came again that was taken before; detail: its number */
-    LIS_NOTE_OUT_OF_TURN = 6,       /* a frame came that isn't the next one; detail: its number */
-    LIS_NOTE_REFUSED = 7,           /* a bad frame; detail: a lis_fault; place: the forbidden byte's */
-    LIS_NOTE_NO_ROOM = 8,           /* there is no room for a frame, as lis_receiver_set_room said */
-    LIS_NOTE_TOO_LONG = 9,          /* the text would have over LIS_LIMIT_TEXT_BYTES, or over the receiver's limit */
-    LIS_NOTE_TOO_MANY = 10,         /* 4,294,967,295 frames were accepted in this session */
-    LIS_NOTE_OUT_OF_MEMORY = 11,    /* the frame is answered NAK and not taken */
-    LIS_NOTE_TIMED_OUT = 12         /* the line is closed, and what was held is dropped */
+    LIS_NOTE_QUIET = 0,             /* Nothing yet. */
+    LIS_NOTE_OPENED = 1,            /* ENQ: a session begins, and what was held of an earlier text is dropped. */
+    LIS_NOTE_NOT_READY = 2,         /* ENQ came, and was answered as lis_receiver_set_ready set. */
+    LIS_NOTE_ENDED = 3,             /* EOT: the session is over. */
+    LIS_NOTE_ACCEPTED = 4,          /* A frame was taken; detail: its number. */
+    LIS_NOTE_DUPLICATE = 5,         /* A frame came again that was taken before; detail: its number. */
+    LIS_NOTE_OUT_OF_TURN = 6,       /* A frame came that isn't the next one; detail: its number. */
+    LIS_NOTE_REFUSED = 7,           /* A bad frame; detail: a lis_fault; place: the forbidden byte's. */
+    LIS_NOTE_NO_ROOM = 8,           /* There is no room for a frame, as set by lis_receiver_set_room. */
+    LIS_NOTE_TOO_LONG = 9,          /* The text would have over LIS_LIMIT_TEXT_BYTES, or over the receiver's limit. */
+    LIS_NOTE_TOO_MANY = 10,         /* 4,294,967,295 frames were accepted in this session. */
+    LIS_NOTE_OUT_OF_MEMORY = 11,    /* The frame is answered NAK and not taken. */
+    LIS_NOTE_TIMED_OUT = 12         /* The line is closed, and what was held is dropped. */
 } LIS_ENUM_END(lis_note);
 
 /* How ENQ is answered. */
 LIS_ENUM(lis_ready) {
-    LIS_READY_YES = 0,          /* ACK */
-    LIS_READY_BUSY = 1,         /* NAK */
-    LIS_READY_CONTENDING = 2    /* ENQ, as a computer does that wants to send first */
+    LIS_READY_YES = 0,          /* ACK. */
+    LIS_READY_BUSY = 1,         /* NAK. */
+    LIS_READY_CONTENDING = 2    /* ENQ, as a computer does that wants to send first. */
 } LIS_ENUM_END(lis_ready);
 
 /* A step: what a byte or the timer meant, and what is to be done.
@@ -504,8 +506,8 @@ lis_status lis_receiver_text(const lis_receiver *s, uint8_t *out, size_t out_len
 
 /* Which side a station is. If both sides ask for the line at once, the computer waits for the analyzer's session. */
 LIS_ENUM(lis_role) {
-    LIS_ROLE_ANALYZER = 0,      /* the analyzer's */
-    LIS_ROLE_COMPUTER = 1       /* the computer's */
+    LIS_ROLE_ANALYZER = 0,      /* The analyzer's. */
+    LIS_ROLE_COMPUTER = 1       /* The computer's. */
 } LIS_ENUM_END(lis_role);
 
 /* What a byte or the timer meant to a station, and what is to be sent.
@@ -701,21 +703,21 @@ lis_status lis_part_decode(const lis_delimiters *delimiters, const uint8_t *part
 
 /* What a reader found. */
 LIS_ENUM(lis_found_kind) {
-    LIS_FOUND_NOTHING = 0,      /* nothing yet */
-    LIS_FOUND_RECORD = 1,       /* a record */
-    LIS_FOUND_REFUSED = 2       /* a record that can't be read, for a lis_reason */
+    LIS_FOUND_NOTHING = 0,      /* Nothing yet. */
+    LIS_FOUND_RECORD = 1,       /* A record. */
+    LIS_FOUND_REFUSED = 2       /* A record that can't be read, for a lis_reason. */
 } LIS_ENUM_END(lis_found_kind);
 
 /* Why a record can't be read. */
 LIS_ENUM(lis_reason) {
-    LIS_REASON_NONE = 0,            /* it can be read */
-    LIS_REASON_BAD_RECORD = 1,      /* its text is no record; detail: a lis_status; place: the forbidden byte's */
-    LIS_REASON_NOT_HEADER = 2,      /* outside a message a header comes first */
-    LIS_REASON_NO_PARENT = 3,       /* it has no parent in the message; detail: its letter */
-    LIS_REASON_SECOND_HEADER = 4,   /* the message has its header */
-    LIS_REASON_UNFINISHED = 5,      /* the stream ended before the message or the record did */
-    LIS_REASON_TOO_LONG = 6,        /* it has over LIS_LIMIT_RECORD_BYTES */
-    LIS_REASON_OUT_OF_MEMORY = 7    /* there was no memory for bytes that are held */
+    LIS_REASON_NONE = 0,            /* It can be read. */
+    LIS_REASON_BAD_RECORD = 1,      /* Its text is no record; detail: a lis_status; place: the forbidden byte's. */
+    LIS_REASON_NOT_HEADER = 2,      /* Outside a message a header comes first. */
+    LIS_REASON_NO_PARENT = 3,       /* It has no parent in the message; detail: its letter. */
+    LIS_REASON_SECOND_HEADER = 4,   /* The message already has its header. */
+    LIS_REASON_UNFINISHED = 5,      /* The stream ended before the message or the record did. */
+    LIS_REASON_TOO_LONG = 6,        /* It has over LIS_LIMIT_RECORD_BYTES. */
+    LIS_REASON_OUT_OF_MEMORY = 7    /* There was no memory for bytes that are held. */
 } LIS_ENUM_END(lis_reason);
 
 /* What a reader found: a record, or one that can't be read. Members that do not apply to its kind are 0. */

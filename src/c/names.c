@@ -26,7 +26,7 @@ const char *lis_status_text(lis_status status) {
         [LIS_STATUS_UNFINISHED] = "a message, a record or a field isn't ended",
         [LIS_STATUS_PUT_NOT_HEADER] = "outside a message a header comes first",
         [LIS_STATUS_PUT_NO_PARENT] = "the record has no parent in the message",
-        [LIS_STATUS_PUT_SECOND_HEADER] = "the message has its header",
+        [LIS_STATUS_PUT_SECOND_HEADER] = "the message already has its header",
         [LIS_STATUS_OLD_LINE] = "a session starts on a new connection: none was made yet, or a session failed on this one",
         [LIS_STATUS_LINE_OPEN] = "the other side has the line",
     };
@@ -130,7 +130,7 @@ const char *lis_reason_text(lis_reason reason) {
         [LIS_REASON_BAD_RECORD] = "the text is not a record",
         [LIS_REASON_NOT_HEADER] = "outside a message a header comes first",
         [LIS_REASON_NO_PARENT] = "the record has no parent in the message",
-        [LIS_REASON_SECOND_HEADER] = "the message has its header",
+        [LIS_REASON_SECOND_HEADER] = "the message already has its header",
         [LIS_REASON_UNFINISHED] = "the message or the record isn't ended",
         [LIS_REASON_TOO_LONG] = "the record is too long",
         [LIS_REASON_OUT_OF_MEMORY] = "out of memory",

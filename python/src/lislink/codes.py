@@ -38,11 +38,11 @@ class Status(enum.IntEnum):
     PUT_NOT_HEADER = 14
     #: An order belongs under a patient, a result under an order.
     PUT_NO_PARENT = 15
-    #: The message has its header.
+    #: The message already has its header.
     PUT_SECOND_HEADER = 16
-    #: Of lis_line_start: there is no connection yet, or a session failed on it.
+    #: A session was started without a connection, or on one where a session failed.
     OLD_LINE = 17
-    #: Of Station.start: the other side has the line.
+    #: A session of a station was started while the other side has the line.
     LINE_OPEN = 18
 
 
@@ -74,7 +74,7 @@ class FrameFault(enum.IntEnum):
     NUMBER = 3
     #: Its text has a byte that no text may hold.
     FORBIDDEN = 4
-    #: Its checksum is another.
+    #: Its checksum does not match.
     SUM = 5
 
 
@@ -83,13 +83,13 @@ class Phase(enum.IntEnum):
 
     #: Nothing: no session goes on, and no timer runs.
     NEUTRAL = 0
-    #: ENQ was sent, the reply is awaited: REPLY.
+    #: ENQ was sent, and its reply is awaited for REPLY.
     AWAIT_LINE = 1
-    #: The computer is busy, ENQ is sent again: BUSY.
+    #: The computer is busy; ENQ is sent again after BUSY.
     BUSY = 2
-    #: The computer sent ENQ too, ENQ is sent again: CONTENTION.
+    #: The computer sent ENQ too; ENQ is sent again after CONTENTION.
     CONTENTION = 3
-    #: A frame was sent, the reply is awaited: REPLY.
+    #: A frame was sent, and its reply is awaited for REPLY.
     AWAIT_REPLY = 4
 
 
@@ -115,7 +115,7 @@ class Note(enum.IntEnum):
     QUIET = 0
     #: ENQ: a session begins, and what was held of an earlier text is dropped.
     OPENED = 1
-    #: ENQ, answered as Receiver.set_ready says.
+    #: ENQ came, and was answered as Receiver.set_ready set.
     NOT_READY = 2
     #: EOT: the session is over.
     ENDED = 3
@@ -127,7 +127,7 @@ class Note(enum.IntEnum):
     OUT_OF_TURN = 6
     #: A bad frame; detail: a FrameFault; place: the forbidden byte's.
     REFUSED = 7
-    #: There is no room for a frame, as Receiver.set_room said.
+    #: There is no room for a frame, as set by Receiver.set_room.
     NO_ROOM = 8
     #: The text would have over LIS_LIMIT_TEXT_BYTES, or over the receiver's limit.
     TEXT_TOO_LONG = 9
@@ -173,7 +173,7 @@ class Reason(enum.IntEnum):
     NOT_HEADER = 2
     #: It has no parent in the message; detail: its letter.
     NO_PARENT = 3
-    #: The message has its header.
+    #: The message already has its header.
     SECOND_HEADER = 4
     #: The stream ended before the message or the record did.
     UNFINISHED = 5

@@ -50,122 +50,122 @@ macro_rules! family {
 family! {
     /// What a call that may fail returns.
     Status, lis_status_text:
-    /// the call did what it is for.
+    /// The call did what it is for.
     Ok = LIS_STATUS_OK,
-    /// a session is going on.
+    /// A session is going on.
     InSession = LIS_STATUS_IN_SESSION,
-    /// there is no text to send.
+    /// There is no text to send.
     NoText = LIS_STATUS_NO_TEXT,
-    /// there are more bytes than the limit allows.
+    /// There are more bytes than the limit allows.
     TooLong = LIS_STATUS_TOO_LONG,
-    /// the text has a byte that no text may hold: in a frame and a session 1 to 6, 10 and 16 to 23; in a
+    /// The text has a byte that no text may hold: in a frame and a session 1 to 6, 10 and 16 to 23; in a
     /// record any below 32 but 7, 9, 11 and 12, 127 and 255.
     Forbidden = LIS_STATUS_FORBIDDEN,
-    /// there are as many texts as a session may have.
+    /// There are as many texts as a session may have.
     Full = LIS_STATUS_FULL,
-    /// there is no memory for it.
+    /// There is no memory for it.
     OutOfMemory = LIS_STATUS_OUT_OF_MEMORY,
-    /// the number is not one of those that are known.
+    /// The number is not one of those that are known.
     BadNumber = LIS_STATUS_BAD_NUMBER,
-    /// the buffer is too short.
+    /// The buffer is too short.
     TooShort = LIS_STATUS_TOO_SHORT,
-    /// the text has no byte; or no record is begun, or none was found last.
+    /// The text has no byte; or no record is begun, or none was found last.
     NoRecord = LIS_STATUS_NO_RECORD,
-    /// the byte is no letter of such a record, or no field delimiter follows it.
+    /// The byte is no letter of such a record, or no field delimiter follows it.
     BadLetter = LIS_STATUS_BAD_LETTER,
-    /// the bytes are no four delimiters.
+    /// The bytes are no four delimiters.
     BadDelimiters = LIS_STATUS_BAD_DELIMITERS,
-    /// there is no such part, frame or text.
+    /// There is no such part, frame or text.
     Absent = LIS_STATUS_ABSENT,
-    /// a message, a record or a field isn't ended; or a fault came before.
+    /// A message, a record or a field isn't ended; or a fault came before.
     Unfinished = LIS_STATUS_UNFINISHED,
-    /// outside a message a header comes first.
+    /// Outside a message a header comes first.
     PutNotHeader = LIS_STATUS_PUT_NOT_HEADER,
-    /// an order belongs under a patient, a result under an order.
+    /// An order belongs under a patient, a result under an order.
     PutNoParent = LIS_STATUS_PUT_NO_PARENT,
-    /// the message has its header.
+    /// The message already has its header.
     PutSecondHeader = LIS_STATUS_PUT_SECOND_HEADER,
-    /// of lis_line_start: there is no connection yet, or a session failed on it.
+    /// A session was started without a connection, or on one where a session failed.
     OldLine = LIS_STATUS_OLD_LINE,
-    /// of lis_station_start: the other side has the line.
+    /// A session of a station was started while the other side has the line.
     LineOpen = LIS_STATUS_LINE_OPEN,
 }
 
 family! {
     /// What is wrong with a frame: the first that applies.
     Fault, lis_fault_text:
-    /// nothing.
+    /// Nothing.
     None = LIS_FAULT_NONE,
-    /// it has more bytes than a frame may have.
+    /// It has more bytes than a frame may have.
     TooLong = LIS_FAULT_TOO_LONG,
-    /// there are no end byte, checksum, CR and LF in their places.
+    /// There are no end byte, checksum, CR and LF in their places.
     Shape = LIS_FAULT_SHAPE,
-    /// its number is no digit from 0 to 7.
+    /// Its number is no digit from 0 to 7.
     Number = LIS_FAULT_NUMBER,
-    /// its text has a byte that no text may hold.
+    /// Its text has a byte that no text may hold.
     Forbidden = LIS_FAULT_FORBIDDEN,
-    /// its checksum is another.
+    /// Its checksum does not match.
     Sum = LIS_FAULT_SUM,
 }
 
 family! {
     /// What a sender waits for, and the timer that runs meanwhile.
     Phase, lis_phase_text:
-    /// nothing: no session goes on, and no timer runs.
+    /// Nothing: no session goes on, and no timer runs.
     Neutral = LIS_PHASE_NEUTRAL,
-    /// ENQ was sent, the reply is awaited: LIS_SECONDS_REPLY.
+    /// ENQ was sent, and its reply is awaited for LIS_SECONDS_REPLY.
     AwaitLine = LIS_PHASE_AWAIT_LINE,
-    /// the computer is busy, ENQ is sent again: LIS_SECONDS_BUSY.
+    /// The computer is busy; ENQ is sent again after LIS_SECONDS_BUSY.
     Busy = LIS_PHASE_BUSY,
-    /// the computer sent ENQ too, ENQ is sent again: LIS_SECONDS_CONTENTION.
+    /// The computer sent ENQ too; ENQ is sent again after LIS_SECONDS_CONTENTION.
     Contention = LIS_PHASE_CONTENTION,
-    /// a frame was sent, the reply is awaited: LIS_SECONDS_REPLY.
+    /// A frame was sent, and its reply is awaited for LIS_SECONDS_REPLY.
     AwaitReply = LIS_PHASE_AWAIT_REPLY,
 }
 
 family! {
-    /// How a session ended. Only LIS_OUTCOME_DONE says that all texts were acknowledged.
+    /// How a session ended. Only [`Outcome::Done`] says that all texts were acknowledged.
     Outcome, lis_outcome_text:
-    /// there was no session yet, or one is going on.
+    /// There was no session yet, or one is going on.
     None = LIS_OUTCOME_NONE,
-    /// each text was acknowledged.
+    /// Each text was acknowledged.
     Done = LIS_OUTCOME_DONE,
-    /// no reply came in time.
+    /// No reply came in time.
     TimedOut = LIS_OUTCOME_TIMED_OUT,
-    /// a frame was answered otherwise than by ACK or EOT six times.
+    /// A frame was answered otherwise than by ACK or EOT six times.
     SixTries = LIS_OUTCOME_SIX_TRIES,
-    /// it was restarted, for example by lis_sender_restart.
+    /// It was restarted, for example by `Sender::restart`.
     Restarted = LIS_OUTCOME_RESTARTED,
 }
 
 family! {
     /// What a byte or the timer meant.
     Note, lis_note_text:
-    /// nothing yet.
+    /// Nothing yet.
     Quiet = LIS_NOTE_QUIET,
     /// ENQ: a session begins, and what was held of an earlier text is dropped.
     Opened = LIS_NOTE_OPENED,
-    /// ENQ, answered as lis_receiver_set_ready says.
+    /// ENQ came, and was answered as `Receiver::set_ready` set.
     NotReady = LIS_NOTE_NOT_READY,
     /// EOT: the session is over.
     Ended = LIS_NOTE_ENDED,
-    /// a frame was taken; detail: its number.
+    /// A frame was taken; detail: its number.
     Accepted = LIS_NOTE_ACCEPTED,
-    /// a frame came again that was taken before; detail: its number.
+    /// A frame came again that was taken before; detail: its number.
     Duplicate = LIS_NOTE_DUPLICATE,
-    /// a frame came that isn't the next one; detail: its number.
+    /// A frame came that isn't the next one; detail: its number.
     OutOfTurn = LIS_NOTE_OUT_OF_TURN,
-    /// a bad frame; detail: a lis_fault; place: the forbidden byte's.
+    /// A bad frame; detail: a [`Fault`]; place: the forbidden byte's.
     Refused = LIS_NOTE_REFUSED,
-    /// there is no room for a frame, as lis_receiver_set_room said.
+    /// There is no room for a frame, as set by `Receiver::set_room`.
     NoRoom = LIS_NOTE_NO_ROOM,
-    /// the text would have over LIS_LIMIT_TEXT_BYTES, or over the receiver's limit.
+    /// The text would have over LIS_LIMIT_TEXT_BYTES, or over the receiver's limit.
     TooLong = LIS_NOTE_TOO_LONG,
     /// 4,294,967,295 frames were accepted in this session.
     TooMany = LIS_NOTE_TOO_MANY,
-    /// the frame is answered NAK and not taken.
+    /// The frame is answered NAK and not taken.
     OutOfMemory = LIS_NOTE_OUT_OF_MEMORY,
-    /// the line is closed, and what was held is dropped.
+    /// The line is closed, and what was held is dropped.
     TimedOut = LIS_NOTE_TIMED_OUT,
 }
 
@@ -184,29 +184,29 @@ family! {
     /// Which side a station is. If both sides ask for the line at once, the computer waits for the analyzer's
     /// session.
     Role, lis_role_text:
-    /// the analyzer's.
+    /// The analyzer's.
     Analyzer = LIS_ROLE_ANALYZER,
-    /// the computer's.
+    /// The computer's.
     Computer = LIS_ROLE_COMPUTER,
 }
 
 family! {
     /// Why a record can't be read.
     Reason, lis_reason_text:
-    /// it can be read.
+    /// It can be read.
     None = LIS_REASON_NONE,
-    /// its text is no record; detail: a lis_status; place: the forbidden byte's.
+    /// Its text is no record; detail: a [`Status`]; place: the forbidden byte's.
     BadRecord = LIS_REASON_BAD_RECORD,
-    /// outside a message a header comes first.
+    /// Outside a message a header comes first.
     NotHeader = LIS_REASON_NOT_HEADER,
-    /// it has no parent in the message; detail: its letter.
+    /// It has no parent in the message; detail: its letter.
     NoParent = LIS_REASON_NO_PARENT,
-    /// the message has its header.
+    /// The message already has its header.
     SecondHeader = LIS_REASON_SECOND_HEADER,
-    /// the stream ended before the message or the record did.
+    /// The stream ended before the message or the record did.
     Unfinished = LIS_REASON_UNFINISHED,
-    /// it has over LIS_LIMIT_RECORD_BYTES.
+    /// It has over LIS_LIMIT_RECORD_BYTES.
     TooLong = LIS_REASON_TOO_LONG,
-    /// there was no memory for bytes that are held.
+    /// There was no memory for bytes that are held.
     OutOfMemory = LIS_REASON_OUT_OF_MEMORY,
 }
