@@ -1,1 +1,1 @@
-"""The command `lislab`: the words of each command, and what it runs."""
+"""The command `lislab`: the options of each subcommand, and what it runs."""

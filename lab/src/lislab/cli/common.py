@@ -1,4 +1,4 @@
-"""What the commands share: exit statuses, standard error, files, options with an old name."""
+"""Shared by the commands: exit statuses, standard error, files, options under old names."""
 import argparse
 import sys
 from typing import Any, Optional
@@ -7,7 +7,7 @@ from ..model import renamed
 from ..model.files import write_whole
 from ..model.said import shown
 
-#: Exit statuses: as those of lislink.
+#: Exit statuses, the same as of lislink.
 GOOD, LOOKS_WRONG, USAGE, STOPPED = 0, 1, 2, 3
 
 

@@ -221,7 +221,7 @@ def run_table(ask: argparse.Namespace) -> int:
 
 
 def _say_letters(where: str, records: bytes, ask: argparse.Namespace) -> bool:
-    """Says whether the letters of records look like those of another encoding."""
+    """Warns if the letters of records look like another encoding."""
     look = looks_like(records, ask.encoding)
     if look:
         name = "utf-8" if look == UTF_8 else "gbk"

@@ -39,7 +39,7 @@ from .common import add_renamed
 GOOD, WRONG, USAGE = 0, 1, 2
 
 
-#: What `serve --help` ends with.
+#: The end of `serve --help`.
 _SETTINGS = (
     "KEY=VALUE is a setting of the line, for example --listen 4000,name=chemistry,orders=query. lislab.lines(5) and "
     "docs/lislab.md list the settings."
@@ -65,7 +65,7 @@ def _store(parser: argparse.ArgumentParser) -> None:
 
 
 def _number(kind: Callable[[str], float], least: float, most: float = math.inf) -> Callable[[str], float]:
-    """What reads a number within these bounds."""
+    """A function that reads a number within these bounds."""
 
     def read(word: str) -> float:
         try:
@@ -179,7 +179,7 @@ def run_serve(ask: argparse.Namespace) -> int:
 
 
 def _asked_of(ask: argparse.Namespace) -> serve.Asked:
-    """What the words of serve ask for, and its file of lines as that is now."""
+    """The settings of serve, by its options and its lines file as that is now."""
     files = [one for one in ask.lines if isinstance(one, str)]
     most = [ask.max_lines, *(one for one in ask.lines if not isinstance(one, str))][-1]
     if len(files) < len(ask.lines):
@@ -199,7 +199,7 @@ def _asked_of(ask: argparse.Namespace) -> serve.Asked:
 
 
 def _lines_of(ask: argparse.Namespace, files: Sequence[str], networks: Sequence[Network]) -> lines.Lines:
-    """The lines of the words, and those of the file."""
+    """The lines of the options and of the lines file."""
     listens = [options.listen_of(word) for word in ask.listen]
     options.check_allowed(listens, networks)
     named: List[Place] = [
@@ -234,7 +234,7 @@ def run_lines(ask: argparse.Namespace) -> int:
 def _outbox_of(
     ask: argparse.Namespace, places: Sequence[Place]
 ) -> Optional[Callable[[Callable[[str], None]], Outbox]]:
-    """What makes the orders of a host, if a line sends some."""
+    """A function that makes the outbox of a host, if a line has orders."""
     command = shlex.split(ask.query_command or "")
     if not any(place.orders for place in places):
         if command:
@@ -293,7 +293,7 @@ def _texts_of(ask: argparse.Namespace, bad: List[str]) -> Callable[[str], Iterat
 
 
 def run_send(ask: argparse.Namespace) -> int:
-    """Sends, and says how each message went."""
+    """Sends messages, and reports how each one went."""
     if bool(ask.to) == bool(ask.serial):
         raise OptionError("name the host by --to or the line by --serial")
     target: send.Target = options.split_address(ask.to) if ask.to else options.serial_of(ask.serial)
@@ -410,7 +410,7 @@ def form_asked(ask: argparse.Namespace, form: str, said: Optional[Callable[[str]
 
 
 def run_export(ask: argparse.Namespace) -> int:
-    """Writes messages out of a store; one that can't be said surely is named and left out."""
+    """Writes messages from a store. It reports and leaves out a message that can't be written with certainty."""
     try:
         since = None if ask.since is None else export.time_of(ask.since)
     except ValueError:

@@ -48,7 +48,7 @@ class Commands:
 
 
 def parser() -> argparse.ArgumentParser:
-    """The words of the command."""
+    """The parser of the command."""
     top = argparse.ArgumentParser(
         prog="lislab",
         usage="lislab COMMAND ..",

@@ -1,4 +1,4 @@
-"""The commands that bring messages out of a store: `lislab deliver` and `lislab codes`."""
+"""The commands `lislab deliver` and `lislab codes`."""
 import argparse
 import functools
 import os
@@ -92,7 +92,7 @@ def _form_of(ask: argparse.Namespace) -> export.Form:
 
 
 def _target_of(ask: argparse.Namespace, form: export.Form, lock: int, ahead: Ahead) -> deliver.Target:
-    """What delivers a message, as the words have it."""
+    """A function that delivers a message, by the options."""
     where: str = ask.to or ask.directory or ""
     scheme, slashes, rest = where.partition("://")
     scheme = scheme if slashes else ""
@@ -153,7 +153,7 @@ def run_deliver(ask: argparse.Namespace) -> int:
 
 
 def _stop(number: int, frame: Optional[FrameType]) -> None:
-    """The delivery is asked to end: the try that goes on isn't counted."""
+    """Ends the delivery at SIGTERM: the try that goes on isn't counted."""
     raise deliver.Stopped
 
 

@@ -22,7 +22,7 @@ from .host import _FACTOR, _scale
 
 #: Exit statuses, as those of the other commands.
 GOOD, DIFFERS, USAGE, STOPPED = 0, 1, 2, 3
-#: What a folder's scripts end in.
+#: The ends of the names of a folder's scripts.
 _ENDINGS = (".play", ".capture")
 _T = TypeVar("_T")
 
@@ -93,7 +93,7 @@ def _place(ask: argparse.Namespace) -> Place:
 
 
 def _read(path: str) -> bytes:
-    """A script; of one that is too long no more than says so."""
+    """The bytes of a script; of one that is too long, only as many as show that."""
     if path == "-":
         return sys.stdin.buffer.read(BYTES + 1)
     with open(path, "rb") as file:
@@ -148,7 +148,7 @@ def _plays(ask: argparse.Namespace) -> Tuple[List[Play], str]:
 
 
 def _named(name: str, path: str, call: Callable[[], _T]) -> _T:
-    """What a call gives; a script that is wrong is named."""
+    """The result of a call; an error names the script."""
     try:
         return call()
     except ScriptError as error:

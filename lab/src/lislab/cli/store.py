@@ -158,7 +158,7 @@ def restore(copy: str, store: str, cursors: Dict[str, str]) -> None:
 
 @contextlib.contextmanager
 def _made(path: str) -> Iterator[sqlite3.Connection]:
-    """A database that takes its name once it is on the disk, whole; its owner's alone."""
+    """A database that gets its name once it is completely on the disk; only its owner can read it."""
     made = path + ".new"
     try:
         os.close(os.open(made, os.O_WRONLY | os.O_CREAT | os.O_TRUNC | os.O_CLOEXEC, 0o600))

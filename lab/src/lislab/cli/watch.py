@@ -1,4 +1,4 @@
-"""`lislab watch`: what goes on on a host's lines, at a glance."""
+"""`lislab watch`: the state of a host's lines, at a glance."""
 import argparse
 import os
 import shlex
@@ -29,7 +29,7 @@ from .host import state_file
 GOOD, WRONG = 0, 1
 #: The fewest characters of a token.
 SHORTEST = 16
-#: What a terminal does before a picture is painted anew, and with a bad line, a quiet one, and after each.
+#: Terminal codes: before a screen is painted again, before a bad line, before a quiet one, and after each.
 CLEAR, COLOURS, PLAIN = "\x1b[H\x1b[J", {"bad": "\x1b[1;31m", "quiet": "\x1b[2m", "good": "\x1b[32m"}, "\x1b[0m"
 
 
@@ -107,7 +107,7 @@ def _rows(host: Host, notifier: Optional[Notifier]) -> Tuple[List[str], List[str
 
 
 def _stay(host: Host, every: float, notifier: Optional[Notifier]) -> int:
-    """Paints the rows anew as long as it runs. What is no terminal gets a row when its line changes."""
+    """Paints the rows again and again. Output that is no terminal gets a row when its line changes."""
     before: List[str] = []
     host.look()  # a store that isn't there is said at once
     while True:
@@ -126,7 +126,7 @@ def _stay(host: Host, every: float, notifier: Optional[Notifier]) -> int:
 
 
 def _asked(ask: argparse.Namespace) -> Asked:
-    """Where the pages are, and who may see them."""
+    """The address of the pages, and who may read them."""
     address, port = split_address(ask.http)
     token = token_of(ask.token)
     if ask.token and len(token) < SHORTEST:
