@@ -107,11 +107,11 @@ class OutOf:
     def test_status(self):
         """`lislab status` of a host that runs, and of one that is stopped."""
         shown, data = self.shown
-        self.same("the host runs", (shown.returncode, "the host is running" in shown.stdout), (0, True))
+        self.same("the host runs", (shown.returncode, "the host has been running since" in shown.stdout), (0, True))
         line = json.loads(data.stdout)["lines"][0]
         self.same("counts", (line["line"], line["complete"], line["again"]), ("fire", 3, 1))
         shown = lislab("status", "--store", self.store, *self.state)
-        self.same("the host is stopped", (shown.returncode, "is not running" in shown.stdout), (1, True))
+        self.same("the host is stopped", (shown.returncode, "isn't running" in shown.stdout), (1, True))
 
     def test_export(self):
         """Exports in each format, against the file that was sent and the table of the same file."""
