@@ -443,7 +443,7 @@ class Lines(HostTest):
         self.same("calls", heard, [events[1], events[1], events[2]])
 
     def test_calls_of_a_text(self):
-        """A text of one frame takes six calls of the library, sets no timer of the loop, and reading goes on."""
+        """A text of one frame takes five calls of the library, sets no timer of the loop, and reading goes on."""
         calls, alarms = [], []
 
         async def runs():
@@ -466,13 +466,14 @@ class Lines(HostTest):
             await asyncio.wait_for(task, 60)
             return wire.pause.call_count
 
-        call, call_at = Owner._call, asyncio.BaseEventLoop.call_at
-        noted = lambda owner, name, *words: (calls and calls[-1].append(name), call(owner, name, *words))[1]
+        call_at, ways = asyncio.BaseEventLoop.call_at, [Owner._call, Owner._read]
+        noted = [lambda owner, name, *words, way=way: (calls and calls[-1].append(name), way(owner, name, *words))[1]
+                 for way in ways]
         timed = lambda loop, at, *words, **how: (alarms and alarms[-1].append(at), call_at(loop, at, *words, **how))[1]
-        with unittest.mock.patch.object(Owner, "_call", noted):
+        with unittest.mock.patch.multiple(Owner, _call=noted[0], _read=noted[1]):
             with unittest.mock.patch.object(asyncio.BaseEventLoop, "call_at", timed):
                 paused = asyncio.run(runs())
-        self.same("calls of a text", calls[2], ["hear", "text_len", "text", "read", "read", "is_open"])
+        self.same("calls of a text", calls[2], ["hear", "text_len", "text", "records", "is_open"])
         self.same("timers", [len(some) for some in alarms[2:-1]], [0] * (len(alarms) - 3))
         self.same("pauses", paused, 0)
 

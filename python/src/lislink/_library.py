@@ -6,7 +6,7 @@ repository that this file belongs to, `lib/` of the Python's and the usual prefi
 import ctypes
 import os
 import sys
-from typing import Any, Callable, Dict, List, Optional
+from typing import Any, Callable, Dict, List, Optional, Tuple
 
 _POINTER, _SIZE, _BYTE, _FLAG, _COUNT = (
     ctypes.c_void_p,
@@ -187,8 +187,9 @@ for _kind in ("scanner", "sender", "receiver", "station", "reader", "writer"):
     )
 
 _NAME = "liblislink.so"
-_calls: Optional[Dict[str, Callable[..., Any]]] = None
-_of_kinds: Dict[str, Dict[str, Callable[..., Any]]] = {}
+Calls = Dict[str, Callable[..., Any]]
+_calls: Optional[Calls] = None
+_of_kinds: Dict[str, Tuple[Calls, Calls]] = {}
 
 
 class LibraryMissing(ImportError):
@@ -204,12 +205,11 @@ def places() -> List[str]:
     return [path for path in found if os.path.exists(path)]
 
 
-def _load() -> Dict[str, Callable[..., Any]]:
+def _load(loads: Callable[[str], ctypes.CDLL] = ctypes.CDLL) -> Calls:
     named = os.environ.get("LISLINK_LIBRARY")
     path = named or (places() or [_NAME])[0]
     try:
-        library = ctypes.CDLL(path)
-        found = {}
+        library, found = loads(path), {}
         for name, (answer, *takes) in _CALLS.items():
             call = getattr(library, f"lis_{name}")
             call.restype, call.argtypes = answer, takes
@@ -227,7 +227,7 @@ def words_of(kind: str, number: int) -> str:
     return words.decode()
 
 
-def calls() -> Dict[str, Callable[..., Any]]:
+def calls() -> Calls:
     """The calls of the library by their names without `lis_`; LibraryMissing if it isn't there."""
     global _calls
     if _calls is None:
@@ -235,11 +235,12 @@ def calls() -> Dict[str, Callable[..., Any]]:
     return _calls
 
 
-def calls_of(kind: str) -> Dict[str, Callable[..., Any]]:
-    """The calls of a kind of object, as `receiver`, by their names without it."""
+def calls_of(kind: str) -> Tuple[Calls, Calls]:
+    """The calls of a kind of object, as `receiver`, by their names without it: for short work, in which no other thread
+    of Python goes on, and for long work, in which they go on. To let them costs more than most calls take."""
     found = _of_kinds.get(kind)
     if found is None:
-        prefix = f"{kind}_"
-        found = {name[len(prefix) :]: call for name, call in calls().items() if name.startswith(prefix)}
-        _of_kinds[kind] = found
+        quick, long = ({name[len(kind) + 1 :]: call for name, call in each.items() if name.startswith(f"{kind}_")}
+                       for each in (_load(ctypes.PyDLL), calls()))
+        found = _of_kinds[kind] = quick, long
     return found

@@ -62,7 +62,7 @@ class _Columns(Reader):
         found: List[List[Optional[bytes]]] = [[] for _ in wanted]
         self._add(data)
         while self._at < len(data):
-            read = self._call("columns", address(data) + self._at, len(data) - self._at, *taken)
+            read = self._read("columns", data, self._at, *taken)
             self._put(ctypes.string_at(out, size.value), found)
             self._at, self._taken = self._at + read, self._taken + read
             if read == 0:

@@ -72,6 +72,8 @@ class Step(NamedTuple):
     place: int
 
 
+#: Up to so many bytes are read without letting other threads go on.
+_SHORT = 1 << 14
 #: The reply of each byte, and the notes by their numbers: looked up for each step.
 _REPLIES = (b"", *(bytes([byte]) for byte in range(1, 256)))
 _NOTES = {note.value: note for note in Note}
@@ -108,6 +110,14 @@ def _long_frame_bytes(number: int, last: bool, text: bytes) -> bytes:
     return out.raw[: size.value]
 
 
+class _Copied(threading.local):
+    """The room into which the library copies short texts: one for each thread, since it is read at once."""
+
+    def __init__(self) -> None:
+        self.room = ctypes.create_string_buffer(1 << 10)
+
+
+_COPIED = _Copied()
 Itself = TypeVar("Itself", bound="Owner")
 # Held while a thread takes an object that was given away.
 _TAKING = threading.Lock()
@@ -120,7 +130,8 @@ class Owner:
     _kind = ""
 
     def __init__(self) -> None:
-        calls = self._calls = _library.calls_of(self._kind)
+        self._calls, self._long_calls = _library.calls_of(self._kind)
+        calls = self._calls
         size, align = calls["size"](), calls["align"]()
         self._thread: Optional[int] = threading.get_ident()
         self._block = ctypes.create_string_buffer(size + align)
@@ -158,6 +169,14 @@ class Owner:
             self._owned()
         return self._calls[name](self._pointer, *words)
 
+    def _read(self, name: str, data: bytes, at: int, *words: Any) -> int:
+        """Has a call of the library read these bytes from a place on; returns how many it read."""
+        if self._handle is None or self._thread != threading.get_ident():
+            self._owned()
+        size = len(data) - at
+        call = self._calls[name] if size <= _SHORT else self._long_calls[name]
+        return int(call(self._pointer, address(data) + at if at else data, size, *words))
+
     def _set_limit(self, limit: int) -> None:
         """Sets how long a frame's text may be. An object that can't have that limit is closed."""
         if limit == FRAME_TEXT:
@@ -172,12 +191,12 @@ class Owner:
 
     def _text(self) -> bytes:
         """The text that is there to be copied."""
-        size = self._call("text_len")
-        copy = ctypes.create_string_buffer(size or 1)
-        status = self._call("text", copy, size)
+        size: int = self._call("text_len")
+        room = _COPIED.room if size <= len(_COPIED.room) else ctypes.create_string_buffer(size)
+        status: int = self._call("text", room, size)
         if status:
             raise LinkError(status)
-        return copy.raw if size else b""
+        return memoryview(room)[:size].tobytes()
 
     def _add(self, data: bytes) -> int:
         """Puts a piece after what is left; returns how many bytes were left before it."""
@@ -190,9 +209,7 @@ class Owner:
 
     def _read_on(self, name: str, out: Any) -> int:
         """Reads bytes that are left by a call of the library; returns how many it read."""
-        piece, at = self._piece, self._at
-        start = address(piece) + at if at else piece
-        count: int = self._call(name, start, len(piece) - at, ctypes.byref(out))
+        count = self._read(name, self._piece, self._at, ctypes.byref(out))
         self._at += count
         return count
 
@@ -493,5 +510,4 @@ class Receiver(ReceivingEnd[Step]):
         self._call("set_ready", Readiness(readiness))
 
     def _told(self, out: _library.StepOut) -> Step:
-        text = self._text() if out.has_text else None
-        return Step(_REPLIES[out.reply], text, _NOTES[out.note], out.detail, out.place)
+        return Step(_REPLIES[out.reply], self._text() if out.has_text else None, _NOTES[out.note], out.detail, out.place)

@@ -105,7 +105,10 @@ class _Room(threading.local):
 
     def __init__(self) -> None:
         self.entries = (ctypes.c_uint64 * (_ENTRY.size * TOGETHER // 8))()
-        self.parts = (ctypes.c_uint32 * (6 * RECORD_BYTES))()
+        self.parts, self.count = (ctypes.c_uint32 * (6 * RECORD_BYTES))(), ctypes.c_size_t()
+        #: What the library takes, and the bytes of the entries.
+        self.words = (self.entries, TOGETHER, self.parts, RECORD_BYTES, ctypes.byref(self.count))
+        self.bytes = memoryview(self.entries).cast("B")
 
 
 _ROOM = _Room()
@@ -140,7 +143,8 @@ class Reader(Owner):
         """The records that end in these bytes, in order. MessageError at the first that can't be read, and then at
         every call, even without bytes, until `resume`. Bytes that a loop leaves unread are read by the next call."""
         self._add(data)
-        self._search()
+        if self._searches:
+            self._search()
         return self._rows()
 
     def resume(self) -> None:
@@ -154,17 +158,15 @@ class Reader(Owner):
         self._search()
 
     def _search(self) -> None:
-        """Goes to the next header, if one is searched for."""
-        if not self._searches:
-            return
+        """Goes to the next header."""
         left = len(self._piece) - self._at
         come = _library.calls()["header_find"](address(self._piece) + self._at, left, ctypes.byref(self._begins))
         self._at, self._taken, self._searches = self._at + come, self._taken + come, come == left
         self.read = self._taken
 
     def _rows(self) -> Iterator[Row]:
-        more = True
-        while more:
+        is_first = True  # a fault is given also if there are no bytes
+        while True:
             piece, at, taken = self._source
             for offset, _, fields, parts, size, delimiters, letter in self._left:
                 start = at + offset
@@ -172,21 +174,22 @@ class Reader(Owner):
                     self._marks = marks_of(delimiters)
                 self.read = taken + offset + size + 1
                 yield Row(_LETTERS[letter], piece[start : start + size], self._marks, fields, parts)
+            if not is_first and self._at >= len(self._piece):
+                break
+            is_first = False
             row = None if self._read_whole() else self._read_on_by_itself()
             if row is not None:
                 self.read = self._taken
                 yield row
-            more = row is not None or operator.length_hint(self._left) > 0 or self._at < len(self._piece)
         self.read = self._taken
 
     def _read_whole(self) -> bool:
         """Reads records that are whole in the piece by one call; whether there are any."""
         if self._held:
             return False
-        count, piece, at = ctypes.c_size_t(), self._piece, self._at
-        room = (_ROOM.entries, TOGETHER, _ROOM.parts, RECORD_BYTES)
-        read: int = self._call("records", address(piece) + at, len(piece) - at, *room, ctypes.byref(count))
-        found = bytes(memoryview(_ROOM.entries).cast("B")[: _ENTRY.size * count.value])
+        room, piece, at = _ROOM, self._piece, self._at
+        read = self._read("records", piece, at, *room.words)
+        found = room.bytes[: _ENTRY.size * room.count.value].tobytes()
         self._left, self._source = _ENTRY.iter_unpack(found), (piece, at, self._taken)
         self._at, self._taken = at + read, self._taken + read
         return read > 0
@@ -222,18 +225,7 @@ class Reader(Owner):
 
     def letters(self, data: bytes) -> Iterator[str]:
         """As `feed`, without the fields: the letters of the records that end in these bytes."""
-        self._add(data)
-        self._search()
-        return self._letters()
-
-    def _letters(self) -> Iterator[str]:
-        out, more = _library.Found(), True
-        while more:
-            is_ended = self._is_ended(out)
-            self.read = self._taken
-            if is_ended:
-                yield chr(out.letter)
-            more = self._at < len(self._piece)
+        return (row.letter for row in self.feed(data))
 
     def finish(self) -> None:
         """The end of the stream: MessageError if a message isn't closed, or a record isn't ended."""

@@ -162,10 +162,12 @@ class Intake:
         if one.fault:
             return self._pass_over(one, text, 0, changes)
         try:
-            for letter in self._looked_up(one, text) if one.is_coded else one.reader.letters(text):
+            for row in one.reader.feed(text):
+                if one.is_coded:
+                    self.unknown.look(one.key, row, self.encoding)
                 one.records += 1
                 one.ended = one.reader.read
-                if letter == "L":
+                if row.letter == "L":
                     end = one.ended - one.size
                     self._add(one, text[:end], changes)
                     self._end(COMPLETE, "", changes)
@@ -174,12 +176,6 @@ class Intake:
             return self._reject(one, text, error, changes)
         self._add(one, text, changes)
         return len(text)
-
-    def _looked_up(self, one: _Message, text: bytes) -> Iterator[str]:
-        """The letters of the records that a text ends, each of which is looked up."""
-        for row in one.reader.feed(text):
-            self.unknown.look(one.key, row, self.encoding)
-            yield row.letter
 
     def _reject(self, one: _Message, text: bytes, error: MessageError, changes: List[Change]) -> int:
         """A record can't be read where it is."""
