@@ -115,7 +115,7 @@ def unmarked():
 def late():
     """Has no limit on the age of a reply."""
     line.Line._answer_was = line.Line._answer
-    line.Line._answer = lambda self, reply, arrived: self._answer_was(reply, self._loop.time())
+    line.Line._answer = lambda self, reply, arrived, now, is_kept: self._answer_was(reply, now, now, is_kept)
 
 
 def growing():

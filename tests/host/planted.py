@@ -48,7 +48,7 @@ FAULTS = {
         "model/sql.py", "sorted({(one.line, one.digest) for one in ends})", "[(one.line, one.digest) for one in ends]"
     ),
     "test_commits.Owed.test_said_once_kept": Edit(
-        "host/line.py",
+        "host/keeper.py",
         "kept.add_done_callback(lambda done: None if done.cancelled() else self._note_ends(changes))",
         "self._note_ends(changes)",
     ),
@@ -143,13 +143,13 @@ FAULTS = {
     ),
     "test_kills.Kills.test_failing_store": Edit(
         "host/commits.py",
-        "for one in batch], fault, self._say)",
-        "for one in batch], None, self._say)",
+        "batch, fault, self._say)",
+        "batch, None, self._say)",
     ),
     "test_kills.Kills.test_full_disk_of_sqlite": Edit(
         "model/sqlite.py",
-        'self._undo()\n            raise StoreError(f"{self.path}: {error}") from None',
-        "self._undo()",
+        "raise self._undone(error) from None\n\n    def _undone",
+        "self._undone(error)\n\n    def _undone",
     ),
     "test_kills.Kills.test_full_disk_of_spool": Edit(
         "model/spool.py",
@@ -174,7 +174,7 @@ FAULTS = {
         "host/line.py", "self._receiver.hear_placed(heard.data)", "self._receiver.hear_placed(heard.data[:64])"
     ),
     "test_lines.Lines.test_keeping": Edit(
-        "host/line.py",
+        "host/keeper.py",
         "        if part:\n            await self._put(part)",
         "        if any(isinstance(change, End) for change in part):\n            await self._put(part)",
     ),
@@ -182,7 +182,7 @@ FAULTS = {
         "host/line.py", "age > self._limits.reply * self._limits.scale", "age > self._limits.idle"
     ),
     "test_lines.Lines.test_slow_lines": Edit(
-        "host/line.py", "self._paused_at = since\n            self._wire.pause()\n", "self._paused_at = since\n"
+        "host/inbox.py", "self.paused_at = since\n            self._wire.pause()\n", "self.paused_at = since\n"
     ),
     "test_lines.Lines.test_limits": Edit(
         "host/ports.py", "self._lines.values())) < limits.lines:", "self._lines.values())) <= limits.lines:"
@@ -191,29 +191,29 @@ FAULTS = {
         "host/ports.py", "key=lambda line: line.last_byte", "key=lambda line: -line.last_byte"
     ),
     "test_lines.Lines.test_long_frames": Edit(
-        "host/line.py", "Receiver(frame_limit=frame, careful=self._is_careful)", "Receiver(careful=self._is_careful)"
+        "host/line.py", "Receiver(frame_limit=frame, careful=is_careful)", "Receiver(careful=is_careful)"
     ),
     "test_lines.Lines.test_peers": Edit("host/tcp.py", "if name is None:", "if name == 0:"),
     "test_lines.Lines.test_quarantine": Edit(
         "host/intake.py", "one.fault or _after(one, reason), changes", "_after(one, reason), changes"
     ),
     "test_lines.Lines.test_enq_behind_eot": Edit(
-        "host/line.py", "_turns()\n        return self._is_through()\n", "_turns()\n        return False\n"
+        "host/line.py", "                if self._stopping and self._is_through():\n                    return\n", ""
     ),
     "test_lines.Lines.test_calls_of_a_text": Edit("host/line.py", "if note in _AFTER_NOISE:", "if note:"),
     "test_lines.Lines.test_who_listens": Edit(
         "diagnosis/events.py", "self._those.get(type(event), ())", "sum(self._those.values(), [])"
     ),
     "test_lines.Lines.test_observers": Edit("diagnosis/events.py", "except Exception as error:", "except OSError as error:"),
-    "test_lines.Lines.test_giving_way": Edit("host/line.py", "return self._is_through() or (", "return ("),
+    "test_lines.Lines.test_giving_way": Edit("host/line.py", "return not (self._stopping and self._is_through()) and (", "return ("),
     "test_lines_file.LinesFile.test_enq_behind_eot": Edit(
-        "host/line.py", "        if self._is_through():\n            return True\n        if self._pieces", "        if self._pieces"
+        "host/line.py", "while not (self._stopping and self._is_through()) and (", "while ("
     ),
     "test_lines.Lines.test_stop": Edit(
         "host/line.py", "return self._stopping and (self._is_cut or not self._is_busy())", "return self._stopping"
     ),
     "test_lines.Lines.test_capture": Edit(
-        "host/line.py", "self._tell(Sent(data))", 'self._tell(Sent(b""))'
+        "host/line.py", "self._tell(Sent(reply, ", 'self._tell(Sent(b"", '
     ),
     "test_lines.Lines.test_words": Edit(
         "model/options.py",
@@ -267,7 +267,7 @@ FAULTS = {
     "test_fixes.Fixes.test_query": Edit("host/duplex.py", ".take(body[: QUERY + 1])", ".take(body[:9])"),
     "test_fixes.Fixes.test_repeats": Edit("cli/host.py", "place.name: place.fix for", "place.name: () for"),
     "test_fixes.Fixes.test_left": Edit("host/left.py", 'one.body.endswith((b"\\r", b"\\n"))', "False"),
-    "test_fixes.Fixes.test_order": Edit("host/line.py", "            await self._fixer.order.over()", "            pass"),
+    "test_fixes.Fixes.test_order": Edit("host/keeper.py", "                    await self._fixer.order.over()", "                    pass"),
     "test_fixes.Fixes.test_a_stop_starts_nothing": Edit("host/fixer.py", "        self._is_stopped = True\n", ""),
     "test_fixes.Fixes.test_tries_delay_nobody": Edit("host/fixer.py", 'self._run("tries", ', 'self._run("short", '),
     "test_fixes.Fixes.test_streams": Edit(
@@ -445,12 +445,12 @@ FAULTS = {
     ),
     "test_said.Said.test_signs_for_a_terminal": Edit("watch/status.py", "shown(row) + ", "row + "),
     "test_said.Said.test_the_password_of_a_database": Edit("model/postgresql.py", '== address.count("@") < 2', "!= 9"),
-    "test_said.Said.test_a_line_goes_on": Edit("host/commits.py", "one.set_exception(fault)", "one.cancel()"),
+    "test_said.Said.test_a_line_goes_on": Edit("host/commits.py", "done.set_exception(fault)", "done.cancel()"),
     "test_said.Said.test_saying": Edit("model/said.py", "if poll.poll(0):", "if poll:"),
     "test_said.Said.test_who_waits_is_answered_first": Edit(
         "host/commits.py",
-        "    for one in done:\n        if one.done():",
-        '    if fault is not None:\n        say("")\n    for one in done:\n        if one.done():',
+        "    for _, done, _ in batch:\n        if done",
+        '    if fault is not None:\n        say("")\n    for _, done, _ in batch:\n        if done',
     ),
     "test_serial.Serial.test_a_device_that_is_no_terminal": Edit(
         "host/serials.py", "self._ready is False and not self._unusable and", "self._ready is False and"
@@ -495,12 +495,10 @@ FAULTS = {
         "one = [self._long.popleft() for _ in range(len(self._long))]",
     ),
     "test_turns.Turns.test_spool": Edit(
-        "host/line.py", "if len(part) + len(changes) > self._committer.part:", "if len(part) > 6000:"
+        "host/keeper.py", "if len(part) + len(changes) > self._committer.part:", "if len(part) > 6000:"
     ),
     "test_turns.Turns.test_sqlite": Edit(
-        "host/line.py",
-        "        if self._share.is_over():\n            if self",
-        "        if not self._share:\n            if self",
+        "host/turns.py", "return more > HEARS or (", "return not self and ("
     ),
     "test_turns.Turns.test_who_works_now_and_then": Edit(
         "host/turns.py", "min(now - self._since, MOST)", "now - self._since"
@@ -511,7 +509,7 @@ FAULTS = {
     "test_turns.Turns.test_connections_of_a_line": Edit(
         "diagnosis/pulse.py", "if time.monotonic() - pulse.good_at < PATIENCE * pulse.scale:", "if pulse.good_at < 0:"
     ),
-    "test_turns.Turns.test_room_for_texts": Edit("host/line.py", "self._has_room(has is not None)", "self._has_room(True)"),
+    "test_turns.Turns.test_room_for_texts": Edit("host/line.py", "self._has_room(is_there)", "self._has_room(True)"),
     "test_status.Status.test_running": Edit(
         "watch/status.py", "return not store.held_to_the_end and ", "return "
     ),
@@ -541,7 +539,7 @@ FAULTS = {
         "diagnosis/pulse.py", "            if pulse.polls < EMPTY:\n", "            if pulse.polls < 2:\n"
     ),
     "test_watch.Watch.test_reasons": Edit(
-        "diagnosis/pulse.py", "raw = bytes(self._carry + self._now", "raw = bytes(self._now"
+        "diagnosis/pulse.py", "raw = bytes(self._carry) + raw if", "raw = raw if"
     ),
     "test_watch.Watch.test_ring": Edit(
         "diagnosis/ring.py", "while len(self._held) - drop > self._most:", "while len(self._held) - drop > 2 * self._most:"
@@ -597,9 +595,9 @@ HARMLESS = (
         "        if not fault is None:\n            self.failed = self.failed + 1\n",
     ),
     Edit(
-        "host/line.py",
-        "                    self._size -= len(data)\n                    self.last_byte = now\n",
-        "                    self.last_byte = now\n                    self._size -= len(data)\n",
+        "host/inbox.py",
+        "        self.pieces.append((arrived, data))\n        self._size += len(data)\n",
+        "        self._size += len(data)\n        self.pieces.append((arrived, data))\n",
     ),
     Edit(
         "host/intake.py",
@@ -612,7 +610,7 @@ HARMLESS = (
         '_taken = 0\n        self._why, self._rejected_at = "", -1\n\n    def _without',
         '_taken = 0\n        self._rejected_at, self._why = -1, ""\n\n    def _without',
     ),
-    Edit("host/line.py", "if len(part) + len(changes) > self", "if len(changes) + len(part) > self"),
+    Edit("host/keeper.py", "if len(part) + len(changes) > self", "if len(changes) + len(part) > self"),
     Edit("model/spool.py", "any(map(os.path.exists, places))", "list(filter(os.path.exists, places))"),
     Edit("model/said.py", "(OSError, ValueError, AttributeError):", "(AttributeError, OSError, ValueError):"),
     Edit("analyzer/send.py", "            tried += 1\n", "            tried = 1 + tried\n"),

@@ -62,7 +62,7 @@ class Owed(HostTest):
             turns, counts = line.Turns(), Counter()
             say = lambda *row: said.append(row)  # noqa: E731
             one = line.Line(line.Parts(wire, intake, observers, say, counts, fixer, committer, turns))
-            one._put_later(ended("1"))
+            one._keeper.put_later(ended("1"))
             await asyncio.sleep(0)
             before = counts["messages"], one.last
             kept[0].set_result(None)

@@ -12,7 +12,7 @@ from typing import get_args
 
 from lislink import FrameFault, frame_bytes
 from lislink.link import LONG_FRAME_TEXT, Owner
-from lislab.diagnosis.events import Came, Closed, Event, Kept, Observers, Sent
+from lislab.diagnosis.events import Came, Closed, Event, Late, Observers, Sent
 from lislab.host import line, ports, tcp
 from lislab.host.intake import Intake
 from lislab.model import options
@@ -399,7 +399,7 @@ class Lines(HostTest):
             task = asyncio.ensure_future(one.run())
             await asyncio.sleep(0.01)
             one.data(ENQ, asyncio.get_running_loop().time())
-            one.give_way()
+            one.stop("for another connection")
             await asyncio.wait_for(task, 60)
 
         asyncio.run(runs())
@@ -436,8 +436,8 @@ class Lines(HostTest):
     def test_who_listens(self):
         """An observer is called for the kinds of events that it listens for, and for no other."""
         heard = []
-        observers = Observers([{Sent: heard.append}, {Sent: heard.append, Kept: heard.append}], print)
-        events = [Came(b"x"), Sent(ACK), Kept(), Closed("x")]
+        observers = Observers([{Sent: heard.append}, {Sent: heard.append, Late: heard.append}], print)
+        events = [Came(b"x"), Sent(ACK), Late(9.0, True), Closed("x")]
         for event in events:
             observers.tell(event)
         self.same("calls", heard, [events[1], events[1], events[2]])

@@ -485,7 +485,7 @@ class Receiver(ReceivingEnd[Step]):
     def _heard(self, left: int) -> Iterator[Tuple[int, Step]]:
         out = _library.StepOut()
         while self._at < len(self._piece):
-            self._read_on("hear", out)
+            self._at += self._read("hear", self._piece, self._at, ctypes.byref(out))
             if out.note:
                 yield self._at - 1 - left, self._told(out)
 
@@ -510,4 +510,5 @@ class Receiver(ReceivingEnd[Step]):
         self._call("set_ready", Readiness(readiness))
 
     def _told(self, out: _library.StepOut) -> Step:
-        return Step(_REPLIES[out.reply], self._text() if out.has_text else None, _NOTES[out.note], out.detail, out.place)
+        text = self._text() if out.has_text else None
+        return Step(_REPLIES[out.reply], text, _NOTES[out.note], out.detail, out.place)

@@ -1,5 +1,5 @@
 """The events of a line, for its observers. The line waits for none of them, and none can break it."""
-from typing import Callable, Dict, List, Mapping, NamedTuple, Sequence, Type, Union
+from typing import Callable, Dict, List, Mapping, NamedTuple, Optional, Sequence, Type, Union
 
 from lislink.link import Step
 from ..model.store import End
@@ -13,9 +13,12 @@ class Came(NamedTuple):
 
 
 class Sent(NamedTuple):
-    """Bytes of the host go out."""
+    """Bytes of the host go out; if they are a reply, so many seconds after the bytes came that it answers, and whether
+    these ended a text, which is kept."""
 
     data: bytes
+    seconds: Optional[float] = None
+    is_kept: bool = False
 
 
 class Meant(NamedTuple):
@@ -36,10 +39,6 @@ class Noise(NamedTuple):
     times: int
 
 
-class Kept(NamedTuple):
-    """A text is stored."""
-
-
 class NotKept(NamedTuple):
     """A text could not be stored."""
 
@@ -52,16 +51,12 @@ class MessageEnded(NamedTuple):
     end: End
 
 
-class Answered(NamedTuple):
-    """A reply went out so many seconds after the bytes came that it answers."""
-
-    seconds: float
-
-
 class Late(NamedTuple):
-    """A reply was not sent, since it would have been late: the bytes came so many seconds ago."""
+    """A reply was not sent, since it would have been late: the bytes came so many seconds ago. Whether they ended a
+    text, which is kept."""
 
     seconds: float
+    is_kept: bool
 
 
 class Restarted(NamedTuple):
@@ -97,8 +92,8 @@ class Closed(NamedTuple):
 
 
 Event = Union[
-    Came, Sent, Meant, TimerOver, Noise, Kept, NotKept, MessageEnded, Answered, Late, Restarted, OwnAnswered, OwnFailed,
-    ReplyAfterAll, Looked, Closed,
+    Came, Sent, Meant, TimerOver, Noise, NotKept, MessageEnded, Late, Restarted, OwnAnswered, OwnFailed, ReplyAfterAll,
+    Looked, Closed,
 ]
 #: What an observer does at each kind of event. It isn't called for a kind that it lacks.
 Sees = Mapping[Type[Event], Callable[..., object]]

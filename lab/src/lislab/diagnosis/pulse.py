@@ -12,8 +12,7 @@ from ..model.book import Failed
 from ..model.said import many
 from ..model.store import COMPLETE, FIXED, StoreError
 from .events import (
-    Answered, Came, Closed, Kept, Late, Looked, Meant, MessageEnded, Noise, NotKept, OwnAnswered, OwnFailed, Restarted,
-    Sees, Sent,
+    Came, Closed, Late, Looked, Meant, MessageEnded, Noise, NotKept, OwnAnswered, OwnFailed, Restarted, Sees, Sent,
 )
 from .faults import Cause, cause_of_frame
 from .protocols import has_bare_frames, is_hl7, parity_of, telnet_in
@@ -155,7 +154,7 @@ class Pulse:
 
     def right(self, *kinds: str) -> None:
         """Something went right: what was wrong before is over, and remembered if it was bad."""
-        for kind in kinds if self.troubles else ():
+        for kind in kinds:
             if kind in self.troubles:
                 self.remember(self._bad(kind))
                 del self.troubles[kind]
@@ -281,8 +280,8 @@ class Probe:
         self._got, self._stray, self._since, self._sent = bytearray(), bytearray(), (0.0, 0.0), b""
         #: The bytes of the unit that is open, those that are heard now, and where the next unit begins in them.
         self._carry, self._now, self._start = bytearray(), b"", 0
-        #: The number that is due, the frame that was accepted last; whether a text is kept that wasn't answered yet.
-        self._due, self._frame, self._is_kept = 1, b"", False
+        #: The number that is due, and the frame that was accepted last.
+        self._due, self._frame = 1, b""
 
     def sees(self) -> Sees:
         """What it does when something happens on the connection."""
@@ -291,10 +290,8 @@ class Probe:
             Came: self._hears,
             Meant: self._meant,
             Sent: self._sends,
-            Kept: self._kept,
             NotKept: self._not_kept,
-            Answered: self._answered,
-            Late: lambda _: pulse.wrong("late", Verdict.LATE),
+            Late: self._late,
             Noise: self._noise,
             MessageEnded: self._ended,
             Restarted: self._restarted,
@@ -311,11 +308,12 @@ class Probe:
         data = came.data
         if self._sent and data.startswith(self._sent):
             self._pulse.wrong("echo", Verdict.ECHO)
-        elif self._sent:
+        elif self._sent and self._pulse.troubles:
             self._pulse.right("echo")
         self._sent = b""
-        self._carry += self._now[self._start :]
-        del self._carry[: -(self._pulse.frame + BESIDES)]
+        if self._start < len(self._now):
+            self._carry += self._now[self._start :]
+            del self._carry[: -(self._pulse.frame + BESIDES)]
         self._now, self._start = data, 0
         if self.is_open and not self.units:
             self._got += data[: LOOKED_AT - len(self._got)]
@@ -332,8 +330,10 @@ class Probe:
         """What a byte meant."""
         (place, step, _), raw = meant, b""
         if step.note is not Note.TIMED_OUT:
-            raw = bytes(self._carry + self._now[self._start : place + 1]) if step.note not in _ALONE else raw
-            self._carry.clear()
+            raw = self._now[self._start : place + 1] if step.note not in _ALONE else raw
+            if self._carry:
+                raw = bytes(self._carry) + raw if step.note not in _ALONE else raw
+                self._carry.clear()
             self._start = place + 1
         if step.note in (Note.OPENED, Note.ENDED, Note.TIMED_OUT):
             self._session(step.note, step.note in _ALONE and self._now[place : place + 1] == b"\x05")
@@ -350,10 +350,12 @@ class Probe:
         if not self._good:
             self._first_frame()
         self.units, self._good = self.units + 1, self._good + 1
-        pulse.right("silent", "strange")
+        if pulse.troubles:
+            pulse.right("silent", "strange")
         if step.note is Note.ACCEPTED:
             self._due, pulse.polls, pulse.good_at = (self._due + 1) % 8, 0, time.monotonic()
-            pulse.right("frames", "hopeless")
+            if pulse.troubles:
+                pulse.right("frames", "hopeless")
             self._frame = frame
         elif self._frame and frame != self._frame:
             pulse.wrong("lost", Verdict.LOST)
@@ -453,11 +455,19 @@ class Probe:
     # ---- what the host did
 
     def _sends(self, sent: Sent) -> None:
-        self._sent = sent.data
+        """A reply went out, or something of the host's own."""
+        self._sent, seconds, is_kept = sent
+        if seconds is not None:
+            pulse = self._pulse
+            pulse.replies[bisect.bisect_left(BUCKETS, seconds)] += 1
+            pulse.reply_seconds += seconds
+            if is_kept and pulse.troubles:
+                pulse.right("store", "late")
 
-    def _kept(self, _: Kept) -> None:
-        self._is_kept = True
-        self._pulse.right("store")
+    def _late(self, late: Late) -> None:
+        if late.is_kept:
+            self._pulse.right("store")
+        self._pulse.wrong("late", Verdict.LATE)
 
     def _restarted(self, _: Restarted) -> None:
         self.is_open = False
@@ -471,15 +481,6 @@ class Probe:
             pulse.right("queries")
         else:
             pulse.wrong("queries", Verdict.NO_ORDERS)
-
-    def _answered(self, answered: Answered) -> None:
-        """A reply went out."""
-        pulse = self._pulse
-        pulse.replies[bisect.bisect_left(BUCKETS, answered.seconds)] += 1
-        pulse.reply_seconds += answered.seconds
-        if self._is_kept:
-            self._is_kept = False
-            pulse.right("late")
 
     def _not_kept(self, failed: NotKept) -> None:
         """A text could not be stored."""

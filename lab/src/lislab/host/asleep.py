@@ -4,12 +4,12 @@ from typing import Callable, Optional
 
 #: A machine counts as suspended if its clocks drift apart by more than so many seconds.
 LEAST = 1.0
+_CLOCK: int = getattr(time, "CLOCK_BOOTTIME", time.CLOCK_MONOTONIC)
 
 
 def _drift() -> float:
     """How long the machine was suspended since it was started, where the system counts that."""
-    clock = getattr(time, "CLOCK_BOOTTIME", time.CLOCK_MONOTONIC)
-    return time.clock_gettime(clock) - time.clock_gettime(time.CLOCK_MONOTONIC)
+    return time.clock_gettime(_CLOCK) - time.clock_gettime(time.CLOCK_MONOTONIC)
 
 
 class Asleep:

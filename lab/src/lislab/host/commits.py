@@ -34,7 +34,9 @@ class Committer:
         self.part = store.part
         #: When what is owed is tried again, and how many changes then.
         self._next_try, self._some = 0.0, 1
-        self._wake, self._stopping = threading.Event(), False
+        #: What the thread waits for, locked as long as it is to wait; whether somebody has unlocked it since.
+        self._wait, self._is_woken, self._stopping = threading.Lock(), False, False
+        self._wait.acquire()
         #: How many commits were made, and how many failed.
         self.commits = self.failed = 0
         self._thread = threading.Thread(target=self._run, name="commits", daemon=True)
@@ -43,38 +45,46 @@ class Committer:
     def put(self, unit: Unit, is_long: bool = False) -> "asyncio.Future[None]":
         """Done when the unit is kept; StoreError if it can't be. Of units that are parts of long texts a commit has
         one, so that the others don't wait for all."""
-        return self._queue(_Waiting(unit, self._loop.create_future(), False), is_long)
+        return self._queue(unit, is_long, False)
 
     def put_later(self, unit: Unit, is_long: bool = False) -> "asyncio.Future[None]":
         """Keeps a unit for which no reply waits; if it can't be kept now, it is owed: it is tried again until it is
         kept. Done then."""
-        return self._queue(_Waiting(unit, self._loop.create_future(), True), is_long)
+        return self._queue(unit, is_long, True)
 
-    def _queue(self, one: _Waiting, is_long: bool) -> "asyncio.Future[None]":
-        (self._long if is_long else self._waiting).append(one)
-        if not self._wake.is_set():  # the thread looks for what waits after it clears this
-            self._wake.set()
-        return one.done
+    def _queue(self, unit: Unit, is_long: bool, is_owed: bool) -> "asyncio.Future[None]":
+        done = self._loop.create_future()
+        (self._long if is_long else self._waiting).append(_Waiting(unit, done, is_owed))
+        if not self._is_woken:
+            self._wake()
+        return done
+
+    def _wake(self) -> None:
+        """Has the thread look for what waits, which it does after it clears this."""
+        if not self._is_woken:
+            self._is_woken = True
+            self._wait.release()
 
     async def stop(self) -> None:
         """Keeps what is still waiting, and ends the thread."""
         self._stopping = True
-        self._wake.set()
+        self._wake()
         while self._thread.is_alive():
             await asyncio.sleep(0.01)
         await asyncio.sleep(0)
 
     def _run(self) -> None:
         while True:
-            self._wake.wait(max(0.0, self._next_try - time.monotonic()) if self._owed else None)
-            self._wake.clear()
+            if self._wait.acquire(True, max(0.0, self._next_try - time.monotonic()) if self._owed else -1):
+                self._is_woken = False
             while self._waiting or self._long:
                 one = [self._long.popleft()] if self._long else []
                 self._keep([*_some_of(self._waiting, TOGETHER), *one])
             if self._stopping and not self._waiting and not self._long:
                 self._keep_the_rest()
                 return
-            self._keep_owed()
+            if self._owed:
+                self._keep_owed()
 
     def _keep_the_rest(self) -> None:
         tries = LAST_TRIES
@@ -94,7 +104,7 @@ class Committer:
 
     def _settle(self, batch: List[_Waiting], fault: Optional[Exception]) -> None:
         try:
-            self._loop.call_soon_threadsafe(_settle, [one.done for one in batch], fault, self._say)
+            self._loop.call_soon_threadsafe(_settle, batch, fault, self._say)
         except RuntimeError:
             pass  # the loop is closed: nobody waits any more
 
@@ -135,13 +145,13 @@ def _some_of(queue: Deque[_Waiting], most: int) -> List[_Waiting]:
     return batch
 
 
-def _settle(done: "List[asyncio.Future[None]]", fault: Optional[Exception], say: Callable[[str], None]) -> None:
-    for one in done:
-        if one.done():
+def _settle(batch: List[_Waiting], fault: Optional[Exception], say: Callable[[str], None]) -> None:
+    for _, done, _ in batch:
+        if done.done():
             continue
         if fault is None:
-            one.set_result(None)
+            done.set_result(None)
         else:
-            one.set_exception(fault)
+            done.set_exception(fault)
     if fault is not None:
         say(f"not stored: {fault}")

@@ -10,12 +10,12 @@ from lislink.link import LinkError
 from lislink.records import MessageError, Reader, messages
 from lislink.rows import Row
 from lislink.station import Answer, Station
-from ..diagnosis.events import Looked, OwnAnswered, OwnFailed, ReplyAfterAll
+from ..diagnosis.events import Looked, OwnAnswered, OwnFailed, ReplyAfterAll, Sent
 from ..diagnosis.notices import OTHER
 from ..model.query import query_of
 from ..model.store import Add, Change
 from .feeds import Heard
-from .line import ENQ, Line, Parts
+from .line import ENQ, Ear, Line, Parts
 from .outbox import Batch, Outbox, Site
 
 #: After a text that can't be kept, and after a session of the host's own that failed on a serial line, none starts for
@@ -114,8 +114,9 @@ class TwoWayLine(Line):
         self._unanswered = self._has_heard = False
         outbox.wakes(self._woken)
 
-    def _begin(self, frame: int) -> None:
-        self._station = Station(Role.COMPUTER, frame_limit=frame, careful=self._is_careful)
+    def _begin(self, frame: int, is_careful: bool) -> Ear:
+        self._station = Station(Role.COMPUTER, frame_limit=frame, careful=is_careful)
+        return self._station
 
     def _is_busy(self) -> bool:
         return self._station.is_open or self._sending is not None
@@ -132,12 +133,6 @@ class TwoWayLine(Line):
         since = (self._loop.time() - self._asked) / self._limits.scale
         return max(float(seconds), QUIET - since)
 
-    def _held(self) -> int:
-        return self._station.held
-
-    def _noises(self) -> int:
-        return self._station.noise
-
     def _has_room(self, is_there: bool) -> None:
         if not is_there and self._station.is_open:
             self._restart("there was no room for a long text")
@@ -153,7 +148,6 @@ class TwoWayLine(Line):
         for batch in self._ready:
             self._outbox.unsent(self._site, batch)
         self._outbox.forget(self._site, self._woken)
-        self._station.close()
         self._asking.over()
 
     def _quiet(self) -> None:
@@ -177,7 +171,7 @@ class TwoWayLine(Line):
         if batch is not None:
             self._outbox.unsent(self._site, batch)
         self.stop("for a new connection, on which the host asks again")
-        self._set_timer()
+        self._set_timer(self._loop.time())
 
     async def _heard(self, data: bytes, arrived: float) -> None:
         self._note_late(data)
@@ -186,7 +180,9 @@ class TwoWayLine(Line):
                 if self._feeds and answer.step:
                     answer = answer._replace(step=self._feeds.restored(heard, answer.step))
                 await self._meant(answer, place + heard.start, arrived, heard.data[place] == ENQ)
-                if await self._is_enough(place + heard.start, data):
+                if place + heard.start + 1 < len(data):
+                    await self._take_turns()
+                if self._is_through():
                     return
 
     async def _meant(self, answer: Answer, place: int, arrived: float, is_enq: bool = False) -> None:
@@ -203,7 +199,7 @@ class TwoWayLine(Line):
             self._asked_in_vain()
         elif self._phase is Phase.CONTENTION and before is not Phase.CONTENTION:
             self._both_asked()
-        self._set_timer()
+        self._set_timer(self._loop.time())
         if self._sending is not None and self._station.phase is Phase.NEUTRAL:
             self._session_over(self._sending)
 
@@ -278,7 +274,7 @@ class TwoWayLine(Line):
         if answer.batch is not None:
             self._ready.append(answer.batch)
         self._has_work = True
-        self._wake()
+        self._alarm.wake()
 
     def _found(self, is_any: bool) -> None:
         """Whether there was an order for a query. A LIS that hands over none is known by that."""
@@ -296,15 +292,19 @@ class TwoWayLine(Line):
             self._station.give_up()
             back.append(self._sending)
             self._sending = None
-            self._set_timer()
+            self._set_timer(self._loop.time())
         await self._outbox.take_back(self._site, back)
 
     # ---- what goes out
 
+    def _send(self, data: bytes) -> None:
+        self._tell(Sent(data))
+        self._wire.write(data)
+
     def _woken(self, asked: str, line: str) -> None:
         if asked == self._site.place or (self._site.unasked and not asked and line in ("", self._site.line)):
             self._has_work = True
-            self._wake()
+            self._alarm.wake()
 
     def _start_at(self) -> Optional[float]:
         if self._is_busy() or self._stopping or self._lost or not (self._ready or self._has_work):
@@ -317,7 +317,7 @@ class TwoWayLine(Line):
         if batch is None:
             self._has_work = False
             return
-        if self._pieces:  # what came while the store was asked is heard first
+        if self._inbox.pieces:  # what came while the store was asked is heard first
             self._ready.appendleft(batch)
             return
         try:
@@ -330,7 +330,7 @@ class TwoWayLine(Line):
         self._counts["own_sessions"] += 1
         self._asked = self._loop.time()
         self._send(out)
-        self._set_timer()
+        self._set_timer(self._loop.time())
 
     def _session_over(self, batch: Batch) -> None:
         """A session of the host's own is over. If it failed, a reply may still be on its way: the line is closed if it

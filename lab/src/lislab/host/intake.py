@@ -44,12 +44,36 @@ class Pool:
         return wants
 
 
+class TextRoom:
+    """The room that a line has for a text that isn't complete. What all lines hold over the first bytes of each is
+    limited."""
+
+    def __init__(self, pool: Pool) -> None:
+        self._pool = pool
+        #: How many bytes it has of what all share; how many came since a text was complete.
+        self.has = self.open = 0
+
+    def takes(self, held: int) -> Optional[bool]:
+        """Takes room for so many bytes: whether it is there; None if none is needed."""
+        if held <= FIRST and not self.has:
+            return None
+        has = self._pool.taken(self.has, held)
+        self.has = self.has if has is None else has
+        return has is not None
+
+    def close(self) -> None:
+        """Gives all back."""
+        self._pool.taken(self.has, 0)
+
+
 class Held:
     """How many bytes of messages that aren't complete yet the lines of a host may hold: the first ones of each message,
     and of longer ones up to `most` of one and `all_lines` of all."""
 
     def __init__(self, most: int, all_lines: int = 0) -> None:
         self.most, self._pool = most, Pool(all_lines or most)
+        #: Up to so many bytes each message may be held.
+        self.first = min(FIRST, most)
 
     def takes(self, one: "_Message") -> bool:
         """Whether a message may be held as long as it is now."""
@@ -65,8 +89,10 @@ class Held:
 class _Message:
     """A message that isn't complete yet: its digest so far, its records so far, and why it can't be read."""
 
-    def __init__(self, begin: Begin, body: Optional[bytearray], is_coded: bool) -> None:
-        self.key, self.begin, self.reader, self.digest = begin.key, begin, Reader(), hashlib.sha256()
+    def __init__(self, begin: Begin, reader: Reader, body: Optional[bytearray], is_coded: bool) -> None:
+        self.key, self.begin, self.reader, self.digest = begin.key, begin, reader, hashlib.sha256()
+        #: Where in what its reader has read it begins.
+        self.start = reader.read
         #: Whether the codes of its results are looked up.
         self.is_coded = is_coded
         #: All its bytes, as long as they aren't too many to be fixed; how many of them count.
@@ -96,6 +122,8 @@ class Intake:
         self.unknown = unknown or Unknown(line)
         self._held, self.bodies = held, {}  # type: Optional[Held], Dict[str, Tuple[Begin, bytes]]
         self._message: Optional[_Message] = None
+        #: The reader of the last message, if it was whole and nothing follows it.
+        self._reader: Optional[Reader] = None
         #: The ends of messages that aren't known to be kept.
         self._ends: List[End] = []
         #: What the letters of complete messages look like that have ended, by their keys, if it is another encoding.
@@ -104,14 +132,16 @@ class Intake:
     def take(self, text: bytes) -> Iterator[List[Change]]:
         """The changes that keep a text, step by step, each of which is short work; TooLong if a message passes the
         limit. Call `kept` when those so far are kept; if they can't be, or not all were taken, call `undo`."""
-        for piece in _pieces(text):
+        for piece in (text,) if len(text) <= PIECE and text.endswith(b"\r") else _pieces(text):
             at = 0
             while at < len(piece):
                 changes: List[Change] = []
                 if self._message is None:
                     self._begin(changes)
-                at += self._take_some(piece[at:], changes)
-                self._ends += [change for change in changes if isinstance(change, End)]
+                at += self._take_some(piece[at:] if at else piece, changes)
+                for change in changes:
+                    if isinstance(change, End):
+                        self._ends.append(change)
                 yield changes
 
     def also(self, ends: Iterable[End]) -> None:
@@ -152,7 +182,8 @@ class Intake:
 
     def _begin(self, changes: List[Change]) -> None:
         begin = Begin(new_key(), self.line, self.peer, self.encoding, self.clock())
-        self._message = _Message(begin, bytearray() if self._held else None, self.unknown.table is not None)
+        reader, self._reader = self._reader or Reader(), None
+        self._message = _Message(begin, reader, bytearray() if self._held else None, self.unknown.table is not None)
         changes.append(begin)
 
     def _take_some(self, text: bytes, changes: List[Change]) -> int:
@@ -166,7 +197,7 @@ class Intake:
                 if one.is_coded:
                     self.unknown.look(one.key, row, self.encoding)
                 one.records += 1
-                one.ended = one.reader.read
+                one.ended = one.reader.read - one.start
                 if row.letter == "L":
                     end = one.ended - one.size
                     self._add(one, text[:end], changes)
@@ -209,13 +240,16 @@ class Intake:
         one.letters.take(body)
         if one.body is not None and self._held is not None:
             one.body += body
-            if not self._held.takes(one):
+            if one.size > self._held.first and not self._held.takes(one):
                 self._held.drop(one)
 
     def _end(self, state: str, reason: str, changes: List[Change]) -> None:
         one, self._message = self._message, None
         assert one is not None
-        one.reader.close()
+        if state == COMPLETE and not one.reader.waiting:
+            self._reader = one.reader
+        else:
+            one.reader.close()
         look = one.letters.look() if state == COMPLETE else ""
         if look:
             self.letters[one.key] = look

@@ -4,7 +4,7 @@ from typing import Any, Iterator, Tuple
 
 from lislink.codes import Note
 from lislink.link import Step
-from .line import Line, Parts
+from .line import Ear, Line, Parts
 
 _STX, _ETX, _EOT, _ENQ = 2, 3, 4, 5
 _ACK, _NAK = b"\x06", b"\x15"
@@ -72,16 +72,16 @@ class PlainLine(Line):
 
     def __init__(self, parts: Parts) -> None:
         super().__init__(parts)
-        self._last = b""
+        self._last, self._feeds = b"", None  # a block may hold LF
 
-    def _begin(self, frame: int) -> None:
-        self._receiver: Any = PlainReceiver()
-
-    def _feeds_of(self, frame: int) -> None:
-        """A block may hold LF."""
+    def _begin(self, frame: int, is_careful: bool) -> Ear:
+        receiver = PlainReceiver()
+        self._receiver: Any = receiver
+        return receiver
 
     async def _keep(self, text: bytes) -> bool:
-        if text and text == self._last and self._intake.goes_on:
-            self._intake.spoil("a block came twice in a row, and may be a repeat")
+        intake = self._keeper.intake
+        if text and text == self._last and intake.goes_on:
+            intake.spoil("a block came twice in a row, and may be a repeat")
         self._last = text
         return await super()._keep(text)

@@ -80,7 +80,7 @@ class LineRoom:
         text = f"{one.peer}: a connection without a session gives way to one of {peer}"
         self._host.notices.say(among[one], text, CONNECTION)
         self.remove(one)
-        one.give_way()
+        one.stop("for another connection")
         return True
 
 

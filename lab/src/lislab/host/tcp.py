@@ -67,12 +67,12 @@ class TcpWire(asyncio.BufferedProtocol, Wire):
         """Bytes came."""
         if self.line is None:
             return
-        came = memoryview(self._buffer)[:nbytes]
         for start in range(0, nbytes, PIECE):
-            data = bytes(came[start : start + PIECE])
+            data = bytes(self._buffer[start : min(start + PIECE, nbytes)])
             if self._telnet is not None:
                 data, answer = self._telnet.heard(data)
-                self._put(answer)
+                if self._transport is not None:
+                    self._transport.write(answer)
             if data:
                 self.line.data(data, self._host.ticks.before)
 
@@ -92,9 +92,8 @@ class TcpWire(asyncio.BufferedProtocol, Wire):
             self._transport.abort()
 
     def write(self, data: bytes) -> None:
-        self._put(data if self._telnet is None else self._telnet.written(data))
-
-    def _put(self, data: bytes) -> None:
+        if self._telnet is not None:
+            data = self._telnet.written(data)
         if data and self._transport is not None and not self._transport.is_closing():
             self._transport.write(data)
 

@@ -82,8 +82,10 @@ class Turns:
 class Share:
     """What a line does with its peer's account."""
 
-    def __init__(self, turns: Turns, peer: str) -> None:
+    def __init__(self, turns: Turns, peer: str, before: Callable[[], None] = lambda: None) -> None:
         self._turns, self._account, self._since = turns, turns.account(peer), turns.worked()
+        #: What the line does before it waits for its turn: it is read no further if more waits already.
+        self._before = before
 
     def goes_on(self) -> None:
         """The line works from now on: what the thread did before was others' work."""
@@ -99,10 +101,19 @@ class Share:
         """Whether others come first: the peer had more than they, with what the line did since it went on, or all had
         enough for now."""
         self.rests()
-        more = self._account.had - self._turns.had
+        return self._is_behind()
+
+    def comes_back(self) -> bool:
+        """The line goes on after it waited for something: whether others come first all the same."""
+        self.goes_on()
+        return self._is_behind()
+
+    def _is_behind(self) -> bool:
+        more = max(self._account.had - self._turns.had, -CREDIT)
         return more > HEARS or (more > -HEARS and self._turns.is_full(self._since))
 
     async def wait(self) -> None:
         """Done when it is the line's turn again."""
+        self._before()
         await self._turns.wait(self._account)
         self.goes_on()

@@ -26,6 +26,8 @@ from .store import (
 
 #: How many rows one statement puts; among how many messages the last ones of a line are looked for.
 ROWS, AMONG = 100, 100_000
+#: The table of texts, and its columns.
+TEXT = "text (message, place, at, body)"
 # In the words of the index of messages that aren't complete.
 _OPEN_HOSTS = f"SELECT DISTINCT host FROM message WHERE state <> '{COMPLETE}' AND state = '{OPEN}'"
 T = TypeVar("T")
@@ -42,6 +44,24 @@ def _lots(values: List[T], width: int) -> Iterator[List[T]]:
 def _marks(count: int, width: int) -> str:
     """The signs for so many values, in rows of this width."""
     return ",".join([f"({','.join('?' * width)})"] * (count // width))
+
+
+def texts_of(units: Sequence[Unit]) -> List[Any]:
+    """The values of the rows of texts, if one statement can put all that is to be kept: if it is nothing else; empty if
+    it can't."""
+    values: List[Any] = []
+    for unit in units:
+        for one in unit:
+            if not isinstance(one, Add):
+                return []
+            values += one
+    return values if len(values) <= 4 * ROWS else []
+
+
+@functools.lru_cache(maxsize=1024)
+def insert(table: str, count: int, width: int) -> str:
+    """A statement that puts rows of so many values into a table: those that aren't there."""
+    return f"INSERT INTO {table} VALUES {_marks(count, width)} ON CONFLICT DO NOTHING"
 
 
 class SqlStore(Store):
@@ -175,15 +195,15 @@ class SqlStore(Store):
                 else:
                     ends.append(one)
         self._put("message (key, host, line, peer, encoding, began, state)", 7, begins)
-        self._put("text (message, place, at, body)", 4, texts)
+        self._put(TEXT, 4, texts)
         if ends:
             self._end([(one, None, None) for one in ends if one.state != COMPLETE])
             self._number([one for one in ends if one.state == COMPLETE])
 
     def _put(self, table: str, width: int, values: List[Any]) -> None:
-        """Puts rows of so many values into a table: those that aren't there."""
+        """Puts rows of so many values into a table."""
         for some in _lots(values, width):
-            self.run(f"INSERT INTO {table} VALUES {_marks(len(some), width)} ON CONFLICT DO NOTHING", some)
+            self.run(insert(table, len(some), width), some)
 
     def _end(self, ends: Sequence[Tuple[End, Optional[str], Optional[int]]]) -> None:
         """Ends messages that are open: each with the first one of its bytes and its number."""

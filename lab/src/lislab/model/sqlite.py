@@ -6,8 +6,8 @@ from typing import Any, Iterator, List, Optional, Sequence, Tuple
 
 from .files import is_locked, take_lock
 from .schema import STATES_OF_SQLITE
-from .sql import SqlStore
-from .store import Stored, StoreError
+from .sql import TEXT, SqlStore, insert, texts_of
+from .store import Stored, StoreError, Unit
 
 #: How long another program's short transaction is waited for, in seconds.
 PATIENCE = 5.0
@@ -97,6 +97,17 @@ class SqliteStore(SqlStore):
     def faults(self) -> List[str]:
         return [str(row[0]) for row in self.read("PRAGMA integrity_check") if row[0] != "ok"]
 
+    def commit(self, units: Sequence[Unit]) -> None:
+        """Texts alone are put by one statement, which is a transaction by itself."""
+        texts = texts_of(units)
+        if not texts or self._db is None or self._db.in_transaction:
+            super().commit(units)
+            return
+        try:
+            self.run(insert(TEXT, len(texts), 4), texts)
+        except Exception as error:
+            raise self._undone(error) from None
+
     def lock_numbers(self) -> None:
         """Needs nothing: SQLite lets only one transaction write."""
 
@@ -107,10 +118,10 @@ class SqliteStore(SqlStore):
             yield
             self.run("COMMIT")
         except Exception as error:  # whatever it is, nothing of it may stay in the transaction
-            self._undo()
-            raise StoreError(f"{self.path}: {error}") from None
+            raise self._undone(error) from None
 
-    def _undo(self) -> None:
+    def _undone(self, error: Exception) -> StoreError:
+        """What a transaction failed with is told once nothing of it is left."""
         assert self._db is not None
         try:
             if self._db.in_transaction:
@@ -119,6 +130,7 @@ class SqliteStore(SqlStore):
             self._db.close()
             self._db = self._connect()
             self._prepare(self._db)
+        return StoreError(f"{self.path}: {error}")
 
     def is_gone(self, host: str) -> bool:
         """A store in a file has one host, which is this one."""

@@ -1,0 +1,152 @@
+"""How the texts of a line are kept, and what becomes of its messages: the reply to a text waits for this."""
+import asyncio
+import functools
+from collections import Counter
+from typing import Callable, List, Optional, Sequence
+
+from ..diagnosis.events import MessageEnded, Observers
+from ..diagnosis.notices import LETTERS, MESSAGE
+from ..model.store import FIXED, COMPLETE, Add, Change, End
+from .commits import Committer
+from .intake import Intake
+from .fix import Ended
+from .fixer import Bodies, Fixer, fixed_ends
+from .turns import Share
+
+#: How many bytes of a long text are kept in one row.
+TOGETHER = 1 << 14
+
+
+def _join(part: List[Change], changes: List[Change]) -> None:
+    """Puts changes after some others. Bytes of one message that follow each other are kept together."""
+    if changes:
+        last, first = part[-1], changes[0]
+        if isinstance(last, Add) and isinstance(first, Add) and last.key == first.key and len(last.body) < TOGETHER:
+            part[-1] = last._replace(body=last.body + first.body)
+            changes = changes[1:]
+    part += changes
+
+
+class Keeper:
+    """Keeps what comes on one line."""
+
+    def __init__(
+        self,
+        intake: Intake,
+        committer: Committer,
+        fixer: Fixer,
+        share: Share,
+        observers: Observers,
+        counts: "Counter[str]",
+        say: Callable[[str, str], None],
+        took_fixed: Callable[[str, Sequence[Change]], None],
+    ) -> None:
+        self.intake, self._committer, self._fixer, self._share = intake, committer, fixer, share
+        self._tell, self._counts, self._say, self._took_fixed = observers.tell, counts, say, took_fixed
+        #: Messages that ended, of which it is to be tried which setting would deliver them.
+        self._tries: List[Ended] = []
+        #: Whether a text is kept in parts.
+        self._is_long = False
+        #: When the last message was kept, by the clock on the wall.
+        self.last: Optional[float] = None
+
+    async def keep(self, text: bytes) -> None:
+        """Keeps a text, one part of its changes after another: however many they are, no other line waits for all.
+        StoreError or TooLong if it can't be kept: call `undo` then."""
+        part: List[Change] = []
+        for changes in self.intake.take(text):
+            if self.intake.bodies:
+                changes = await self._fixed(changes)
+            if part and self._share.is_over():
+                await self._share.wait()
+            if len(part) + len(changes) > self._committer.part:
+                self._is_long = True
+                await self._put(part)
+                part = []
+            if part:
+                _join(part, changes)
+            else:
+                part = changes
+        if part:
+            await self._put(part)
+        self._is_long = False
+        if self._tries:
+            self._fixer.begin_tries(self._tries, self.put_later)
+
+    def undo(self, reason: str) -> None:
+        """A text could not be kept."""
+        self._is_long = False
+        self._tries.clear()
+        undone = self.intake.undo(reason)
+        if undone:
+            self.put_later(undone)
+
+    async def _fixed(self, changes: List[Change]) -> List[Change]:
+        """The same changes, with what is made of the messages that end and aren't complete."""
+        bodies, self.intake.bodies = self.intake.bodies, {}
+        changes = await self._fixer.of_all(changes, bodies, True, self._tries)
+        self._share.goes_on()
+        self.intake.also(fixed_ends(changes))
+        return changes
+
+    async def _put(self, part: Sequence[Change]) -> None:
+        has_end = False
+        for one in part:
+            if isinstance(one, End):
+                has_end = True
+                if one.state == COMPLETE:
+                    await self._fixer.order.over()  # nothing overtakes what is made of an earlier message
+        self._share.rests()
+        await self._committer.put(part, self._is_long)
+        self.intake.kept()
+        if self._share.comes_back():
+            await self._share.wait()
+        if has_end:
+            self._note_ends(part)
+
+    def _note_ends(self, changes: Sequence[Change]) -> None:
+        """Counts the messages that ended, and says which are not complete."""
+        for change in changes:
+            if not isinstance(change, End):
+                continue
+            self._tell(MessageEnded(change))
+            self._note_letters(change)
+            self._counts["messages" if change.state == COMPLETE else "not_complete"] += 1
+            if change.state == COMPLETE:
+                self.last = change.at
+                if change.reason:
+                    self._counts["fixed"] += 1
+                    self._took_fixed(change.key, changes)
+            elif change.size:
+                state = "" if change.reason.startswith(FIXED) else f"{change.state}: "
+                self._say(f"message {change.key} is {state}{change.reason}", MESSAGE)
+
+    def _note_letters(self, end: End) -> None:
+        """Says of a complete message that its letters look like those of another encoding."""
+        look = self.intake.letters.pop(end.key, "")
+        if look and end.state == COMPLETE:
+            about = f"message {end.key}: its letters are {look}"
+            self._say(f"{about}, and the line's encoding is {self.intake.encoding}", LETTERS)
+
+    def drop(self, reason: str, is_over: bool = False) -> None:
+        """No more comes of the message that goes on; whether the analyzer ended it so."""
+        changes = self.intake.drop(reason)
+        if self.intake.bodies:
+            bodies, self.intake.bodies = self.intake.bodies, {}
+            self._fixer.order.begin(functools.partial(self._end_later, changes, bodies, is_over))
+        elif changes:
+            self.put_later(changes)
+
+    async def _end_later(self, changes: List[Change], bodies: Bodies, is_over: bool) -> None:
+        """Ends a message for which no reply waits, with what is made of it."""
+        tries: List[Ended] = []
+        made = await self._fixer.of_all(changes, bodies, is_over, tries)
+        if made:
+            await self.put_later(made)
+        self._fixer.begin_tries(tries, self.put_later)
+
+    def put_later(self, changes: Sequence[Change]) -> "asyncio.Future[None]":
+        """Keeps changes for which no reply waits. What they end is counted and said once it is kept."""
+        kept = self._committer.put_later(changes, self._is_long)
+        kept.add_done_callback(lambda done: None if done.cancelled() else self._note_ends(changes))
+        return kept
