@@ -264,7 +264,7 @@ FAULTS = {
     "test_fixes.Fixes.test_not_fixed": Edit(
         "host/fix.py", "gone_of_results(body, out) != _long_results(body, names) or", ""
     ),
-    "test_fixes.Fixes.test_query": Edit("host/duplex.py", ".take(body[: QUERY + 1])", ".take(body[:9])"),
+    "test_fixes.Fixes.test_query": Edit("host/duplex.py", "feed(body[: QUERY + 1])", "feed(body[:9])"),
     "test_fixes.Fixes.test_repeats": Edit("cli/host.py", "place.name: place.fix for", "place.name: () for"),
     "test_fixes.Fixes.test_left": Edit("host/left.py", 'one.body.endswith((b"\\r", b"\\n"))', "False"),
     "test_fixes.Fixes.test_order": Edit("host/keeper.py", "                    await self._fixer.order.over()", "                    pass"),

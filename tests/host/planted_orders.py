@@ -124,7 +124,7 @@ FAULTS = {
     "test_queries.Queries.test_hl7": ("order.py", 're.match(rb"MSH.", text)', 're.match(rb"FHS.", text)'),
     "test_queries.Queries.test_settings": ("model/asks.py", "O\\.([34])", "O\\.([345])"),
     "test_orders.OnSerial.test_a_new_host": ("host/duplex.py", "if not self.is_tcp:", "if self.is_tcp:"),
-    "test_orders.Unheard.test_long_text": ("host/duplex.py", "MOST_SAMPLES = 1024, 1000", "MOST_SAMPLES = 1 << 20, 1000"),
+    "test_orders.Unheard.test_long_text": ("host/intake.py", "PIECE, FIRST = 1024, 1 << 16", "PIECE, FIRST = 1 << 20, 1 << 16"),
     "test_orders.Unheard.test_heard_first": ("host/duplex.py", "if self._inbox.pieces:", "if self._inbox.pieces is None:"),
     "test_orders.Answers.test_last_try": (
         "host/outbox.py", "self._in_vain(site, batch.placed, why, self._tries)", "self._in_vain(site, batch.placed, why, 0)"

@@ -9,6 +9,7 @@ from lislab.host import intake
 from lislab.host.duplex import Asking
 from lislab.host.intake import Held, Intake
 from lislab.model.store import COMPLETE, Add, Begin
+from lislink.records import Reader
 from tests.host import hosts
 from tests.host.hosts import HostTest
 
@@ -56,7 +57,8 @@ class Streams(HostTest):
         self.true("held again", ones[-1].drop("the end") and ones[-1].bodies)
         tracemalloc.start()
         asking = Asking("latin-1")
-        asking.take(b"H|\\^&\r" + b"C|\r" * 20_000)
+        for row in Reader().feed(b"H|\\^&\r" + b"C|\r" * 20_000):
+            asking.note(row)
         self.true("of a query", tracemalloc.get_traced_memory()[0] < 1 << 19, str(tracemalloc.get_traced_memory()))
         tracemalloc.stop()
         asking.over()

@@ -12,6 +12,7 @@ import unittest.mock
 from collections import Counter
 
 from lislab.host.duplex import TwoWayLine
+from lislab.host.intake import Intake
 from lislab.host.line import Parts
 from lislab.host.outbox import Batch, Desk, Outbox, Site
 from lislab.model.stores import open_store
@@ -19,6 +20,7 @@ from lislab.host.turns import Turns
 from lislab.model.book import LOT, PERHAPS, Wanted
 from lislab.model.books import open_book
 from lislink.order import Order
+from lislink.records import Reader
 from tests.host import hosts
 from tests.host.hosts import SCALE, Host, HostTest, lislab, wait_for
 from tests.host.plain import ACK, ENQ, NAK, Gone, Plain, query, samples_of
@@ -696,27 +698,34 @@ class Unheard(HostTest):
         intake, committer, observers, fixer = (unittest.mock.Mock(names=frozenset(), bodies={}) for _ in range(4))
         parts = Parts(wire, intake, observers, print, Counter(), fixer, committer, Turns())
         line = TwoWayLine(outbox, Site("asks", "x", "latin-1", True, "L-I", "1"), parts)
-        line._intake.drop.return_value = line._intake.take.return_value = []
+        intake.drop.return_value = intake.take.return_value = []
         return line
 
     def test_long_text(self):
-        """A text of 1 MiB is searched in pieces of 1 KiB, and the other lines may have their turn after each."""
-        text, done = b"H|\\^&\rL|1|N\r" * 75000, []
+        """A long text is read in pieces of 1 KiB, and the other lines may have their turn after each; queries are found in the
+        records that are stored, each once."""
+        text, done, queries = b"H|\\^&\rQ|1|^S1||ALL\rL|1|N\r" * 4000, [], []
+
+        class Noted(Reader):
+            def feed(self, data):
+                done.append(data)
+                return super().feed(data)
 
         async def runs():
             line = self.line(unittest.mock.Mock(), [])
-
-            async def turn():
-                done.append("turn")
-
-            line._take_turns = turn
-            line._asking.take = lambda piece: done.append(piece) or []
-            self.same("kept", await line._keep(text), True)
+            keeper, line._asks = line._keeper, queries.append
+            keeper.intake = Intake("asks", "x", "latin-1", 1 << 24, time.time)
+            keeper.intake.listens(line._asking.note, line._asking.over)
+            keeper._committer = unittest.mock.Mock(part=60, put=unittest.mock.AsyncMock())
+            keeper._fixer.order.over = unittest.mock.AsyncMock()
+            line._share.is_over = line._share.comes_back = lambda: done.append("turn")
+            with unittest.mock.patch("lislab.host.intake.Reader", Noted):
+                self.same("kept", await line._keep(text), True)
 
         asyncio.run(runs())
-        self.same("a turn after each", done[1::2], ["turn"] * (len(done) // 2))
-        self.same("all of it", b"".join(done[::2]), text)
-        self.true("at most 1 KiB", max(map(len, done[::2])) <= 1024)
+        self.same("queries", (len(queries), {len(rows) for rows in queries}), (4000, {3}))
+        self.true("a turn between", all("turn" in pair for pair in zip(done[1:], done[2:])))
+        self.true("at most 1 KiB", max(map(len, done)) <= 1024)
 
     def test_heard_first(self):
         """ENQ comes while the store is asked for orders: it is answered, and the host's own session comes later."""

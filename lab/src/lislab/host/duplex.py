@@ -5,9 +5,9 @@ import asyncio
 from collections import deque
 from typing import Deque, Dict, List, NamedTuple, Optional, Sequence, Set
 
-from lislink.codes import Note, Outcome, Phase, Role
+from lislink.codes import Outcome, Phase, Role
 from lislink.link import LinkError
-from lislink.records import MessageError, Reader, messages
+from lislink.records import Reader, messages
 from lislink.rows import Row
 from lislink.station import Answer, Station
 from ..diagnosis.events import Looked, OwnAnswered, OwnFailed, ReplyAfterAll, Sent
@@ -21,9 +21,8 @@ from .outbox import Batch, Outbox, Site
 #: After a text that can't be kept, and after a session of the host's own that failed on a serial line, none starts for
 #: so many seconds: what is on its way has come by then. The most bytes of a query that are held.
 QUIET, QUERY = 16.0, 1 << 16
-#: So many bytes of a text are searched for a query before the other lines have their turn; of a message the results of
-#: so many samples are noted.
-PIECE, MOST_SAMPLES = 1024, 1000
+#: Of a message the results of so many samples are noted.
+MOST_SAMPLES = 1000
 #: So many NAKs to its ENQ end a session, and so many times that the other end asked too and then sent nothing.
 BUSY = 6
 _REPLIES = (b"\x04", b"\x06", b"\x15")
@@ -31,7 +30,6 @@ _REPLIES = (b"\x04", b"\x06", b"\x15")
 _WAITS = (Phase.BUSY, Phase.CONTENTION)
 #: Why a session of the host's own failed.
 _WHY = {Outcome.TIMED_OUT: "no reply came in time", Outcome.SIX_TRIES: "a frame was rejected six times"}
-_OVER = (Note.OPENED, Note.NOT_READY, Note.ENDED, Note.TIMED_OUT)
 
 
 class Read(NamedTuple):
@@ -43,51 +41,45 @@ class Read(NamedTuple):
 
 
 class Asking:
-    """The queries and the results in the texts of a line. Where a record ends is decided by the proved reader."""
+    """The queries and the results in the records of a line."""
 
     def __init__(self, encoding: str) -> None:
         self._encoding = encoding
-        self._reader: Optional[Reader] = None
+        #: The messages that have ended.
+        self._read: List[Read] = []
         #: The records of the message so far, as far as it may be a query; how long it is, and whether it has one.
         self._held, self._size, self._asks = bytearray(), 0, False
         #: The samples that the last order names, and the results of the message.
         self._samples: List[str] = []
         self._results: Dict[str, Set[str]] = {}
 
-    def take(self, text: bytes) -> List[Read]:
-        """A piece of a text: the messages that it ends. A message that can't be read has neither queries nor results,
-        and one that is too long for a query no query; MessageError at the first record that can't be read."""
-        found: List[Read] = []
-        if self._reader is None:
-            self._reader = Reader()
-        for row in self._reader.feed(text):
-            self._size, self._asks = self._size + len(row.text) + 1, self._asks or row.letter == "Q"
-            self._held += row.text + b"\r" if self._size <= QUERY else b""
-            self._note(row)
-            if row.letter == "L":
-                is_query = self._asks and self._size <= QUERY
-                rows = [list(one) for one in messages([bytes(self._held)])][0] if is_query else []
-                found.append(Read(rows, self._results))
-                self._held, self._size, self._asks, self._results = bytearray(), 0, False, {}
-        return found
-
-    def _note(self, row: Row) -> None:
-        """Notes what a record says of results."""
+    def note(self, row: Row) -> None:
+        """A record came. A message that is too long for a query is none."""
+        self._size, self._asks = self._size + len(row.text) + 1, self._asks or row.letter == "Q"
+        self._held += row.text + b"\r" if self._size <= QUERY else b""
         if row.letter == "O":
             self._samples = [*self._parts(row, 3), *self._parts(row, 4)]
         elif row.letter == "R" and len(self._results) < MOST_SAMPLES:
             for sample in self._samples:
                 self._results.setdefault(sample, set()).update(self._parts(row, 3))
+        elif row.letter == "L":
+            is_query = self._asks and self._size <= QUERY
+            rows = [list(one) for one in messages([bytes(self._held)])][0] if is_query else []
+            self._read.append(Read(rows, self._results))
+            self._held, self._size, self._asks, self._results = bytearray(), 0, False, {}
+
+    def read(self) -> List[Read]:
+        """The messages that have ended since it was asked last."""
+        read, self._read = self._read, []
+        return read
 
     def _parts(self, row: Row, field: int) -> List[str]:
         parts = (part.decode(self._encoding, "replace").strip() for repeat in row.field(field) for part in repeat)
         return [part for part in parts if part]
 
     def over(self) -> None:
-        """The session is over: no more comes of the message."""
-        if self._reader is not None:
-            self._reader.close()
-        self._reader, self._held, self._size, self._asks = None, bytearray(), 0, False
+        """No more comes of the message. One that can't be read has neither queries nor results."""
+        self._held, self._size, self._asks = bytearray(), 0, False
         self._samples, self._results = [], {}
 
 
@@ -113,6 +105,7 @@ class TwoWayLine(Line):
         #: Whether a session of the host's own had no reply, and nothing came since; whether anything ever came.
         self._unanswered = self._has_heard = False
         outbox.wakes(self._woken)
+        self._keeper.intake.listens(self._asking.note, self._asking.over)
 
     def _begin(self, frame: int, is_careful: bool) -> Ear:
         self._station = Station(Role.COMPUTER, frame_limit=frame, careful=is_careful)
@@ -148,7 +141,6 @@ class TwoWayLine(Line):
         for batch in self._ready:
             self._outbox.unsent(self._site, batch)
         self._outbox.forget(self._site, self._woken)
-        self._asking.over()
 
     def _quiet(self) -> None:
         self._free_at = self._loop.time() + QUIET * self._limits.scale
@@ -189,8 +181,6 @@ class TwoWayLine(Line):
         before, self._phase = self._phase, self._station.phase
         if answer.step is not None:
             await self._step(answer.step, arrived, place, is_enq)
-            if answer.step.note in _OVER:
-                self._asking.over()
             self._contended = 0
         elif answer.send:
             self._asked = self._loop.time()
@@ -224,22 +214,21 @@ class TwoWayLine(Line):
             self._station.give_up()
 
     async def _keep(self, text: bytes) -> bool:
-        if not await super()._keep(text):
-            return False
-        try:
-            for start in range(0, len(text), PIECE):
-                for read in self._asking.take(text[start : start + PIECE]):
-                    self._takes(read)
-                await self._take_turns()
-        except MessageError:
-            self._asking.over()
-        return True
+        is_kept = await super()._keep(text)
+        for read in self._asking.read():
+            if is_kept:
+                self._takes(read)
+        return is_kept
 
     def _took_fixed(self, key: str, changes: Sequence[Change]) -> None:
         if self._lost:
             return
         body = b"".join(one.body for one in changes if isinstance(one, Add) and one.key == key)
-        for read in Asking(self._site.encoding).take(body[: QUERY + 1]):
+        asking = Asking(self._site.encoding)
+        with Reader() as reader:
+            for row in reader.feed(body[: QUERY + 1]):
+                asking.note(row)
+        for read in asking.read():
             self._takes(read)
 
     def _takes(self, read: Read) -> None:

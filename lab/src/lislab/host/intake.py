@@ -7,6 +7,7 @@ from typing import Callable, Dict, Iterable, Iterator, List, Optional, Tuple
 from lislink.codes import Reason, Status
 from lislink.letters import Letters
 from lislink.records import MessageError, Reader
+from lislink.rows import Row
 from ..model.store import COMPLETE, INCOMPLETE, INVALID, Add, Begin, Change, End, new_key
 from .unknown import Unknown
 
@@ -120,6 +121,9 @@ class Intake:
         self.line, self.peer, self.encoding, self.most, self.clock = line, peer, encoding, most, clock
         #: The codes that the line's code mapping lacks.
         self.unknown = unknown or Unknown(line)
+        #: Who listens to each record that is read, and to the end of a message that can't be read or breaks off.
+        self._note: Optional[Callable[[Row], None]] = None
+        self._broken: Callable[[], None] = lambda: None
         self._held, self.bodies = held, {}  # type: Optional[Held], Dict[str, Tuple[Begin, bytes]]
         self._message: Optional[_Message] = None
         #: The reader of the last message, if it was whole and nothing follows it.
@@ -128,6 +132,10 @@ class Intake:
         self._ends: List[End] = []
         #: What the letters of complete messages look like that have ended, by their keys, if it is another encoding.
         self.letters: Dict[str, str] = {}
+
+    def listens(self, note: Callable[[Row], None], broken: Callable[[], None]) -> None:
+        """Who listens to each record of the messages, and to the end of one that isn't complete."""
+        self._note, self._broken = note, broken
 
     def take(self, text: bytes) -> Iterator[List[Change]]:
         """The changes that keep a text, step by step, each of which is short work; TooLong if a message passes the
@@ -176,6 +184,7 @@ class Intake:
         one = self._message
         if one is None:
             return []
+        self._broken()
         changes: List[Change] = []
         self._end(INVALID if one.fault else INCOMPLETE, one.fault or _after(one, reason), changes)
         return changes
@@ -196,6 +205,8 @@ class Intake:
             for row in one.reader.feed(text):
                 if one.is_coded:
                     self.unknown.look(one.key, row, self.encoding)
+                if self._note is not None:
+                    self._note(row)
                 one.records += 1
                 one.ended = one.reader.read - one.start
                 if row.letter == "L":
@@ -210,6 +221,7 @@ class Intake:
 
     def _reject(self, one: _Message, text: bytes, error: MessageError, changes: List[Change]) -> int:
         """A record can't be read where it is."""
+        self._broken()
         start = one.ended - one.size  # where it begins in the text; below 0 in an earlier one
         if start >= 0 and one.records and is_header(text, start):
             self._add(one, text[:start], changes)
