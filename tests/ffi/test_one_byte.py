@@ -126,7 +126,7 @@ class TwoBytes(kit.Test):
     def test_page(self):
         frames = pairs.frames_of(sorted(glob.glob(f"{ROOT}/samples/**/*.capture", recursive=True)))
         total, unnoticed = sum(map(pairs.all_of, frames)), sum(map(pairs.unnoticed, frames))
-        said = f"{len(frames)} frames of the samples {unnoticed:,} of {total:,} pairs"
-        print(f"two bytes: {said}, one in {total / unnoticed:.0f}")
+        print(f"two bytes: {unnoticed:,} of {total:,} pairs in {len(frames)} frames")
+        said = f"frames of the samples one in {total / unnoticed:.0f} pairs of changes gives another good frame"
         page = " ".join(kit.read("docs/protocol.md").split())
         self.check(said in page, f"docs/protocol.md doesn't say: {said}")
