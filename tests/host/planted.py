@@ -113,7 +113,7 @@ FAULTS = {
         "host/tcp.py", 'name == transport.get_extra_info("sockname") or', 'name == () or'
     ),
     "test_files.Whole.test_damaged": Edit(
-        "cli/host.py", "return writing(path)", 'return contextlib.nullcontext(open(path, "wb"))'
+        "cli/export.py", "return writing(path)", 'return contextlib.nullcontext(open(path, "wb"))'
     ),
     "test_files.Whole.test_half_writes": Edit(
         "model/files.py",
@@ -231,7 +231,7 @@ FAULTS = {
     ),
     "test_lines_file.LinesFile.test_changes": Edit("host/ports.py", "port.place = found", "port.place = port.place"),
     "test_lines_file.LinesFile.test_command": Edit(
-        "cli/host.py", "return WRONG if found.faults else GOOD", "return GOOD"
+        "cli/lines.py", "return LOOKS_WRONG if found.faults else GOOD", "return GOOD"
     ),
     "test_lines_file.LinesFile.test_faults": Edit(
         "model/lines.py", "setdefault(key, self._row)", "setdefault(key, self._row - 1)"
@@ -240,7 +240,7 @@ FAULTS = {
     "test_lines_file.LinesFile.test_serial": Edit(
         "host/serials.py", "while not host.stopping and serial in host.asked.serials:", "while not host.stopping:"
     ),
-    "test_lines_file.LinesFile.test_start": Edit("cli/host.py", "    if twice:\n", "    if twice and not read:\n"),
+    "test_lines_file.LinesFile.test_start": Edit("cli/lines.py", "    if twice:\n", "    if twice and not read:\n"),
     "test_load.Load.test_200_analyzers": Edit(
         "host/ports.py", "self._lines.values())) < limits.lines:", "self._lines.values())) < 100:"
     ),
@@ -265,7 +265,7 @@ FAULTS = {
         "host/fix.py", "gone_of_results(body, out) != _long_results(body, names) or", ""
     ),
     "test_fixes.Fixes.test_query": Edit("host/duplex.py", "feed(body[: QUERY + 1])", "feed(body[:9])"),
-    "test_fixes.Fixes.test_repeats": Edit("cli/host.py", "place.name: place.fix for", "place.name: () for"),
+    "test_fixes.Fixes.test_repeats": Edit("cli/serve.py", "place.name: place.fix for", "place.name: () for"),
     "test_fixes.Fixes.test_left": Edit("host/left.py", 'one.body.endswith((b"\\r", b"\\n"))', "False"),
     "test_fixes.Fixes.test_order": Edit("host/keeper.py", "                    await self._fixer.order.over()", "                    pass"),
     "test_fixes.Fixes.test_a_stop_starts_nothing": Edit("host/fixer.py", "        self._is_stopped = True\n", ""),
@@ -318,7 +318,7 @@ FAULTS = {
         "if found is None or (found.number == number and found.key != key):",
         "if found is None:",
     ),
-    "test_out.Files.test_no_library": Edit("cli/host.py", "    calls()  # without", "    # without"),
+    "test_out.Files.test_no_library": Edit("cli/serve.py", "    calls()  # without", "    # without"),
     "test_out.Names.test_names": Edit("message.py", "sequence source comment_text", "sequence source text"),
     "test_out.OutOfSpool.test_delivery_to_a_command": Edit(
         "model/spool.py", 'name[0] != "."])\n        kept', 'name[0] != "."])[::-1]\n        kept'
@@ -348,7 +348,7 @@ FAULTS = {
         "model/files.py", "fcntl.LOCK_EX | fcntl.LOCK_NB", "fcntl.LOCK_SH | fcntl.LOCK_NB"
     ),
     "test_out.OutOfSqlite.test_sending": Edit(
-        "cli/host.py", "return WRONG if bad or summary.failed", "return WRONG if summary.failed"
+        "cli/send.py", "return LOOKS_WRONG if bad or summary.failed", "return LOOKS_WRONG if summary.failed"
     ),
     "test_out.OutOfSqlite.test_status": Edit("watch/status.py", "if store.is_held(", "if state or store.is_held("),
     "test_out.OutOfSqlite.test_wanted": Edit("outbound/export.py", "at < wanted.since", "at > wanted.since"),

@@ -98,7 +98,7 @@ FAULTS = {
     "test_fhir.Https.test_posts": ("outbound/https.py", '"X-Request-ID": key', '"X-Request-ID": kind'),
     "test_fhir.Https.test_words": ("outbound/https.py", "or parts.username or", "or"),
     "test_line_codes.LineCodes.test_a_delivery": (
-        "cli/out.py", "form_asked(ask, form, say)", "form_asked(ask, form)"
+        "cli/deliver.py", "form_asked(ask, form, say)", "form_asked(ask, form)"
     ),
     "test_line_codes.LineCodes.test_applied": (
         "outbound/tables.py",
@@ -224,7 +224,7 @@ FAULTS = {
     "test_told.AsTold.test_fhir": ("model/results.py", "yield Case(None, controls", "yield Case(above, controls"),
     "test_told.AsTold.test_csv": ("model/results.py", "int(component or 1) - 1", "0"),
     "test_makers.Makers.test_oru": ("outbound/oru.py", "19: told.at(result.at),", "19: result.at,"),
-    "test_makers.Makers.test_codes": ("cli/out.py", "lines.reading(line).test", '""'),
+    "test_makers.Makers.test_codes": ("cli/codes.py", "lines.reading(line).test", '""'),
     "test_makers.Makers.test_csv": ("model/results.py", "    if len(filled) == 1:\n", "    if not filled:\n"),
     "test_makers.Makers.test_fhir": ("model/results.py", "len(text) < 12 or not self", "len(text) < 12 or self"),
     "test_deliver.Deliver.test_quarantine": (

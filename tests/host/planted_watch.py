@@ -34,11 +34,11 @@ FAULTS = {
     ),
     "test_names.Names.test_watch": ("diagnosis/board.py", "    look()  # a line", "    pass  # a line"),
     "test_names.Names.test_page": ("watch/web.py", "page.no_line_page(lines)", "page.no_line_page([])"),
-    "test_names.Names.test_export": ("cli/host.py", "if is_named or ask.line in names:", "if is_named or names:"),
+    "test_names.Names.test_export": ("cli/export.py", "if is_named or ask.line in names:", "if is_named or names:"),
     "test_advice.Advice.test_advice": ("diagnosis/verdicts.py", "count >= _SURE", "count >= 1"),
     "test_advice.Advice.test_sums": ("diagnosis/pulse.py", "self.ways & cause.ways if self.sums else", ""),
     "test_systemd.Systemd.test_image": (
-        "cli/host.py", 'return GOOD if data["running"] and', 'return GOOD if data["lines"] is not None and'
+        "cli/status.py", 'return GOOD if data["running"] and', 'return GOOD if data["lines"] is not None and'
     ),
     "test_orders.SqliteBooks.test_failed": (
         "model/book.py", "asked = line if state == FAILED else asked", "asked = asked"

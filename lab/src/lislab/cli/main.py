@@ -7,13 +7,14 @@ from typing import Any, Dict, List, Optional
 from lislink import LibraryMissing, __version__
 from lislink.capture import CaptureError
 from ..diagnosis.log import LogError
-from ..field import table
+from ..field.table import TableError
 from ..model.failures import Refused
 from ..model.options import OptionError
 from ..model.store import StoreError
 from ..model.unix import WatchError
 from ..outbound.deliver import WrongStore
-from . import field, host, order, out, play, store, watch
+from . import capture, codes, deliver, export, ladder, lines, normalize, order, play, replay, send, serve, status
+from . import store, table, watch
 from .common import STOPPED, USAGE, say
 
 
@@ -58,16 +59,11 @@ def parser() -> argparse.ArgumentParser:
     top.add_argument("--version", action="version", version=f"lislab {__version__}", help="print the version")
     parsers = top.add_subparsers(dest="command", required=True, metavar="COMMAND", prog="lislab", help=argparse.SUPPRESS)
     commands = Commands(parsers)
-    for add in (
-        field.add_commands,
-        host.add_commands,
-        store.add_command,
-        out.add_commands,
-        order.add_commands,
-        play.add_command,
-        watch.add_command,
+    for command in (
+        *(ladder, capture, replay, normalize, table, serve, lines, send, status, export),
+        *(store, codes, deliver, order, play, watch),
     ):
-        add(commands)
+        command.add_command(commands)
     top.epilog = commands.text()
     return top
 
@@ -85,6 +81,6 @@ def main(words: Optional[List[str]] = None) -> int:
     except (LogError, CaptureError, LibraryMissing, StoreError, WrongStore, Refused, WatchError, OSError) as error:
         say(str(error))
         return STOPPED
-    except (table.TableError, OptionError) as error:
+    except (TableError, OptionError) as error:
         say(str(error))
         return USAGE

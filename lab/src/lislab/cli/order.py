@@ -20,7 +20,7 @@ _STATES = (
 )
 
 
-def add_commands(commands: Any) -> None:
+def add_command(commands: Any) -> None:
     """Adds the command to those of lislab."""
     top = commands.add_parser("order", "add, list, cancel or resend orders")
     whats = top.add_subparsers(dest="what", required=True, metavar="COMMAND")

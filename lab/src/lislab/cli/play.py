@@ -18,7 +18,7 @@ from ..play.script import BYTES, Script, ScriptError, Step, read_script, steps_o
 from ..play.wanted import is_field
 from ..play.wire import End, LineFailed, On, Place, To
 from .common import say, write_output
-from .host import _FACTOR, _scale
+from .words import FACTOR, add_scale
 
 #: Exit statuses, as those of the other commands.
 GOOD, DIFFERS, USAGE, STOPPED = 0, 1, 2, 3
@@ -50,7 +50,7 @@ def add_command(commands: Any) -> None:
     one.add_argument("--restart", metavar="COMMAND", help="restart the other end (step R) by this command")
     one.add_argument("--report", metavar="FILE", help="write an HTML report with a place for signatures")
     one.add_argument("--junit", metavar="FILE", help="write the results as JUnit XML")
-    _scale(one)
+    add_scale(one)
     one.set_defaults(run=run_play)
 
 
@@ -72,7 +72,7 @@ def _add_line(one: argparse.ArgumentParser) -> None:
     )
     one.add_argument(
         "--within",
-        type=_FACTOR,
+        type=FACTOR,
         default=60.0,
         metavar="SECONDS",
         help="wait SECONDS for a connection or a new session (%(default)s)",

@@ -23,7 +23,7 @@ from ..watch.client import Host
 from ..watch.live import LiveLadder
 from ..watch.notify import Notifier
 from ..watch.web import Asked, Pages, Server, token_of
-from .host import state_file
+from .serve import state_file
 
 #: Exit statuses, as those of the other commands.
 GOOD, WRONG = 0, 1

@@ -1,6 +1,5 @@
-"""The commands `lislab deliver` and `lislab codes`."""
+"""The command `lislab deliver`."""
 import argparse
-import functools
 import os
 import signal
 from types import FrameType
@@ -8,34 +7,30 @@ from typing import Any, List, Optional
 
 from lislink._library import calls
 from ..field.table import form_of
-from ..model import codes
+from ..model import options
 from ..model.failures import Refused
 from ..model.files import is_locked
 from ..model.options import OptionError, split_peer
 from ..model.said import many, say
-from ..model.store import StoreError, Stored
+from ..model.store import StoreError
 from ..model.stores import open_store
-from ..outbound import https, mllp, quarantine
-from ..outbound import deliver, export
+from ..outbound import deliver, export, https, mllp, quarantine
 from ..outbound.ahead import Ahead
-from ..outbound.tables import tables_of
-from .common import add_renamed
-from .host import _COUNT, _FACTOR, _store, add_forms, form_asked
+from .common import GOOD, LOOKS_WRONG, add_renamed
+from .export import add_forms, form_asked
+from .words import COUNT, FACTOR, add_store
 
-#: Exit statuses, as those of the other commands.
-GOOD, WRONG = 0, 1
 #: Where messages go, and the form that they have there if none is named.
 _SCHEMES = {"mllp": "oru", "mllps": "oru", "https": "fhir", "http": "fhir"}
 
 
-def add_commands(commands: Any) -> None:
-    """Adds the commands to those of lislab."""
-    _add_codes(commands.add_parser("codes", "check a test code mapping, and list the codes of a store that it lacks"))
+def add_command(commands: Any) -> None:
+    """Adds the command to those of `lislab`."""
     _add_deliver(commands.add_parser("deliver", "send every complete message to a command, a directory, MLLP or HTTPS"))
 
 
 def _add_deliver(one: argparse.ArgumentParser) -> None:
-    _store(one)
+    add_store(one)
     one.add_argument("--cursor", required=True, metavar="FILE", help="remember here which message was delivered last")
     one.add_argument(
         "--to",
@@ -53,12 +48,12 @@ def _add_deliver(one: argparse.ArgumentParser) -> None:
     one.add_argument("--ca", metavar="FILE", help="trust the certificate authorities of this PEM file, not the system's")
     one.add_argument("--headers", metavar="FILE", help="send these HTTP headers, rows of Name: value")
     one.add_argument(
-        "--seconds", type=_FACTOR, default=60.0, help="wait SECONDS for a command or an answer (%(default)s)"
+        "--seconds", type=FACTOR, default=60.0, help="wait SECONDS for a command or an answer (%(default)s)"
     )
     one.add_argument("--once", action="store_true", help="deliver what there is, then exit")
     one.add_argument(
         "--quarantine",
-        type=_COUNT,
+        type=COUNT,
         default=0,
         metavar="N",
         help="quarantine a message after N failures, with later messages of its samples",
@@ -66,7 +61,7 @@ def _add_deliver(one: argparse.ArgumentParser) -> None:
     one.add_argument(
         "--resend", metavar="KEY", help="send this quarantined message and those that share its samples; all: every one"
     )
-    add_renamed(one, "deliver", "--aside", type=_COUNT, metavar="N")
+    add_renamed(one, "deliver", "--aside", type=COUNT, metavar="N")
     add_renamed(one, "deliver", "--again", metavar="KEY")
     one.add_argument(
         "words", nargs="*", metavar="COMMAND", help="after --: a command that reads one message from standard input"
@@ -142,9 +137,9 @@ def run_deliver(ask: argparse.Namespace) -> int:
             say(text)
         if kept.held:
             say(f"{many(len(kept.held), 'message is', 'messages are')} in quarantine")
-        return WRONG if kept.held else GOOD
+        return LOOKS_WRONG if kept.held else GOOD
     except Refused:
-        return WRONG
+        return LOOKS_WRONG
     except deliver.Stopped:
         return 128 + signal.SIGTERM
     finally:
@@ -178,7 +173,7 @@ def _run_again(ask: argparse.Namespace) -> int:
     if not named:
         which = "" if ask.resend == quarantine.ALL else f" under the key {ask.resend}"
         say(f"{ask.cursor}: nothing is in quarantine{which}")
-        return WRONG
+        return LOOKS_WRONG
     if _is_taken(ask.cursor):
         quarantine.wish(ask.cursor, ask.resend)
         say(f"{many(len(named), 'message is', 'messages are')} sent by the delivery that has {ask.cursor}")
@@ -189,7 +184,7 @@ def _run_again(ask: argparse.Namespace) -> int:
     try:
         target = _target_of(ask, form, cursor.lock, Ahead(export.writer_of(form)))
         one = deliver.Delivery(store, cursor, target, say, quarantine=_quarantine_of(ask, form))
-        return GOOD if deliver.run_again(one, ask.resend) else WRONG
+        return GOOD if deliver.run_again(one, ask.resend) else LOOKS_WRONG
     finally:
         cursor.close()
         store.close()
@@ -201,32 +196,3 @@ def _is_taken(cursor: str) -> bool:
         return os.path.exists(cursor + ".lock") and is_locked(cursor + ".lock")
     except OSError as error:
         raise StoreError(f"{cursor}.lock: {error.strerror or error}") from None
-
-
-def _add_codes(one: argparse.ArgumentParser) -> None:
-    one.add_argument("--store", metavar="STORE", help="list the codes of this store that the mapping lacks")
-    one.add_argument("--line", metavar="NAME", help="only results of this line")
-    one.add_argument("--lines", metavar="FILE", help="a lines file, for each line's setting `test`")
-    one.add_argument("file", metavar="FILE", help=f"the mapping, CSV with the columns {', '.join(codes.COLUMNS)}")
-    one.set_defaults(run=run_codes)
-
-
-def run_codes(ask: argparse.Namespace) -> int:
-    """Prints the faults of a table and the codes that it lacks; status 1 if there are some."""
-    read = codes.read_codes(ask.file)
-    for fault in read.faults:
-        print(fault)
-    unknown = {}
-    if ask.store:
-        store = open_store(ask.store)
-        try:
-            found = (one for one in store.messages() if ask.line in (None, one.line))
-            lines = tables_of(None, ask.lines)
-            test_of = (lambda line: lines.reading(line).test) if lines else (lambda line: "")
-            unknown = codes.unknown_of(read.codes, test_of, found)
-        finally:
-            store.close()
-    for name in sorted(unknown):
-        print(f"unknown {name} {unknown[name]}")
-    print(f"codes {len(read.codes)} unknown {len(unknown)}", flush=True)
-    return WRONG if read.faults or unknown else GOOD

@@ -1,0 +1,51 @@
+"""Options that several commands have."""
+import argparse
+import math
+from typing import Callable
+
+
+def add_store(parser: argparse.ArgumentParser) -> None:
+    """Adds `--store`."""
+    parser.add_argument(
+        "--store",
+        required=True,
+        metavar="STORE",
+        help="use this store: an SQLite file, postgresql://.., or spool:DIRECTORY",
+    )
+
+
+def number_from(kind: Callable[[str], float], least: float, most: float = math.inf) -> Callable[[str], float]:
+    """A function that reads a number within these bounds."""
+
+    def read(word: str) -> float:
+        try:
+            value = kind(word)
+        except ValueError:
+            value = math.nan
+        if not least <= value <= most:
+            bounds = f"at least {least}" if most == math.inf else f"from {least} to {most}"
+            raise argparse.ArgumentTypeError(f"expected a number {bounds}, not {word}")
+        return value
+
+    return read
+
+
+#: Numbers of one and of zero or more; seconds that may be none, and others; a chance.
+COUNT, PLACE = number_from(int, 1), number_from(int, 0)
+SECONDS, FACTOR, CHANCE = number_from(float, 0), number_from(float, 0.001), number_from(float, 0, 1)
+
+
+def add_allow(parser: argparse.ArgumentParser) -> None:
+    """Adds `--allow`."""
+    parser.add_argument(
+        "--allow",
+        action="append",
+        default=[],
+        metavar="NETWORK",
+        help="let this network connect too, for example 10.0.5.0/24; may be repeated",
+    )
+
+
+def add_scale(parser: argparse.ArgumentParser) -> None:
+    """The length of each timer, for tests."""
+    parser.add_argument("--scale", type=FACTOR, default=1.0, metavar="S", help=argparse.SUPPRESS)
