@@ -470,7 +470,7 @@ class Answers(HostTest):
             one.send(query("S7"))
             self.same(name, [row[:1] for row in one.take(400)], wanted)
             if name != "answers":
-                self.true(f"{name} is said", "gives no orders" in host.says(), host.says())
+                self.true(f"{name} is said", "returned no orders" in host.says(), host.says())
         self.true("why", "it took over 5 s" in host.says(), host.says())
 
     def test_a_command_whose_child_hangs(self):
@@ -482,7 +482,7 @@ class Answers(HostTest):
         one = Plain(port, SLOW)
         one.send(query("S7"))
         self.same("answered", [row[:1] for row in one.take(400)], [b"H", b"L"])
-        self.true("said", "gives no orders: it took over 5 s" in host.says(), host.says())
+        self.true("said", "returned no orders: it took over 5 s" in host.says(), host.says())
         with open(child, encoding="ascii") as pid:
             gone = f"/proc/{int(pid.read())}"
         self.true("its child is gone", wait_for(lambda: not os.path.exists(gone), 30), gone)
