@@ -369,7 +369,7 @@ class Commands(HostTest):
 
 
 #: Each timer is so many times as long where a session must not fail: 15 seconds are 1.5, for a machine that is busy.
-SLOW = 0.1
+SLOW = 0.3
 
 
 def states(store):

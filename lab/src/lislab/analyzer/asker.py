@@ -64,8 +64,10 @@ def result_texts(asked: Sequence[Asked], values: Sequence[Tuple[bytes, bytes, by
 def values_of(data: bytes) -> List[Tuple[bytes, bytes, bytes]]:
     """The values of a file with lines of `TEST,VALUE,UNIT`."""
     rows = [row.split(b",") for row in re.split(rb"\r?\n", data) if row.strip()]
-    return [(row[0].strip(), row[1].strip() if len(row) > 1 else b"", row[2].strip() if len(row) > 2 else b"")
-            for row in rows]
+    return [
+        (row[0].strip(), row[1].strip() if len(row) > 1 else b"", row[2].strip() if len(row) > 2 else b"")
+        for row in rows
+    ]
 
 
 class Asker:

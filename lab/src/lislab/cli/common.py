@@ -19,7 +19,9 @@ def say(text: str) -> None:
 class Renamed(argparse.Action):
     """An option under its old name, which this version accepts and reports; `const` is the new one."""
 
-    def __call__(self, parser: Any, namespace: argparse.Namespace, values: Any, option_string: Optional[str] = None) -> None:
+    def __call__(
+        self, parser: Any, namespace: argparse.Namespace, values: Any, option_string: Optional[str] = None
+    ) -> None:
         renamed.report(str(option_string), str(self.const))
         before = getattr(namespace, self.dest)
         setattr(namespace, self.dest, [*before, values] if isinstance(before, list) else values)

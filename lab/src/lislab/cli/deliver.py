@@ -45,7 +45,9 @@ def _add_deliver(one: argparse.ArgumentParser) -> None:
         help="write this format (oru over MLLP, fhir over HTTPS, else records)",
     )
     add_forms(one)
-    one.add_argument("--ca", metavar="FILE", help="trust the certificate authorities of this PEM file, not the system's")
+    one.add_argument(
+        "--ca", metavar="FILE", help="trust the certificate authorities of this PEM file, not the system's"
+    )
     one.add_argument("--headers", metavar="FILE", help="send these HTTP headers, rows of Name: value")
     one.add_argument(
         "--seconds", type=FACTOR, default=60.0, help="wait SECONDS for a command or an answer (%(default)s)"

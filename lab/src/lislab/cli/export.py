@@ -30,7 +30,9 @@ def add_command(commands: Any) -> None:
 
 def _add_export(one: argparse.ArgumentParser) -> None:
     add_store(one)
-    one.add_argument("--format", type=form_of, choices=export.FORMATS, default="json", help="write this format (%(default)s)")
+    one.add_argument(
+        "--format", type=form_of, choices=export.FORMATS, default="json", help="write this format (%(default)s)"
+    )
     one.add_argument("--since", metavar="TIME", help="only messages since 2026-11-27 or 2026-11-27T10:30")
     one.add_argument(
         "--after", type=PLACE, default=0, metavar="NUMBER", help="only complete messages with a greater number"
@@ -50,7 +52,12 @@ def add_forms(one: argparse.ArgumentParser) -> None:
     one.add_argument("--codes", metavar="FILE", help=what)
     file = "read every line's settings and code mapping from a lines file"
     one.add_argument("--lines", metavar="FILE", help=file)
-    one.add_argument("--controls", choices=("with", "without", "only"), default="with", help="write quality controls: with, without, only (%(default)s)")
+    one.add_argument(
+        "--controls",
+        choices=("with", "without", "only"),
+        default="with",
+        help="write quality controls: with, without, only (%(default)s)",
+    )
     one.add_argument("--fields", metavar="NAMES", help="columns of csv and tsv, as in lislab table")
     one.add_argument("--safe-cells", action="store_true", help="put an apostrophe before cells that look like formulas")
     names = "set what the receiver needs, for example MSH-5=LIS or obr=test; may be repeated"

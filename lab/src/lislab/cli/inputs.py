@@ -17,9 +17,7 @@ from .common import read_input, say
 def add_import_options(parser: argparse.ArgumentParser) -> None:
     """Adds the options that say how a log is read."""
     forms = sorted([*sniffers.FORMS, "pcap", "raw"])
-    parser.add_argument(
-        "--form", choices=forms, metavar="FORMAT", help="format of the log, if it is not recognized"
-    )
+    parser.add_argument("--form", choices=forms, metavar="FORMAT", help="format of the log, if it is not recognized")
     parser.add_argument("--analyzer-side", metavar="NAME", help="name of the analyzer's side in the log")
     parser.add_argument("--swap", action="store_true", help="treat the other side as the analyzer")
     parser.add_argument("--port", type=int, help="only this TCP port")

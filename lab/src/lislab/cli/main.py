@@ -57,7 +57,9 @@ def parser() -> argparse.ArgumentParser:
         formatter_class=argparse.RawDescriptionHelpFormatter,
     )
     top.add_argument("--version", action="version", version=f"lislab {__version__}", help="print the version")
-    parsers = top.add_subparsers(dest="command", required=True, metavar="COMMAND", prog="lislab", help=argparse.SUPPRESS)
+    parsers = top.add_subparsers(
+        dest="command", required=True, metavar="COMMAND", prog="lislab", help=argparse.SUPPRESS
+    )
     commands = Commands(parsers)
     for command in (
         *(ladder, capture, replay, normalize, table, serve, lines, send, status, export),

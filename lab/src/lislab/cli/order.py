@@ -25,13 +25,29 @@ def add_command(commands: Any) -> None:
     top = commands.add_parser("order", "add, list, cancel or resend orders")
     whats = top.add_subparsers(dest="what", required=True, metavar="COMMAND")
     _add_add(whats.add_parser("add", help="add the orders of a file", description="Add the orders of a file."))
-    _add_list(whats.add_parser("list", help="list orders with their states", description="List orders with their states.", epilog=_STATES))
-    _add_change(whats.add_parser("cancel", help="cancel orders that are not sent", description="Cancel orders that are not sent."), run_cancel)
-    _add_change(whats.add_parser("again", help="let orders wait again", description="Let orders wait again."), run_again)
+    _add_list(
+        whats.add_parser(
+            "list", help="list orders with their states", description="List orders with their states.", epilog=_STATES
+        )
+    )
+    _add_change(
+        whats.add_parser(
+            "cancel", help="cancel orders that are not sent", description="Cancel orders that are not sent."
+        ),
+        run_cancel,
+    )
+    _add_change(
+        whats.add_parser("again", help="let orders wait again", description="Let orders wait again."), run_again
+    )
 
 
 def _store(parser: argparse.ArgumentParser) -> None:
-    parser.add_argument("--store", required=True, metavar="STORE", help="use this store: an SQLite file, postgresql://.., or spool:DIRECTORY")
+    parser.add_argument(
+        "--store",
+        required=True,
+        metavar="STORE",
+        help="use this store: an SQLite file, postgresql://.., or spool:DIRECTORY",
+    )
 
 
 def _add_add(one: argparse.ArgumentParser) -> None:
@@ -53,7 +69,9 @@ def _add_list(one: argparse.ArgumentParser) -> None:
 
 def _add_change(one: argparse.ArgumentParser, run: Any) -> None:
     _store(one)
-    one.add_argument("numbers", nargs="+", type=int, metavar="NUMBER", help="number of an order, from lislab order list")
+    one.add_argument(
+        "numbers", nargs="+", type=int, metavar="NUMBER", help="number of an order, from lislab order list"
+    )
     one.set_defaults(run=run)
 
 

@@ -46,7 +46,9 @@ def add_command(commands: Any) -> None:
         "--same-but", default="", metavar="FIELDS", help="let these fields differ in all frames, for example DATE,H.5"
     )
     one.add_argument("--store", metavar="STORE", help="check stored records (step K) in this store of lislab serve")
-    one.add_argument("--kept", metavar="COMMAND", help="check stored records (step K) by this command, which prints them")
+    one.add_argument(
+        "--kept", metavar="COMMAND", help="check stored records (step K) by this command, which prints them"
+    )
     one.add_argument("--restart", metavar="COMMAND", help="restart the other end (step R) by this command")
     one.add_argument("--report", metavar="FILE", help="write an HTML report with a place for signatures")
     one.add_argument("--junit", metavar="FILE", help="write the results as JUnit XML")

@@ -22,14 +22,26 @@ def _add_send(one: argparse.ArgumentParser) -> None:
     one.add_argument("--to", metavar="HOST:PORT", help="connect to a host's TCP port")
     one.add_argument("--serial", metavar="DEVICE:SPEED[,mode=8N1][,flow=..]", help="open a serial port")
     one.add_argument(
-        "--tries", type=PLACE, default=10, metavar="N", help="try N times to send a message; 0 is no limit (%(default)s)"
+        "--tries",
+        type=PLACE,
+        default=10,
+        metavar="N",
+        help="try N times to send a message; 0 is no limit (%(default)s)",
     )
-    one.add_argument("--rate", type=SECONDS, default=0.0, metavar="N", help="send at most N messages per second and analyzer")
-    one.add_argument("--analyzers", type=COUNT, default=1, metavar="N", help="simulate N analyzers, each of which sends everything")
+    one.add_argument(
+        "--rate", type=SECONDS, default=0.0, metavar="N", help="send at most N messages per second and analyzer"
+    )
+    one.add_argument(
+        "--analyzers", type=COUNT, default=1, metavar="N", help="simulate N analyzers, each of which sends everything"
+    )
     one.add_argument("--made", type=COUNT, metavar="N", help="send N generated messages per analyzer, and no file")
     one.add_argument("--seconds", type=FACTOR, metavar="S", help="stop after S seconds")
     one.add_argument(
-        "--query", action="append", default=[], metavar="SAMPLE", help="query the orders of a sample, or of ALL; may be repeated"
+        "--query",
+        action="append",
+        default=[],
+        metavar="SAMPLE",
+        help="query the orders of a sample, or of ALL; may be repeated",
     )
     add_renamed(one, "send", "--ask", metavar="SAMPLE")
     one.add_argument("--results", metavar="FILE", help="with --query: send results, from rows TEST,VALUE,UNIT")

@@ -67,8 +67,12 @@ def _add_serve(one: argparse.ArgumentParser) -> None:
     answers = "answer queries by this command, which reads a query and prints records"
     one.add_argument("--query-command", metavar="COMMAND", help=answers)
     add_renamed(one, "serve", "--ask", metavar="COMMAND")
-    one.add_argument("--tries", type=PLACE, default=10, metavar="N", help="try N times to send an order; 0 is no limit (%(default)s)")
-    one.add_argument("--capture", metavar="PREFIX", help="record the traffic of every connection to PREFIX-NAME-TIME-N.capture")
+    one.add_argument(
+        "--tries", type=PLACE, default=10, metavar="N", help="try N times to send an order; 0 is no limit (%(default)s)"
+    )
+    one.add_argument(
+        "--capture", metavar="PREFIX", help="record the traffic of every connection to PREFIX-NAME-TIME-N.capture"
+    )
     one.add_argument("--status", metavar="FILE", help="write the state for lislab status to FILE (STORE.status)")
     add_scale(one)
     one.set_defaults(run=run_serve)
@@ -132,9 +136,7 @@ def _asked_of(ask: argparse.Namespace) -> serve.Asked:
     return asked._replace(again=functools.partial(_asked_of, ask)) if files else asked
 
 
-def _outbox_of(
-    ask: argparse.Namespace, places: Sequence[Place]
-) -> Optional[Callable[[Callable[[str], None]], Outbox]]:
+def _outbox_of(ask: argparse.Namespace, places: Sequence[Place]) -> Optional[Callable[[Callable[[str], None]], Outbox]]:
     """A function that makes the outbox of a host, if a line has orders."""
     command = shlex.split(ask.query_command or "")
     if not any(place.orders for place in places):

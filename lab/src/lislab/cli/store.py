@@ -31,7 +31,9 @@ def add_command(commands: Any) -> None:
     ):
         one = deeds.add_parser(name, help=what, description=f"{what[0].upper()}{what[1:]}.")
         one.add_argument("--store", required=True, metavar="FILE", help="an SQLite file")
-        one.add_argument("--cursor", action="append", default=[], metavar="FILE", help="the cursor of a delivery; may be repeated")
+        one.add_argument(
+            "--cursor", action="append", default=[], metavar="FILE", help="the cursor of a delivery; may be repeated"
+        )
         one.add_argument("copy", metavar="COPY", help="the file of the copy")
         one.set_defaults(run=run)
     for name, run, what in (

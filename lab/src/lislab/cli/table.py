@@ -15,11 +15,11 @@ def add_command(commands: Any) -> None:
 
 
 def _add_table(one: argparse.ArgumentParser) -> None:
-    one.add_argument(
-        "records", nargs="*", help="files of records, captures or logs (standard input)"
-    )
+    one.add_argument("records", nargs="*", help="files of records, captures or logs (standard input)")
     one.add_argument("-o", "--output", metavar="FILE", help="write to FILE, readable only by its owner")
-    one.add_argument("--format", type=table.form_of, choices=table.FORMS, default="csv", help="write this format (%(default)s)")
+    one.add_argument(
+        "--format", type=table.form_of, choices=table.FORMS, default="csv", help="write this format (%(default)s)"
+    )
     one.add_argument(
         "--fields",
         metavar="NAMES",

@@ -51,8 +51,16 @@ def add_command(commands: Any) -> None:
         metavar="NETWORK",
         help="with --http: let this network connect too; may be repeated",
     )
-    one.add_argument("--token", metavar="FILE", help="with --http: the file of the token (password) for pages with records")
-    one.add_argument("--cursor", action="append", default=[], metavar="FILE", help="also show the delivery with this cursor; may be repeated")
+    one.add_argument(
+        "--token", metavar="FILE", help="with --http: the file of the token (password) for pages with records"
+    )
+    one.add_argument(
+        "--cursor",
+        action="append",
+        default=[],
+        metavar="FILE",
+        help="also show the delivery with this cursor; may be repeated",
+    )
     one.set_defaults(run=run_watch)
 
 
@@ -224,4 +232,3 @@ def _ladder(host: Host, line: str, every: float) -> int:
         if row:
             _print([row])
     return GOOD
-

@@ -97,8 +97,10 @@ def _is_due(message: Message) -> bool:
     return not message.findings() and not any(
         row.letter in "MS"
         or row.text[-1:] == row.delimiters[2:3]
-        or row.letter == "R" and not row.written(4)
-        or row.letter == "C" and row.written(3) not in (b"I", b"L", b"P")
+        or row.letter == "R"
+        and not row.written(4)
+        or row.letter == "C"
+        and row.written(3) not in (b"I", b"L", b"P")
         for row in rows
     )
 

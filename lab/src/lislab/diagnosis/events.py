@@ -92,8 +92,20 @@ class Closed(NamedTuple):
 
 
 Event = Union[
-    Came, Sent, Meant, TimerOver, Noise, NotKept, MessageEnded, Late, Restarted, OwnAnswered, OwnFailed, ReplyAfterAll,
-    Looked, Closed,
+    Came,
+    Sent,
+    Meant,
+    TimerOver,
+    Noise,
+    NotKept,
+    MessageEnded,
+    Late,
+    Restarted,
+    OwnAnswered,
+    OwnFailed,
+    ReplyAfterAll,
+    Looked,
+    Closed,
 ]
 #: What an observer does at each kind of event. It isn't called for a kind that it lacks.
 Sees = Mapping[Type[Event], Callable[..., object]]

@@ -173,8 +173,7 @@ def cause_of_record(error: MessageError, record: bytes, is_rest: bool = False) -
         if record[:1] in b"PORCQMSL" and record[:1]:
             return RecordCause(
                 "no-header",
-                f"a record {record[:1].decode()} outside a message: the header is missing, or a "
-                "record is after L",
+                f"a record {record[:1].decode()} outside a message: the header is missing, or a " "record is after L",
                 ["--behind-l"],
             )
         return _bad_record(Status.BAD_LETTER, error, record)

@@ -121,9 +121,7 @@ def time_text(time: Optional[int]) -> str:
     if time is None:
         return ""
     days, rest = divmod(time, _DAY)
-    clock = (
-        f"{rest // SECOND // 3600:02}:{rest // SECOND // 60 % 60:02}:{rest // SECOND % 60:02}.{rest % SECOND:09}"
-    )
+    clock = f"{rest // SECOND // 3600:02}:{rest // SECOND // 60 % 60:02}:{rest // SECOND % 60:02}.{rest % SECOND:09}"
     clock = clock[:-3] if clock.endswith("000") else clock
     return f"{datetime.date.fromordinal(days + 719163)}T{clock}" if days > 3 else clock
 

@@ -12,7 +12,19 @@ from ..model.book import Failed
 from ..model.said import many
 from ..model.store import COMPLETE, FIXED, StoreError
 from .events import (
-    Came, Closed, Late, Looked, Meant, MessageEnded, Noise, NotKept, OwnAnswered, OwnFailed, Restarted, Sees, Sent,
+    Came,
+    Closed,
+    Late,
+    Looked,
+    Meant,
+    MessageEnded,
+    Noise,
+    NotKept,
+    OwnAnswered,
+    OwnFailed,
+    Restarted,
+    Sees,
+    Sent,
 )
 from .faults import Cause, cause_of_frame
 from .protocols import has_bare_frames, is_hl7, parity_of, telnet_in

@@ -153,13 +153,9 @@ class Ladder:
         self, number: int, time: Optional[int], side: str, kind: str, title: str, meaning: Meaning, raw: bytes = b""
     ) -> None:
         """A row at the end to which no answer is due."""
-        self.rows.append(
-            Row(number, time, side, kind, title, meaning.says(), meaning.level, raw, meaning=meaning)
-        )
+        self.rows.append(Row(number, time, side, kind, title, meaning.says(), meaning.level, raw, meaning=meaning))
 
-    def _insert_dropped(
-        self, begun: Tuple[int, Optional[int], int], piece: bytes, meaning: Meaning
-    ) -> None:
+    def _insert_dropped(self, begun: Tuple[int, Optional[int], int], piece: bytes, meaning: Meaning) -> None:
         """A frame that no LF ends, at the row where it began."""
         line, since, place = begun
         row = Row(line, since, ">", "dropped", words(piece), meaning.says(), BAD, piece, meaning=meaning)

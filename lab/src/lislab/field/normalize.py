@@ -70,9 +70,7 @@ def _bytes(work: Work) -> None:
     """Bytes that no record holds, over the whole input."""
     if work.data[:2] in (b"\xff\xfe", b"\xfe\xff") and work.wants("bom", 1):
         text = work.data.decode("utf-16", "replace")
-        work.data = (
-            text.encode("latin-1", "replace") if all(ord(one) < 256 for one in text) else text.encode("utf-8")
-        )
+        work.data = text.encode("latin-1", "replace") if all(ord(one) < 256 for one in text) else text.encode("utf-8")
         work.tell(1, "the file was UTF-16, and is one byte a character now")
     if work.data[:3] == b"\xef\xbb\xbf" and work.wants("bom", 1):
         work.data = work.data[3:]
@@ -186,11 +184,7 @@ def _headers(work: Work, records: List[Record]) -> Iterator[Record]:
                         "HL7's delimiters |^~\\& became repeat ~, component ^, escape \\: the header has H|~^\\",
                     )
                     record = record[:1] + b"|~^\\" + record[6:]
-            elif (
-                record[5:6] not in (delimiter, b"")
-                and record[6:7] in (delimiter, b"")
-                and not record[5:6].isalnum()
-            ):
+            elif record[5:6] not in (delimiter, b"") and record[6:7] in (delimiter, b"") and not record[5:6].isalnum():
                 if work.wants("header-5", number):
                     work.tell(number, f"the header's fifth delimiter byte '{words(record[5:6])}' was left out")
                     record = record[:5] + record[6:]

@@ -96,9 +96,7 @@ def _pcapng(data: bytes, remarks: List[str]) -> Iterator[Packet]:
                 raise LogError("the pcapng has a packet of no interface")
             link, unit, offset = links[number]
             ticks = (high << 32) + low
-            yield Packet(
-                ticks * SECOND // unit + offset * SECOND, link, body[20 : 20 + kept], max(length - kept, 0)
-            )
+            yield Packet(ticks * SECOND // unit + offset * SECOND, link, body[20 : 20 + kept], max(length - kept, 0))
         elif kind == 3 and links:
             length = struct.unpack_from(order + "I", body, 0)[0]
             yield Packet(None, links[0][0], body[4 : 4 + length], max(length - len(body) + 4, 0))
@@ -170,9 +168,7 @@ def segment_of(packet: Packet) -> Optional[Segment]:
         raise LogError(f"{lacking} bytes of a packet weren't recorded: capture complete packets (tcpdump -s 0)")
     source_port, target_port, sequence, acknowledged = struct.unpack_from(">HHII", ip, start)
     data = ip[start + (ip[start + 12] >> 4) * 4 : end]
-    return Segment(
-        packet.time, source, source_port, target, target_port, sequence, ip[start + 13], data, acknowledged
-    )
+    return Segment(packet.time, source, source_port, target, target_port, sequence, ip[start + 13], data, acknowledged)
 
 
 class Connection:
@@ -232,9 +228,7 @@ class Connection:
         """At the end of the file: what waits is taken, and the bytes before it are passed over."""
         for side, waiting in self.waiting.items():
             while waiting:
-                self._jump(
-                    side, min((sequence - self.due[side]) & 0xFFFFFFFF for sequence, _ in waiting), self.ended
-                )
+                self._jump(side, min((sequence - self.due[side]) & 0xFFFFFFFF for sequence, _ in waiting), self.ended)
 
     def _take_waiting(self, side: str, time: Optional[int]) -> None:
         """Takes what waits, as far as no byte is missing before it."""

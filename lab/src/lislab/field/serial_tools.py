@@ -72,9 +72,7 @@ def strace(text: str, fd: Optional[int] = None) -> Log:
         if resumed:
             begun, _ = open_calls.pop(key, ("", 0))
             before = re.sub(r",\s*$", "", begun)
-            line = (
-                (before + "," if begun.endswith(",") or begun != before else before) + " " + resumed[1].lstrip(", ")
-            )
+            line = (before + "," if begun.endswith(",") or begun != before else before) + " " + resumed[1].lstrip(", ")
         if re.search(r'".*\)\s*=\s*[1-9]', line) and _NO_DESCRIPTOR.search(line):
             left.append(number)
         _put_call(line, number, found)
@@ -120,9 +118,7 @@ def _descriptor(found: Dict[int, List[Piece]], fd: Optional[int]) -> List[Piece]
     if fd is not None and fd not in found:
         raise LogError(f"descriptor {fd} is neither read nor written in the log")
     likes = {one: likeness([piece for piece in pieces if piece.side not in _WHY]) for one, pieces in found.items()}
-    linked = [
-        one for one, like in likes.items() if one == fd or fd is None and like and like == max(likes.values())
-    ]
+    linked = [one for one, like in likes.items() if one == fd or fd is None and like and like == max(likes.values())]
     if not linked:
         raise LogError("no descriptor carries ENQ or STX")
     if len(linked) > 1:
@@ -206,9 +202,7 @@ _HEADS = [
 ]
 
 
-_ROW_OFFSET = re.compile(
-    r"^\s*(?:0x)?[0-9a-fA-F]{4,8}(?:[:h]\s{1,3}(?=[0-9a-fA-F]{2})|\s{1,3}(?=[0-9a-fA-F]{2}\s))"
-)
+_ROW_OFFSET = re.compile(r"^\s*(?:0x)?[0-9a-fA-F]{4,8}(?:[:h]\s{1,3}(?=[0-9a-fA-F]{2})|\s{1,3}(?=[0-9a-fA-F]{2}\s))")
 
 
 def is_blocks(text: str) -> bool:

@@ -109,9 +109,7 @@ def form_of(text: str) -> str:
         if re.search(pattern, text, re.M):
             raise LogError(why)
     if serial_tools.is_hex_dump(text) and not re.search(FORMS["wireshark-hex"][0], text, re.M):
-        return (
-            "hex" if not re.search(FORMS["packet-text"][0], text, re.M) or not _is_ethernet(text) else "packet-text"
-        )
+        return "hex" if not re.search(FORMS["packet-text"][0], text, re.M) or not _is_ethernet(text) else "packet-text"
     for name, (pattern, _) in FORMS.items():
         if name == "tshark-fields" and serial_tools.is_blocks(text):
             return "blocks"
@@ -157,9 +155,7 @@ def _read_log(data: bytes, ask: Options) -> Log:
         raise LogError("the file is empty")
     if ask.form in ("pcap", None) and packets.is_packets(data):
         remarks: List[str] = []
-        log = packets.read_packets(
-            packets.packets_of(data, remarks), "pcap", ask.stream, ask.port, ask.skip_missing
-        )
+        log = packets.read_packets(packets.packets_of(data, remarks), "pcap", ask.stream, ask.port, ask.skip_missing)
         return log._replace(remarks=log.remarks + remarks)
     if ask.form == "raw" or ask.form is None and _is_raw(data):
         mixed = traces.with_control_bytes(data) if ask.form is None else None
@@ -283,9 +279,7 @@ def _analyzer(pieces: List[Piece], sides: List[str], ask: Options, remarks: List
             remarks.append(f"the analyzer is {senders[0]!r}: it alone sends {name}")
             return senders[0]
         if len(senders) > 1 and byte == ENQ:
-            telling = [
-                one for one in senders if re.search(rb"(?:[\x02][0-7]|\r)[RQrq][|!-/:-@\[-`{-~]", joined[one])
-            ]
+            telling = [one for one in senders if re.search(rb"(?:[\x02][0-7]|\r)[RQrq][|!-/:-@\[-`{-~]", joined[one])]
             if len(telling) == 1:
                 remarks.append(
                     f"both sides send ENQ; the analyzer is {telling[0]!r}: it alone sends results or queries "
@@ -306,13 +300,7 @@ def _grouped(pieces: List[Piece]) -> List[Piece]:
     told: List[Piece] = []
     single = False
     for piece in pieces:
-        if (
-            told
-            and single
-            and len(piece.data) == 1
-            and piece.side == told[-1].side != NEW
-            and not _ends(told[-1].data)
-        ):
+        if told and single and len(piece.data) == 1 and piece.side == told[-1].side != NEW and not _ends(told[-1].data):
             told[-1] = told[-1]._replace(data=told[-1].data + piece.data)
             continue
         single = len(piece.data) == 1
@@ -358,12 +346,7 @@ def _lines(pieces: List[Piece], analyzer: str, timer: Optional[float]) -> Captur
             continue
         mark = ">" if piece.side == analyzer else "<"
         if mark == ">":
-            if (
-                timer is not None
-                and last is not None
-                and piece.time is not None
-                and piece.time - last > timer * SECOND
-            ):
+            if timer is not None and last is not None and piece.time is not None and piece.time - last > timer * SECOND:
                 lines.append(Line("T"))
                 times.append(last + int(timer * SECOND))
             last = piece.time

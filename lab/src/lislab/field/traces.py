@@ -26,15 +26,11 @@ _NAME = r"[\w.:@/\-]*[\w.@/]"
 #: Directions, the surest first. A named arrow says who sends.
 _MARKS: List[Tuple["re.Pattern[str]", Callable[["re.Match[str]"], str]]] = [
     (
-        re.compile(
-            r"(?P<a>%s)\s*(?:-{1,3}>|={1,3}>|→|»|⇒)\s*(?P<b>%s)(?=\s*(?:[:|\-=,\])]|\s|$))" % (_NAME, _NAME)
-        ),
+        re.compile(r"(?P<a>%s)\s*(?:-{1,3}>|={1,3}>|→|»|⇒)\s*(?P<b>%s)(?=\s*(?:[:|\-=,\])]|\s|$))" % (_NAME, _NAME)),
         lambda found: found["a"],
     ),
     (
-        re.compile(
-            r"(?P<a>%s)\s*(?:<-{1,3}|<={1,3}|←|«|⇐)\s*(?P<b>%s)(?=\s*(?:[:|\-=,\])]|\s|$))" % (_NAME, _NAME)
-        ),
+        re.compile(r"(?P<a>%s)\s*(?:<-{1,3}|<={1,3}|←|«|⇐)\s*(?P<b>%s)(?=\s*(?:[:|\-=,\])]|\s|$))" % (_NAME, _NAME)),
         lambda found: found["b"],
     ),
     (re.compile(r"(?P<a>[\w.\-]+[.:]\d+)\s+>\s+(?P<b>[\w.\-]+[.:]\d+)(?=\s*:|\s|$)"), lambda found: found["a"]),
@@ -239,9 +235,7 @@ def _grammar_of(text: str) -> Grammar:
     return grammar._replace(read=lambda rest: escaped_words(_unquoted(rest), way) or None)
 
 
-def _marked(
-    full: List[Tuple[int, str]], marked: List[Optional[Tuple[str, str, bytes]]], grammar: Grammar
-) -> Log:
+def _marked(full: List[Tuple[int, str]], marked: List[Optional[Tuple[str, str, bytes]]], grammar: Grammar) -> Log:
     """A log whose lines have directions, as they were found; a line without one may go on the one before."""
     pieces: List[Piece] = []
     left: List[int] = []
@@ -293,9 +287,7 @@ def _no_text_around(pieces: List[Piece]) -> None:
             if piece.side == side and 2 not in piece.data and re.search(rb"[\x05\x06\x15]", piece.data)
         ]
         if short and not any(re.match(rb"[\x04-\x06\x15]+$", data) for data in short):
-            raise LogError(
-                f"each reply has text around it: what belongs to the line isn't clear ({short[0][:40]!r})"
-            )
+            raise LogError(f"each reply has text around it: what belongs to the line isn't clear ({short[0][:40]!r})")
 
 
 def _with_line_ends(pieces: List[Piece], remarks: List[str]) -> List[Piece]:
@@ -383,9 +375,7 @@ def with_control_bytes(data: bytes) -> Optional[Log]:
     """A log of text in which the bytes of the line are as they came, control bytes too: an entry begins at each line
     with a time, or at its start, and a direction, and holds all up to the next one. None if the bytes are no such
     log."""
-    entries: List[
-        Tuple[int, int, str, Optional[int]]
-    ] = []  # where the line and its bytes begin, the side, the time
+    entries: List[Tuple[int, int, str, Optional[int]]] = []  # where the line and its bytes begin, the side, the time
     at = 0
     for row in data.split(b"\n"):
         head = re.split(rb"[\x00-\x08\x0e-\x1f]", row[:160])[0].decode("latin-1")
@@ -400,9 +390,7 @@ def with_control_bytes(data: bytes) -> Optional[Log]:
     before = data[: entries[0][0]]
     if re.search(rb"[\x02-\x06\x15\x17]", before):
         raise LogError("bytes of a line are before the first line with a direction", 1)
-    bodies = [
-        data[start:end] for (_, start, _, _), end in zip(entries, [one[0] for one in entries[1:]] + [len(data)])
-    ]
+    bodies = [data[start:end] for (_, start, _, _), end in zip(entries, [one[0] for one in entries[1:]] + [len(data)])]
     ends = [found[1] for found in (re.match(rb"[\x04-\x06\x15](\r?\n)\Z", body) for body in bodies) if found]
     end_of_line = max(set(ends), key=ends.count) if ends else b"\n"
     pieces = []
@@ -448,9 +436,7 @@ def _split(line: str, grammar: Grammar) -> Optional[Tuple[str, str, bytes]]:
             body = rest[separator.end() :] if separator else rest
             if grammar.name == "words":
                 body = rest[len(rest) - len(rest.lstrip()) :]
-                body = re.sub(
-                    r"^(?:\(?\d+\s*(?:bytes?|chars?)\)?)?[:\-=|,\]]*(?:\s*[:\-|])?\s?", "", body, flags=re.I
-                )
+                body = re.sub(r"^(?:\(?\d+\s*(?:bytes?|chars?)\)?)?[:\-=|,\]]*(?:\s*[:\-|])?\s?", "", body, flags=re.I)
             body = _CLOCK_FIRST.sub("", body)
             data = grammar.read(body)
             if not data:
@@ -470,9 +456,7 @@ def _is_head(text: str) -> bool:
 
 
 _NAME_FIRST = r"\W*(?:[\d/.\-]*[ T]?\d{1,2}:\d\d:\d\d(?:[.,]\d+)?)?\W*([A-Za-z][\w ]{0,24}?)\s*"
-_NAMED, _NAMED_HEX = re.compile(_NAME_FIRST + r"[:>|\]]+\s*(.+)$"), re.compile(
-    _NAME_FIRST + r"(?:[:>|\]]+\s*|\s)(.+)$"
-)
+_NAMED, _NAMED_HEX = re.compile(_NAME_FIRST + r"[:>|\]]+\s*(.+)$"), re.compile(_NAME_FIRST + r"(?:[:>|\]]+\s*|\s)(.+)$")
 
 
 def _named(read: List[Tuple[int, str]], grammar: Grammar, others: List[Tuple[int, str]]) -> Optional[Log]:

@@ -166,8 +166,7 @@ def _rows(text: str) -> Tuple[List[Tuple[int, List[str]]], List[str]]:
     first = lines[0][1]
     separator = next((one for one in "\t;|," if one in first), "\t")
     rows = [
-        (number, row)
-        for (number, _), row in zip(lines, csv.reader((line for _, line in lines), delimiter=separator))
+        (number, row) for (number, _), row in zip(lines, csv.reader((line for _, line in lines), delimiter=separator))
     ]
     names: List[str] = []
     if rows and any("." in one and re.match(r"[a-z_]+(\.[a-z_0-9]+)+$", one.strip()) for one in rows[0][1]):
@@ -188,9 +187,7 @@ def _payload(rows: List[Tuple[int, List[str]]], names: List[str]) -> int:
     raise LogError("no column holds bytes: ask tshark for -e tcp.payload")
 
 
-def _side_columns(
-    rows: List[Tuple[int, List[str]]], payload: int, names: List[str], port: Optional[int]
-) -> List[int]:
+def _side_columns(rows: List[Tuple[int, List[str]]], payload: int, names: List[str], port: Optional[int]) -> List[int]:
     wanted = [names.index(name) for name in ("ip.src", "ipv6.src", "tcp.srcport") if name in names]
     if wanted:
         return wanted
@@ -323,9 +320,7 @@ def wireshark_text(text: str, port: Optional[int] = None, stream: Optional[int] 
             lacking += data is not None or head is not None and head[4] != "0"
             continue
         if data[1] or len(_bytes(data[2].rstrip(".…"))) != int(head[4]):
-            raise LogError(
-                "the text has a part of a packet's bytes alone: export them whole (tshark -x), or as pcap"
-            )
+            raise LogError("the text has a part of a packet's bytes alone: export them whole (tshark -x), or as pcap")
         time = re.search(r"(?:Arrival Time|UTC Arrival Time|Epoch Arrival Time|Epoch Time): (.*)", block)
         told.append(
             {

@@ -41,7 +41,9 @@ def _echo(word: str) -> Tuple[int, int]:
     """The field, and the first component of Q-3, of `O.3` or `O.4:4`."""
     found = re.match(r"O\.([34])(?::([1-9]\d?))?$", word)
     if not found:
-        raise ValueError(f"{word}: expected O.3 or O.4, or with the first component of Q-3 to return, for example O.4:4")
+        raise ValueError(
+            f"{word}: expected O.3 or O.4, or with the first component of Q-3 to return, for example O.4:4"
+        )
     return int(found[1]), int(found[2] or 1)
 
 

@@ -127,8 +127,9 @@ class OrderBook:
         rows = self._store.run(f"SELECT number FROM orders WHERE {held} ORDER BY number", (self._host,)).fetchall()
         self.left = [int(number) for (number,) in rows]
         self._store.run(f"UPDATE orders SET holder = '', reason = ? WHERE {held}", (PERHAPS, self._host))
-        self._store.run(f"UPDATE orders SET seat = '' WHERE substr(seat, 1, {len(self._host) + 1}) = ?",
-                        (self._host + "/",))
+        self._store.run(
+            f"UPDATE orders SET seat = '' WHERE substr(seat, 1, {len(self._host) + 1}) = ?", (self._host + "/",)
+        )
 
     def is_there(self) -> bool:
         """Whether there is a table of orders."""

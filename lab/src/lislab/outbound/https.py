@@ -93,7 +93,9 @@ class Https:
         if not parts.hostname or parts.username or parts.fragment or re.search(r"[^!-~]", url):
             raise OptionError(f"{url}: expected https://HOST[:PORT]/PATH")
         if parts.scheme == "http" and not is_loopback(parts.hostname):
-            raise OptionError(f"{url}: http:// isn't encrypted: it is only for this machine, for example http://127.0.0.1")
+            raise OptionError(
+                f"{url}: http:// isn't encrypted: it is only for this machine, for example http://127.0.0.1"
+            )
         self._where = parts.netloc
         self._path = (parts.path or "/") + (f"?{parts.query}" if parts.query else "")
         self._headers, self._seconds, self._is_late = headers, seconds, False
@@ -101,9 +103,7 @@ class Https:
             if parts.scheme == "http":
                 self._line = http.client.HTTPConnection(parts.hostname, parts.port, timeout=seconds)
             else:
-                self._line = http.client.HTTPSConnection(
-                    parts.hostname, parts.port, timeout=seconds, context=context
-                )
+                self._line = http.client.HTTPSConnection(parts.hostname, parts.port, timeout=seconds, context=context)
         except ValueError:
             raise OptionError(f"{url}: expected a port from 1 to 65535") from None
         self._line.response_class = _Answer

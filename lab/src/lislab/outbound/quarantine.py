@@ -34,9 +34,7 @@ class Held(NamedTuple):
 class Quarantine:
     """The quarantine of a delivery. Only the process that has the cursor changes it."""
 
-    def __init__(
-        self, cursor: str, most: int = 0, reading: Callable[[str], Reading] = lambda line: Reading()
-    ) -> None:
+    def __init__(self, cursor: str, most: int = 0, reading: Callable[[str], Reading] = lambda line: Reading()) -> None:
         #: A message is quarantined after so many failures; never if it is 0.
         self.most = most
         self.path, self._earlier = cursor + QUARANTINE, cursor + EARLIER

@@ -35,6 +35,7 @@ def from_command(words: str) -> Source:
 
 def from_store(name: str) -> Source:
     """The messages in a store of `lislab serve`, complete or not."""
+
     def read() -> bytes:
         try:
             store = open_store(name)

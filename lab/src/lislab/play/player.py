@@ -318,4 +318,3 @@ class Player:
             self._note(step.line, "-", b"", "30 seconds go by, in place of a restart")
         else:
             self._connect_again("a new connection, in place of a restart")
-

@@ -121,4 +121,3 @@ def junit_of(plays: Sequence[Played]) -> str:
 def _clean(text: str) -> str:
     """Text without what XML can't have."""
     return _BAD.sub("?", text)
-

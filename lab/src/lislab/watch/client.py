@@ -96,4 +96,3 @@ def rows_of(data: Dict[str, Any]) -> List[str]:
         return rows or ["no line is known"]
     head = "the host runs, and doesn't answer" if data["held"] else Verdict.HOST_DOWN.live
     return [f"{head}: {shown(data['why'])}" if data["held"] else head, *rows]
-

@@ -84,8 +84,12 @@ def _of_host(out: Metrics, data: Mapping[str, Any]) -> None:
         ("lislab_start_time_seconds", "gauge", "When the host started.", data["begun"]),
         ("lislab_commits_total", "counter", "Commits of the store.", data["commits"]),
         ("lislab_commits_failed_total", "counter", "Commits that failed.", data["failed_commits"]),
-        ("lislab_refused_connections_total", "counter", "Connections that were closed at once.",
-         data["refused_connections"]),
+        (
+            "lislab_refused_connections_total",
+            "counter",
+            "Connections that were closed at once.",
+            data["refused_connections"],
+        ),
     ):
         out.add(name, kind, words)
         out.sample(name, value)

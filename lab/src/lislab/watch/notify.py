@@ -35,7 +35,9 @@ class Notifier:
 
     def see_nothing(self, why: str) -> None:
         """Neither the host answers, nor its store."""
-        self._see({"": {"state": "bad", "verdict": "host-down", "says": f"the host doesn't answer, nor its store: {why}"}})
+        self._see(
+            {"": {"state": "bad", "verdict": "host-down", "says": f"the host doesn't answer, nor its store: {why}"}}
+        )
 
     def _see(self, lines: Mapping[str, Any]) -> None:
         for name, one in lines.items():

@@ -178,7 +178,9 @@ def text_of(data: Dict[str, Any]) -> str:
         for each in one["quarantined"]:
             rows += [f"  {each['key']} failed {many(each['tries'], 'time')}: {each['why']}"] if each["tries"] else []
     for name, settings in sorted(data["would"].items()):
-        rows += [f"{name}: {setting} would deliver {many(count, 'message')}" for setting, count in sorted(settings.items())]
+        rows += [
+            f"{name}: {setting} would deliver {many(count, 'message')}" for setting, count in sorted(settings.items())
+        ]
     for name, codes in sorted(data["unknown_codes"].items()):
         lacking = ", ".join(f"{code} {count}" for code, count in codes.items())
         rows.append(f"{name}: codes that its code mapping lacks: {lacking}")

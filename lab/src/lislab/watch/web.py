@@ -32,8 +32,11 @@ SECONDS, AT_ONCE, OF_ONE, FRESH, DRAWN, LISTED = 10.0, 64, 16, 1.0, 16 << 10, 20
 #: What has nothing of what a record says, and is shown on this machine without a token.
 OPEN = ("/", "/metrics", "/style.css", "/live.js")
 HEADS = (
-    ("Content-Security-Policy", "default-src 'none'; style-src 'self'; script-src 'self'; connect-src 'self'; "
-     "img-src data:; base-uri 'none'; form-action 'none'; frame-ancestors 'none'"),
+    (
+        "Content-Security-Policy",
+        "default-src 'none'; style-src 'self'; script-src 'self'; connect-src 'self'; "
+        "img-src data:; base-uri 'none'; form-action 'none'; frame-ancestors 'none'",
+    ),
     ("X-Content-Type-Options", "nosniff"),
     ("Referrer-Policy", "no-referrer"),
     ("Cross-Origin-Resource-Policy", "same-origin"),
