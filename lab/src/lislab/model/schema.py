@@ -55,7 +55,7 @@ _STATE = (
 _REASON = "CASE WHEN substr(reason, 1, 6) = 'mended' THEN 'fixed' || substr(reason, 7) ELSE reason END"
 _STATES = f"state IN ('{OPEN}', '{COMPLETE}', '{INCOMPLETE}', '{INVALID}')"
 _NUMBERED = f"(number IS NOT NULL) = (state = '{COMPLETE}')"
-_NOT_COMPLETE = f"CREATE INDEX message_not_complete ON message (began) WHERE state <> '{COMPLETE}'"
+_NOT_COMPLETE = f"CREATE INDEX IF NOT EXISTS message_not_complete ON message (began) WHERE state <> '{COMPLETE}'"
 #: The messages of a store of an earlier version in the words of this one.
 EARLIER_MESSAGES = (
     f"SELECT {COLUMNS.replace('state', f'{_STATE} AS state').replace('reason', f'{_REASON} AS reason')} FROM"
@@ -75,6 +75,6 @@ STATES_OF_POSTGRESQL = (
     f"UPDATE message SET state = {_STATE}, reason = {_REASON}",
     f"ALTER TABLE message ADD CONSTRAINT message_state_check CHECK ({_STATES}),"
     f" ADD CONSTRAINT message_check CHECK ({_NUMBERED})",
-    "DROP INDEX message_not_whole",
+    "DROP INDEX IF EXISTS message_not_whole",
     _NOT_COMPLETE,
 )
