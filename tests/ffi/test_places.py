@@ -53,7 +53,7 @@ class Places(kit.Test):
                                           (header + b"P" * 65537, 2, Reason.TOO_LONG, 1)):
             status, message, found, out = placed(text, 12)
             self.same(reason.name, (status, message.count, message.len, found.number, found.reason),
-                      (Status.INCOMPLETE, 0, 0, number, reason))
+                      (Status.UNFINISHED, 0, 0, number, reason))
             self.check(GUARD not in out[:PLACE * put], f"{reason.name}: the records before it are put")
             self.same(f"{reason.name}: past them", set(out[PLACE * put:]), {GUARD})
         status, message, found, _ = placed(b"", 1)
