@@ -52,9 +52,9 @@ int main(int count, char **words) {
     if (line < 0)
         return std::perror("quick_send"), 1;
     lislink::sender sender;
-    for (std::string record; std::getline(file, record, '\r');)
-        sender.add(record + '\r');
     try {
+        for (std::string record; std::getline(file, record, '\r');)
+            sender.add(record + '\r');
         run(line, sender);
     } catch (const lislink::error &fault) {    // no session started
         return std::fprintf(stderr, "quick_send: %s\n", fault.what()), 1;

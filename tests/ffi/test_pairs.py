@@ -133,7 +133,9 @@ class Pairs(kit.Test):
         path = f"{self.work}/wrong.records"
         with open(path, "wb") as file:
             file.write(b"H|\\^&\rP|1\n\r")
-        host = self.host(program, path)
-        status, said = host.end()
-        self.check(status == 1 and b"no text may hold" in said, f"{name}: a record that can't be sent", repr(said))
+        with socket.create_server(("127.0.0.1", 0)) as server:
+            words = [program, f"127.0.0.1:{server.getsockname()[1]}", path]
+            ran = subprocess.run(words, capture_output=True, timeout=PATIENCE, env=self.env)
+        said = ran.stdout + ran.stderr
+        self.check(ran.returncode == 1 and b"no text may hold" in said, f"{name}: a record that can't be sent", repr(said))
 
