@@ -207,7 +207,7 @@ FAULTS = {
     "test_lines.Lines.test_observers": Edit("diagnosis/events.py", "except Exception as error:", "except OSError as error:"),
     "test_lines.Lines.test_giving_way": Edit("host/line.py", "return not (self._stopping and self._is_through()) and (", "return ("),
     "test_lines_file.LinesFile.test_enq_behind_eot": Edit(
-        "host/line.py", "while not (self._stopping and self._is_through()) and (", "while ("
+        "host/line.py", "                if self._stopping and self._is_through():\n                    return\n", ""
     ),
     "test_lines.Lines.test_stop": Edit(
         "host/line.py", "return self._stopping and (self._is_cut or not self._is_busy())", "return self._stopping"
