@@ -1,6 +1,7 @@
 /* A computer that answers queries on the line that is its standard input: answer_query FILE <>/dev/ttyUSB0. It appends
  * each text to a file before it is acknowledged, and sends the orders for the samples that the analyzer asked for (Q)
- * in a session of its own. Make a serial port raw first (quick_receive.c says how).
+ * in a session of its own. Make a serial port raw first:
+ * stty -F /dev/ttyUSB0 9600 cs8 -parenb -cstopb clocal raw -echo -iexten; or open it as serial.c does.
  *
  * It ends, with status 1, if a session of its own failed, a text can't be kept, or a reply would be late: the line is
  * then taken anew. */

@@ -1,5 +1,4 @@
-// A file of texts, each with its CR, which one program at a time writes. Half of a text doesn't stay in it, since the
-// next text would be read as its rest: `^^^GLU|1` and `H|\^&` are a glucose of 1H.
+// How the samples store texts.
 #ifndef KEEP_HPP
 #define KEEP_HPP
 
@@ -9,6 +8,14 @@
 #include <string_view>
 #include <unistd.h>
 
+// A text with its CR, which ends a record; an empty one has none.
+inline std::string with_cr(std::string_view text) {
+    bool lacks = !text.empty() && text.back() != '\r';
+    return std::string(text).append(lacks ? "\r" : "");
+}
+
+// A file of texts, each with its CR, which one program at a time writes. Half of a text doesn't stay in it, since the
+// next text would be read as its rest: `^^^GLU|1` and `H|\^&` are a glucose of 1H.
 class text_file {
     int file_;
     off_t end_ = 0;    // where its last whole text ends
@@ -59,9 +66,7 @@ public:
     // Appends a text, with a CR if it has none; whether it is on the disk. Else the file is as it was, or nothing is
     // kept in it until it can be cut back.
     bool keep(std::string_view text) {
-        std::string whole(text);
-        if (!text.empty() && text.back() != '\r')
-            whole += '\r';
+        std::string whole = with_cr(text);
         auto size = static_cast<ssize_t>(whole.size());
         if (!cut_back())
             return false;

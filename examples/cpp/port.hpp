@@ -8,6 +8,7 @@
 #include <cstdio>
 #include <ctime>
 #include <netdb.h>
+#include <poll.h>
 #include <string>
 #include <string_view>
 #include <sys/socket.h>
@@ -67,6 +68,12 @@ inline int connect_to(const std::string &place) {
     }
     freeaddrinfo(found);
     return line;
+}
+
+// Whether bytes come within a second, or the end of the line.
+inline bool comes(int line) {
+    pollfd ready = {line, POLLIN, 0};
+    return poll(&ready, 1, 1000) != 0;
 }
 
 // Sends bytes, none too; whether the line takes them all. A line that the other side closed ends no program.

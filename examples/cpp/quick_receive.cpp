@@ -1,21 +1,25 @@
-// Receives from an analyzer that connects to a TCP port, and keeps each text in a file before it is acknowledged:
-// quick_receive PORT FILE; port 0 is one that is free, and is printed. The receiver's timer runs too. It serves one
-// connection, from this machine only: a host accepts again, and restarts the receiver before each connection.
+// Receives from an analyzer that connects to a TCP port of this machine, stores each text in a file before it is
+// acknowledged, and prints the results of a session at its end: quick_receive PORT FILE. Port 0 is one that is free, and
+// is printed. It serves one connection: a host accepts again, and restarts the receiver before each connection.
 #include <lislink.hpp>
 
 #include "keep.hpp"
 #include "port.hpp"
 
-#include <chrono>
 #include <cstdlib>
-#include <poll.h>
+#include <iostream>
 
-using clock_type = line_clock;
-
-// Whether bytes come within a second, or the end of the line.
-static bool comes(int line) {
-    pollfd ready = {line, POLLIN, 0};
-    return poll(&ready, 1, 1000) != 0;
+// Prints the patient, the sample, the test and the value of each result. A message that broke off is dropped.
+static void print(std::string_view texts) {
+    for (lislink::message message; !texts.empty();)
+        if (message.try_read(texts))
+            message.results([&](std::size_t patient, std::size_t order, std::size_t result) {
+                std::cout << message.part(patient, 4).value_or("") << ' ' << message.part(order, 3).value_or("") << ' '
+                          << message.part(result, 3, 0, 3).value_or("") << ' ' << message.part(result, 4).value_or("")
+                          << std::endl;
+            });
+        else
+            lislink::message::skip(texts);
 }
 
 int main(int count, char **words) {
@@ -27,26 +31,29 @@ int main(int count, char **words) {
         return std::perror("quick_receive"), 1;
     lislink::receiver receiver;
     receiver.set_careful(true);    // a damaged byte acknowledges nothing
+    std::string session;           // the texts of the session
+    auto empty = line_clock::now(), meant = empty;    // when the line was last seen empty; when bytes meant something
+    auto keep = [&](std::string_view text) { return store.keep(text) && (session += with_cr(text), true); };
+    auto send = [&](std::uint8_t reply) { return put(line, {reinterpret_cast<const char *>(&reply), 1}); };
+    auto each = [&](const lis_step &) { meant = line_clock::now(); };    // any note but quiet
     char bytes[512];
-    auto empty = clock_type::now(), meant = empty;    // when the line was last seen empty; when bytes meant something
-    for (;;) {
-        auto before = clock_type::now();    // the timer runs on while bytes come that mean nothing
+    ssize_t got = 1;
+    while (got > 0) {
+        auto before = line_clock::now();
         if (receiver.is_open() && before - meant > std::chrono::seconds(LIS_SECONDS_RECEIVER))
-            receiver.timer();
+            receiver.timer();    // also while bytes come that mean nothing
         if (!comes(line)) {
             empty = before;
             continue;
         }
-        before = clock_type::now();
-        ssize_t got = read(line, bytes, sizeof bytes);
-        if (got <= 0)
-            return got == 0 ? 0 : 1;
-        auto send = [&](std::uint8_t reply) { return put(line, {reinterpret_cast<const char *>(&reply), 1}); };
-        auto each = [&](const lis_step &) { meant = clock_type::now(); };    // any note but quiet
-        auto keep = [&](std::string_view text) { return store.keep(text); };
-        if (!receiver.hear_since(empty, {bytes, static_cast<std::size_t>(got)}, keep, send, each))    // keep, reply
+        before = line_clock::now();
+        got = read(line, bytes, sizeof bytes);
+        if (got > 0 && !receiver.hear_since(empty, {bytes, static_cast<std::size_t>(got)}, keep, send, each))
             std::fputs("no reply was sent: the analyzer sends this session again\n", stderr);
         if (got < static_cast<ssize_t>(sizeof bytes))    // a full buffer may have left some
             empty = before;
+        if (got <= 0 || !receiver.is_open())             // the session is over
+            print(std::exchange(session, {}));
     }
+    return got == 0 ? 0 : 1;
 }

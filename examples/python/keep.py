@@ -8,6 +8,11 @@ import sys
 LONGEST = 1 << 20  # bytes of a text
 
 
+def with_cr(text: bytes) -> bytes:
+    """A text with its CR, which ends a record; an empty one has none."""
+    return text if text.endswith(b"\r") or not text else text + b"\r"
+
+
 class TextFile:
     """Appends texts to a file. What a power failure left after its last CR is cut off.
 
@@ -35,7 +40,7 @@ class TextFile:
     def keep(self, text: bytes) -> None:
         """Appends a text, with a CR if it has none, and returns once it is on the disk. OSError, and the file is as it
         was, or nothing is kept in it until it can be cut back."""
-        whole = text if text.endswith(b"\r") or not text else text + b"\r"
+        whole = with_cr(text)
         self._cut_back()
         try:
             if os.write(self._file, whole) < len(whole):

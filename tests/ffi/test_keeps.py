@@ -22,6 +22,8 @@ from tests.play.hosts import scripts
 from tests.ffi.test_samples import ACK, CPP, ENQ, EOT, PATIENCE, TEXTS, InC, InPython, ask, frame, kept, told
 
 HALF = b"R|1|^^^GLU|1"
+#: What the first programs print of a session of TEXTS.
+PRINTED = b" S7 GLU " + b"5" * 200 + b"\n"
 PAGE = 4096
 #: The plays for a sample: those of results but the one that is silent for 30 seconds, and those of queries whose answer
 #: is an order for the sample that was asked for.
@@ -271,12 +273,12 @@ class Keeps(kit.Test):
             self.check(of_full_disk(sample, f"{self.work}/full"), f"{sample.name}: a disk that gets full within a text")
 
     def test_c(self):
-        names = ("quick_receive", "answer_query")
-        for name in names:
-            words = [*C11, *SANITIZERS, os.path.join(IN_C, f"{name}.c"), self.archive, "-o", f"{self.work}/{name}"]
-            self.assertTrue(self.runs(words))
-        self.tried([Sample(f"{name}.c", functools.partial(start, InC, [f"{self.work}/{name}"]),
-                           goes_on=name == "quick_receive") for name in names])
+        first, asked = (f"{self.work}/{name}" for name in ("quick_receive", "answer_query"))
+        for program in (first, asked):
+            path = os.path.join(IN_C, f"{os.path.basename(program)}.c")
+            self.assertTrue(self.runs([*C11, *SANITIZERS, path, self.archive, "-o", program]))
+        self.tried([Sample("quick_receive.c", functools.partial(start, InPython, [first, "0"]), said=PRINTED),
+                    Sample("answer_query.c", functools.partial(start, InC, [asked]), goes_on=False)])
 
     def test_cpp(self):
         if not shutil.which("g++"):
@@ -286,7 +288,8 @@ class Keeps(kit.Test):
             words = [*CPP, f"{ROOT}/examples/cpp/{name}.cpp", self.archive, "-o", f"{self.work}/{name}"]
             self.assertTrue(self.runs(words))
         self.tried([Sample(f"{name}.cpp", functools.partial(start, InPython, [f"{self.work}/{name}", "0"]),
-                           goes_on=name != "answer_query") for name in names])
+                           goes_on=name != "answer_query", said=PRINTED if name == "quick_receive" else b"")
+                    for name in names])
 
     def test_rust(self):
         if not shutil.which("cargo"):
@@ -297,13 +300,14 @@ class Keeps(kit.Test):
                                   cwd=f"{ROOT}/bindings/rust"))
         begin = functools.partial(functools.partial, start, InPython)
         self.tried([Sample(f"{name}.rs", begin([f"{self.work}/rust/debug/examples/{name}", "0"], **self.over_shared),
-                           goes_on=name == "receive") for name in ("receive", "later", "answer_query")])
+                           goes_on=name == "receive", said=PRINTED if name == "receive" else b"")
+                    for name in ("receive", "later", "answer_query")])
 
     def test_python(self):
         how = python_over(os.path.join(self.build, "liblislink.so.1"))
         self.tried([Sample(f"{name}.py", functools.partial(
             start, InPython, [sys.executable, f"{IN_PYTHON}/{name}.py", "0"], **how), goes_on=False,
-            is_timed=name != "quick_receive", said=b"H\nH P O R L\n" if name == "quick_receive" else b"")
+            is_timed=name != "quick_receive", said=PRINTED if name == "quick_receive" else b"")
             for name in ("quick_receive", "async_receive", "answer_query")])
 
 

@@ -1,10 +1,10 @@
-//! How a sample that receives opens its port, of this machine alone, and its file.
+//! How a sample that receives opens its port, of this machine alone, and its file, and how it reads.
 
 use std::fs::{File, OpenOptions};
-use std::io::{self, Write};
+use std::io::{self, ErrorKind, Read, Write};
 use std::net::{TcpListener, TcpStream};
 use std::os::unix::fs::{FileExt, OpenOptionsExt};
-use std::time::Duration;
+use std::time::{Duration, Instant};
 
 /// How long a read waits: a line that is idle is looked at so often.
 pub const PAUSE: Duration = Duration::from_secs(1);
@@ -56,16 +56,44 @@ impl TextFile {
     /// was, or nothing is kept in it until it can be cut back.
     pub fn keep(&mut self, text: &[u8]) -> io::Result<()> {
         self.cut_back()?;
-        let mut whole = text.to_vec();
-        if text.last().is_some_and(|byte| *byte != b'\r') {
-            whole.push(b'\r');
-        }
+        let whole = with_cr(text);
         match self.file.write_all(&whole).and_then(|()| self.file.sync_all()) {
             Ok(()) => {
                 self.end += whole.len() as u64;
                 Ok(())
             }
             Err(fault) => self.cut_back().and(Err(fault)),
+        }
+    }
+}
+
+/// A text with its CR, which ends a record; an empty one has none.
+pub fn with_cr(text: &[u8]) -> Vec<u8> {
+    let mut whole = text.to_vec();
+    if text.last().is_some_and(|byte| *byte != b'\r') {
+        whole.push(b'\r');
+    }
+    whole
+}
+
+/// Reads what came, nothing at the end. It came after `empty`, when the line was last seen empty; what the next read
+/// gives came after the time that is answered.
+#[allow(dead_code)] // later.rs and answer_query.rs read in another way
+pub fn read_some(
+    line: &mut TcpStream,
+    bytes: &mut [u8],
+    empty: &mut Instant,
+) -> io::Result<(usize, Instant)> {
+    loop {
+        let before = Instant::now();
+        match line.read(bytes) {
+            Ok(got) if got < bytes.len() => return Ok((got, before)),
+            Ok(got) => return Ok((got, *empty)), // a full buffer may have left some
+            Err(fault) => match fault.kind() {
+                ErrorKind::WouldBlock | ErrorKind::TimedOut => *empty = before, // there was nothing yet
+                ErrorKind::Interrupted => (),
+                _ => return Err(fault),
+            },
         }
     }
 }
