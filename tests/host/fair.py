@@ -169,7 +169,7 @@ def told(name, waits):
 
 def under_attack(folder, names):
     """Replies to good lines without an attack and under each."""
-    host = Host(os.path.join(folder, "fair.db"), "--lines", "512", each=None, scale=1.0)
+    host = Host(os.path.join(folder, "fair.db"), "--max-lines", "512", each=None, scale=1.0)
     told("no attack", waited(host, "", 0))
     for name in names:
         for peers in PEERS:

@@ -495,7 +495,7 @@ FAULTS = {
         "one = [self._long.popleft() for _ in range(len(self._long))]",
     ),
     "test_turns.Turns.test_spool": Edit(
-        "host/keeper.py", "if len(part) + len(changes) > self._committer.part:", "if len(part) > 6000:"
+        "host/keeper.py", "if len(part) + len(changes) > self._committer.part:", "if len(part) > 60:"
     ),
     "test_turns.Turns.test_sqlite": Edit(
         "host/turns.py", "return more > HEARS or (", "return not self and ("

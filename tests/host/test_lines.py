@@ -113,17 +113,38 @@ def flood(client, most):
             return
 
 
-def chained(client, ended):
-    """Sends sessions, each with the next one's ENQ right after its EOT, until the line is closed: whether it is between
-    two of them."""
+class Chained(threading.Thread):
+    """An analyzer that sends sessions, each with the next one's ENQ right after its EOT, until its line is closed."""
+
+    def __init__(self, client):
+        super().__init__(daemon=True)
+        self.client, self.sessions, self.most, self.ended = client, 0, None, "in a session"
+
+    def run(self):
+        with contextlib.suppress(OSError):
+            while all(self.client.asks(one) == ACK for one in frames(TEXTS)):
+                if self.client.asks(EOT + ENQ) != ACK:
+                    self.ended = "between sessions"
+                    return
+                self.sessions += 1
+                if self.most is not None and self.sessions > self.most:
+                    self.ended = "it goes on"
+                    return
+
+    def ends(self):
+        """How it ends, once the host closes its line as soon as no session goes on."""
+        self.most = self.sessions + 2
+        self.join()
+        return self.ended
+
+
+def is_refused(port):
+    """Whether nobody listens at a port."""
     try:
-        while all(client.asks(one, seconds=60) == ACK for one in frames(TEXTS)):
-            if client.asks(EOT + ENQ, seconds=60) != ACK:
-                ended.append("between sessions")
-                return
-    except OSError:
-        pass
-    ended.append("in a session")
+        socket.create_connection(("127.0.0.1", port)).close()
+    except ConnectionRefusedError:
+        return True
+    return False
 
 
 GOOD = b"".join(TEXTS)
@@ -372,16 +393,16 @@ class Lines(HostTest):
     def test_enq_behind_eot(self):
         """An analyzer sends ENQ right after EOT, again and again: a stop cuts no session, since that ENQ gets no
         ACK."""
-        host = Host(self.path("behind.db"), scale=1.0)
+        host = Host(self.path("behind.db"), "--grace", "3600", scale=1.0)
         with Client(host.port) as client:
             self.same("a session", client.asks(ENQ), ACK)
-            ended = []
-            asked = threading.Thread(target=chained, args=(client, ended))
-            asked.start()
-            time.sleep(0.3)
-            self.same("the host's status", host.stop(), 0)
-            asked.join(90)
-            self.same("the line is closed", ended, ["between sessions"])
+            analyzer = Chained(client)
+            analyzer.start()
+            self.true("sessions", wait_for(lambda: analyzer.sessions > 2))
+            host.process.terminate()
+            self.true("its port is closed", wait_for(lambda: is_refused(host.port)))
+            self.same("the line is closed", analyzer.ends(), "between sessions")
+        self.same("the host's status", (host.process.wait(60), host.stop())[0], 0)
         found = Found(host.store)
         self.true("sessions were kept", found.whole)
         self.same("sessions that were cut", [one.reason for one in found.others], [])

@@ -6,7 +6,6 @@ import os
 import select
 import signal
 import socket
-import threading
 import unittest.mock
 
 from lislink import frame_bytes
@@ -26,7 +25,7 @@ from tests.host.hosts import (
     trouble,
     wait_for,
 )
-from tests.host.test_lines import ACK, ENQ, EOT, NAK, TEXTS, Client, chained, frames
+from tests.host.test_lines import ACK, ENQ, EOT, NAK, TEXTS, Chained, Client, frames
 
 #: What is said after the file was read again, and after one that has a fault.
 TAKEN, LEFT = "the lines are read again: ", "the lines file has faults"
@@ -296,12 +295,10 @@ class LinesFile(HostTest):
         host, file = self.begun("behind", sections(a="listen = 0"))
         with Client(self.port(host, "a")) as client:
             self.same("a session", client.asks(ENQ), ACK)
-            ended = []
-            asked = threading.Thread(target=chained, args=(client, ended))
-            asked.start()
+            analyzer = Chained(client)
+            analyzer.start()
             self.reload(host, file, sections(a="listen = 0\nencoding = gbk"))
-            asked.join(60)
-            self.same("its connection is closed", ended, ["between sessions"])
+            self.same("its connection is closed", analyzer.ends(), "between sessions")
         self.same("the host's status", host.stop(), 0)
         found = Found(host.store)
         self.same("sessions that were cut", [one.reason for one in found.others], [])

@@ -1,59 +1,134 @@
 """One line's work delays no other: texts that are long to read or to keep are taken in turns."""
 import asyncio
+import contextlib
+import selectors
+import sys
 import threading
 import time
 import unittest.mock
 from collections import Counter
+from concurrent.futures import ThreadPoolExecutor
 
 from lislink import frame_bytes
-from lislab.host import serve, turns as turn
+from lislab.host import fix, serve, turns as turn
 from lislab.host.commits import Committer
+from lislab.host.fixer import Fixer, Workers
+from lislab.host.intake import Held, Intake
+from lislab.host.line import Line, Parts
 from lislink.link import LONG_FRAME_TEXT, Note, Step
-from lislab.diagnosis.events import Came, Meant
+from lislab.diagnosis.events import Came, Meant, Observers
 from lislab.diagnosis.pulse import Probe, Pulse
-from tests.host.hosts import Host, HostTest, see, wait_for
-from tests.host.test_lines import ACK, ENQ, NAK, TEXTS, Client
+from lislab.model.options import Limits
+from lislab.model.stores import open_store
+from tests.host.hosts import NEVER, Host, HostTest, see, wait_for
+from tests.host.test_lines import ACK, ENQ, EOT, NAK, TEXTS, Client, frames
 
-#: The longest text.
-MOST = 1 << 20
-#: Texts of this length that are many records or messages.
+#: Texts that are many records or messages: the longest ones, or where each message is a step, a part of these.
 HEAVY = {
-    "CRs": b"\r" * MOST,
-    "tiny messages": b"H|\\^&\rL\r" * (MOST // 8),
-    "records": b"H|\\^&\r" + b"C|1\r" * (MOST // 4 - 2),
-    "bad messages": b"H|\\^&\rR\r" * (MOST // 8),
+    "CRs": b"\r" * (1 << 20),
+    "tiny messages": b"H|\\^&\rL\r" * (1 << 10),
+    "records": b"H|\\^&\r" + b"C|1\r" * ((1 << 18) - 2),
+    "bad messages": b"H|\\^&\rR\r" * (1 << 10),
 }
-#: The longest that a reply may take meanwhile, in seconds; on a machine that does other work too, a share of the time
-#: that the text takes, in one of a few tries. Without turns it takes about as long as the text, or as a part of it.
-LONGEST, TRIES = 0.6, 10
+#: What each step of the work on a text takes by the clock of a test; the most steps of a line in a turn of the loop:
+#: those after which it waits, and as many again; and the most commits that a short text waits for.
+STEP = 0.0005
+MOST_STEPS, MOST_COMMITS = 2 * round(turn.HEARS / STEP), 5
 
 
-def sent(port, text):
-    """A connection on which a text was sent whose last frame isn't answered yet."""
-    client = Client(port)
-    client.asks(ENQ)
+class Counting(selectors.DefaultSelector):
+    """Counts the turns of a loop, each of which asks it once."""
+
+    turns = 0
+
+    def select(self, timeout=None):
+        """What is ready."""
+        self.turns += 1
+        return super().select(timeout)
+
+
+class Side:
+    """A line of a host in this process, and its analyzer."""
+
+    def __init__(self, name, fixer, committer, turns):
+        self.loop, self.reply = asyncio.get_running_loop(), None
+        wire = unittest.mock.Mock(is_tcp=True, write=lambda data: self.reply.set_result(data))
+        intake = Intake(name, name, "latin-1", 16 << 20, time.time, Held(fix.MOST, serve.HELD))
+        shared = Observers([], print), lambda *_: None, Counter(), fixer, committer, turns
+        self.line = Line(Parts(wire, intake, *shared, Limits(scale=NEVER), LONG_FRAME_TEXT))
+        self.task = asyncio.ensure_future(self.line.run())
+
+    async def asks(self, unit):
+        """What is answered to bytes."""
+        self.reply = self.loop.create_future()
+        self.line.data(unit, self.loop.time())
+        return await self.reply
+
+    async def ends(self):
+        """Ends the session and the line."""
+        self.line.data(EOT, self.loop.time())
+        self.line.lost()
+        await self.task
+
+
+class Shared:
+    """Two lines of a host: one keeps a long text, and the other one has sessions meanwhile. Their clock counts the
+    steps of their work."""
+
+    def __init__(self, store):
+        self.store, self.selector, self.worked = open_store(store), Counting(), 0.0
+        #: How many steps of the long text each turn of the loop had, and how many changes each unit of a commit.
+        self.steps, self.units = Counter(), []
+        #: How many commits there were, and how many while the other line waited for each of its replies.
+        self.commits, self.waits = 0, []
+        self.replies = []
+
+    def keep(self, text):
+        """Keeps a text."""
+        loop, take_some, commit = asyncio.SelectorEventLoop(self.selector), Intake._take_some, self.store.commit
+
+        def takes(intake, *words):
+            self.worked += STEP
+            self.steps[self.selector.turns] += intake.line == "long"
+            return take_some(intake, *words)
+
+        def commits(units):
+            self.commits += 1
+            self.units += [len(unit) for unit in units]
+            commit(units)
+
+        patched, switch = unittest.mock.patch.object, sys.getswitchinterval()
+        sys.setswitchinterval(serve.SWITCH)
+        try:
+            with contextlib.closing(loop), patched(Intake, "_take_some", takes), patched(self.store, "commit", commits):
+                loop.run_until_complete(self._keep(text))
+        finally:
+            sys.setswitchinterval(switch)
+            self.store.close()
+
+    async def _keep(self, text):
+        self.store.start("test")
+        committer, turns = Committer(self.store, print), turn.Turns(lambda: self.worked)
+        fixer = Fixer((), Workers(lambda: ThreadPoolExecutor(1)), Counter())
+        long, other = (Side(name, fixer, committer, turns) for name in ("long", "other"))
+        *first, last = long_frames(text)
+        self.replies += [await long.asks(unit) for unit in (ENQ, *first)]
+        kept = asyncio.ensure_future(long.asks(last))
+        while not kept.done():
+            for unit in (EOT + ENQ, *frames(TEXTS)):
+                before = self.commits
+                self.replies.append(await other.asks(unit))
+                self.waits.append(self.commits - before)
+        self.replies.append(await kept)
+        await asyncio.gather(long.ends(), other.ends(), fixer.stop())
+        await committer.stop()
+
+
+def long_frames(text):
+    """The frames of a long text."""
     starts = range(0, len(text), LONG_FRAME_TEXT)
-    for number, start in enumerate(starts, 1):
-        part = text[start : start + LONG_FRAME_TEXT]
-        last = start == starts[-1]
-        client.send(frame_bytes(number % 8, last, part, frame_limit=LONG_FRAME_TEXT))
-        if not last:
-            assert client.heard(1, 30) == ACK
-    return client
-
-
-def longest_wait(port, seconds, over):
-    """The longest wait of a line for a reply, for some time or until it is over."""
-    waits, until = [], time.monotonic() + seconds
-    with Client(port) as client:
-        while time.monotonic() < until and not over.is_set():
-            for unit in (ENQ, *(frame_bytes(number % 8, True, text) for number, text in enumerate(TEXTS, 1))):
-                begun = time.monotonic()
-                if client.asks(unit, seconds=60) != ACK:
-                    return float("inf")
-                waits.append(time.monotonic() - begun)
-            client.send(b"\x04")
-    return max(waits)
+    return [frame_bytes(number % 8, start == starts[-1], text[start : start + LONG_FRAME_TEXT], frame_limit=LONG_FRAME_TEXT)
+            for number, start in enumerate(starts, 1)]
 
 
 def shared(busy, times, long):
@@ -95,13 +170,14 @@ class Turns(HostTest):
     """Texts that take long."""
 
     def test_sqlite(self):
-        """Each text, on a host with an SQLite file: other lines are answered meanwhile."""
+        """Each text, with an SQLite file: between two turns of the loop a line has few steps of its work, and other
+        lines are answered meanwhile."""
         for name, text in HEAVY.items():
-            self.is_shared(name, self.path(f"{name}.db"), text, 1 / 2)
+            self.is_shared(name, self.path(f"{name}.db"), text)
 
     def test_spool(self):
-        """The same with a spool."""
-        self.is_shared("tiny messages", "spool:" + self.path("tiny"), HEAVY["tiny messages"], 1 / 8)
+        """The same with a spool, in smaller parts."""
+        self.is_shared("tiny messages", "spool:" + self.path("tiny"), HEAVY["tiny messages"][: 1 << 9])
 
     def test_parts(self):
         """A commit has one part of a long text at most, and all else that waits."""
@@ -181,32 +257,11 @@ class Turns(HostTest):
         self.true("room again", wait_for(is_room))
         host.kill()
 
-    def is_shared(self, name, store, text, share):
-        """Whether others are answered while a text is kept; tried again if not."""
-        told = []
-        for number in range(TRIES):
-            longest, took = self.waits(f"{store}.{number}", text)
-            told.append(f"{longest:.2f} s of {took:.2f} s")
-            if longest < max(LONGEST, share * took):
-                break
-        self.true(f"{name}: other lines are answered", longest < max(LONGEST, share * took), ", ".join(told))
-
-    def waits(self, store, text):
-        """Sends a text, and other sessions while it is kept: the longest wait of these, and how long it took."""
-        host = Host(store, "--listen", "0,name=long,frame=63993", scale=1.0)
-        port = next(int(row.split()[1].rsplit(":", 1)[1]) for row in host.rows if row.endswith(" long\n"))
-        over, took = threading.Event(), []
-        with sent(port, text) as client:
-            begun = time.monotonic()
-
-            def hear():
-                client.heard(1, 60)
-                took.append(time.monotonic() - begun)
-                over.set()
-
-            thread = threading.Thread(target=hear, daemon=True)
-            thread.start()
-            longest = longest_wait(host.port, 60, over)
-            thread.join()
-        host.kill()
-        return longest, took[0]
+    def is_shared(self, name, store, text):
+        """Whether others have their turn while a text is kept."""
+        one = Shared(store)
+        one.keep(text)
+        self.same(f"{name}: replies", set(one.replies), {ACK})
+        self.true(f"{name}: steps in a turn", max(one.steps.values()) <= MOST_STEPS, one.steps.most_common(3))
+        self.true(f"{name}: changes of a part", max(one.units) <= one.store.part, max(one.units))
+        self.true(f"{name}: another line is answered", max(one.waits) <= MOST_COMMITS, (len(one.waits), max(one.waits)))

@@ -84,6 +84,7 @@ class Keeper:
     async def _fixed(self, changes: List[Change]) -> List[Change]:
         """The same changes, with what is made of the messages that end and aren't complete."""
         bodies, self.intake.bodies = self.intake.bodies, {}
+        self._share.rests()
         changes = await self._fixer.of_all(changes, bodies, True, self._tries)
         self._share.goes_on()
         self.intake.also(fixed_ends(changes))
