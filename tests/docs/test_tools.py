@@ -15,7 +15,7 @@ from tests import kit, side_by_side
 
 # What tools/trust must say of a wrong change: the file, its text, the wrong one, and a part of what is said.
 WRONG = [
-    ("docs/proof.md", "`laws::safe_of` of `lis_world` (over", "`laws::safe_of` of `lis_link` (over",
+    ("docs/proof.md", "`laws::safe_of` of `lis_world`", "`laws::safe_of` of `lis_link`",
      "laws::safe_of, which lis_link has not"),
     ("docs/proof.md", "`failed`; `split`, `next_place`", "`failed`; `cut`, `next_place`",
      "cut, which is no public function"),
