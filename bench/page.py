@@ -1,26 +1,44 @@
-"""The page build/docs/speed.md that bench/run writes: what was measured in one run, and when, of what, on what."""
+"""The page build/docs/speed.md that bench/run writes, and its charts: what was measured in one run, and when, of what,
+on what."""
 import os
 import statistics
 import time
 from dataclasses import dataclass, field
 
 import measured
+import plot
 import programs
 
 DOCUMENT = os.path.join(programs.ROOT, "build/docs/speed.md")
-PLOT = os.path.join(programs.ROOT, "build/docs/speed.svg")
 HEAD = """# Speed and memory
 
 `bench/run` measures `lislink` and the peer, a second program in safe Rust over the standard library (`bench/peer`),
 without proofs and without the crates of this repository. Both are compiled for the same processor. Their output is
 compared first, byte for byte; then they run one after the other on the same file. Times are the processor's, those of
-start-up and of the plot from start to end. "Times the peer" is the peer's time divided by that of `lislink`, the median
-of the rounds; the middle half of the rounds follows it. Instructions per byte are counted by callgrind, as the difference
-of two runs, and don't vary with load. Memory is that of a stream of 256 MB: the most that was resident, about 1,000 KiB
+start-up and of the host from start to end. "Times the peer" is the peer's time divided by that of `lislink`, the median
+of the rounds; the middle half of the rounds follows it. Instructions per byte are counted by callgrind, as the
+difference of two runs, and don't vary with load. Memory is that of a stream of 256 MB: the most that was resident, about 1,000 KiB
 of which are pages of the C library that all programs share, and the program's own. The inputs are generated
 (`bench/inputs.py`), the same in every run.
 
 """
+# The charts: the file, its unit, whether one scale is for all groups, and what is said of it.
+CHARTS = {
+    "speed.svg": ("MB/s", True, "Each command beside the peer, which does the same work in safe Rust. The input is "
+                  "results for `check` and `results`, and short frames for the others. The table has all inputs."),
+    "messages.svg": ("records a second", False, "Results as trees by the crates, beside two safe parsers of the peer; "
+                     "then the Python package beside plain Python. `split` checks nothing and finds no order. Each "
+                     "group has its own scale."),
+    "host.svg": ("messages a second", True, "What `lislab serve` stores of 1, 20 and 200 analyzers that send at once, "
+                 "all on this machine. Each sends its next message when the last one is acknowledged. No message is "
+                 "acknowledged before the disk has it, so the disk decides the first bar."),
+}
+# The inputs of the first chart, and the ways of Python in the second one.
+CHARTED = ("short frames", "results")
+IN_PYTHON = {"package, records, all parts of all": "Python: package, all parts",
+             "plain reader, messages with all parts": "Python: plain reader, all parts",
+             "package, two parts of each result in one call": "Python: package, two parts in one call",
+             "split, two parts of each result, nothing checked": "Python: split, two parts, nothing checked"}
 # How many times the speed of the independent program a row is to make.
 WANTED = 1.5
 NONE = "–"
@@ -36,7 +54,8 @@ class Found:
     heard: dict = field(default_factory=dict)
     played: float = None
     start_up: list = None
-    curves: dict = None
+    package: dict = field(default_factory=dict)
+    host: dict = field(default_factory=dict)
 
 
 def processor():
@@ -65,12 +84,13 @@ def number(value, digits=0):
 
 
 def table(heads, rows):
-    """A table, of which 'command' and 'input' are columns of words. It has no column in which nothing is known."""
+    """A table, of which 'command', 'input' and 'reader' are columns of words. It has no column in which nothing is
+    known."""
     rows = list(rows)
     known = [place for place in range(len(heads)) if any(row[place] != NONE for row in rows)]
     heads, rows = [heads[place] for place in known], [[row[place] for place in known] for row in rows]
     yield "| " + " | ".join(heads) + " |"
-    yield "|" + "|".join("---" if head in ("command", "input") else "--:" for head in heads) + "|"
+    yield "|" + "|".join("---" if head in ("command", "input", "reader") else "--:" for head in heads) + "|"
     for row in rows:
         yield "| " + " | ".join(row) + " |"
 
@@ -107,14 +127,12 @@ def of_commands(found):
 
 
 def of_sizes(found):
-    """Start-up and the plot."""
+    """Start-up."""
     ours, peers, nothing = found.start_up
-    yield from ["### Start-up and size", ""]
+    yield from ["### Start-up", ""]
     yield (f"To read nothing takes `lislink` {ours:.2f} ms, the peer {peers:.2f} ms, and `/bin/true` {nothing:.2f} ms, "
            "start and end of the process included.")
-    largest = max(size for points in found.curves.values() for size, _ in points)
-    yield f"MB/s by the size of the input, 1 KB to {largest / 1e6:,.0f} MB, start and end of the process included:"
-    yield from ["", "![MB/s by the size of the input](speed.svg)", ""]
+    yield ""
 
 
 def of_trees(found):
@@ -168,9 +186,45 @@ def of_calls(found):
     yield ""
 
 
+def of_others(found):
+    """The tables of the package and of the host."""
+    if found.package:
+        yield from ["### The Python package", ""]
+        yield from table(["reader", "records a second"], [[name, number(it)] for name, it in found.package.items()])
+        yield ""
+    if found.host:
+        yield from ["### The host", ""]
+        rows = [[str(many), number(it)] for many, it in found.host.items()]
+        yield from table(["analyzers", "messages a second"], rows)
+        yield ""
+
+
+def groups(found):
+    """The bars of each chart, in groups."""
+    timed = [row for row in found.rows if row.times and row.made.name in CHARTED and " " not in row.command]
+    speed = [[(f"{row.command}: {name}", row.size / 1e6 / statistics.median(one[who] for one in row.times))
+              for who, name in (("ours", "lislink"), ("peer", "peer"))] for row in timed]
+    messages = [[(f"trees: {name}", row.again[way] * 1e6 * row.records)
+                 for way, name in (("ours", "the crates"), ("places", "peer, places"), ("vecs", "peer, Vecs"))]
+                for row in found.trees if row.again and row.name == "results"]
+    if found.package:
+        of = list(IN_PYTHON)
+        messages += [[(IN_PYTHON[name], found.package[name]) for name in pair] for pair in (of[:2], of[2:])]
+    host = [[(f"{many} analyzers" if many > 1 else "1 analyzer", it)] for many, it in found.host.items()]
+    return {"speed.svg": speed, "messages.svg": messages, "host.svg": host}
+
+
+def charts(found):
+    """The charts of what was measured, by the file."""
+    return {name: plot.drawing(*CHARTS[name][:2], bars) for name, bars in groups(found).items() if bars}
+
+
 def written(found):
     """The lines that are written."""
     lines = [found.conditions, ""]
+    for name in charts(found):
+        unit, _, said = CHARTS[name]
+        lines += [f"![{unit}]({name})", "", said, ""]
     if found.rows:
         lines += of_commands(found)
     if found.start_up:
@@ -179,14 +233,14 @@ def written(found):
         lines += of_trees(found)
     if found.heard:
         lines += of_calls(found)
-    return lines
+    return [*lines, *of_others(found)]
 
 
-def write(lines, drawing):
-    """Writes the page, and its plot."""
+def write(lines, drawings):
+    """Writes the page, and its charts."""
     os.makedirs(os.path.dirname(DOCUMENT), exist_ok=True)
     with open(DOCUMENT, "w", encoding="utf-8") as file:
         file.write(HEAD + "\n".join(lines).rstrip("\n") + "\n")
-    if drawing:
-        with open(PLOT, "w", encoding="ascii") as file:
+    for name, drawing in drawings.items():
+        with open(os.path.join(os.path.dirname(DOCUMENT), name), "w", encoding="ascii") as file:
             file.write(drawing)

@@ -1,59 +1,33 @@
-"""Draws MB/s by the size of the input, as SVG. Both axes are logarithmic."""
-import math
+"""Draws bars as SVG: groups of them, one below the other, each bar with its number."""
+from html import escape
 
-WIDTH, HEIGHT = 860, 520
-LEFT, RIGHT, TOP, BOTTOM = 70, 150, 24, 56
-COLOURS = ("#1b6ca8", "#c0392b", "#2e8b57", "#8e44ad", "#d68910", "#555555")
-SMALLEST, SLOWEST = 1e3, 0.1
-SIZES = {1e3: "1 KB", 1e4: "10 KB", 1e5: "100 KB", 1e6: "1 MB", 1e7: "10 MB", 1e8: "100 MB", 1e9: "1 GB"}
-SPEEDS = {0.1: "0.1", 1: "1", 10: "10", 100: "100", 1000: "1,000"}
+WIDTH, NAMES, RIGHT, BAR, BETWEEN, TOP = 860, 330, 90, 16, 12, 30
+COLOURS = ("#1b6ca8", "#d68910", "#2e8b57", "#8e44ad")
 
 
-def across(size):
-    return LEFT + (WIDTH - LEFT - RIGHT) * math.log10(size / SMALLEST) / 6
+def text(x, y, words, anchor="start", colour="#222222"):
+    return f'<text x="{x:.1f}" y="{y:.1f}" text-anchor="{anchor}" fill="{colour}">{escape(words)}</text>'
 
 
-def down(speed):
-    return HEIGHT - BOTTOM - (HEIGHT - TOP - BOTTOM) * math.log10(speed / SLOWEST) / math.log10(4000 / SLOWEST)
+def bar(y, name, value, most, colour):
+    """A bar with its name to the left and its number to the right."""
+    wide = (WIDTH - NAMES - RIGHT) * value / most
+    yield text(NAMES - 8, y + 12, name, "end")
+    yield f'<rect x="{NAMES}" y="{y:.1f}" width="{wide:.1f}" height="{BAR - 3}" fill="{colour}"/>'
+    yield text(NAMES + wide + 6, y + 12, f"{value:,.0f}")
 
 
-def line(x1, y1, x2, y2, colour):
-    return f'<line x1="{x1:.1f}" y1="{y1:.1f}" x2="{x2:.1f}" y2="{y2:.1f}" stroke="{colour}"/>'
-
-
-def text(x, y, words, anchor="middle", colour="#222222"):
-    return f'<text x="{x:.1f}" y="{y:.1f}" text-anchor="{anchor}" fill="{colour}">{words}</text>'
-
-
-def axes():
-    for size, name in SIZES.items():
-        yield line(across(size), TOP, across(size), HEIGHT - BOTTOM, "#dddddd")
-        yield text(across(size), HEIGHT - BOTTOM + 18, name)
-    for speed, name in SPEEDS.items():
-        yield line(LEFT, down(speed), WIDTH - RIGHT, down(speed), "#dddddd")
-        yield text(LEFT - 8, down(speed) + 4, name, "end")
-    yield text((LEFT + WIDTH - RIGHT) / 2, HEIGHT - 12, "size of the input")
-    yield text(LEFT - 8, TOP - 8, "MB/s", "end")
-
-
-def names_apart(curves):
-    """How far down the name of each curve is: at its end, and 16 below the one above it at least."""
-    places, lowest = {}, -math.inf
-    for name, points in sorted(curves.items(), key=lambda curve: -curve[1][-1][1]):
-        lowest = max(lowest + 16, down(points[-1][1]))
-        places[name] = lowest
-    return places
-
-
-def drawing(curves):
-    """The drawing of curves: by their names, points of a size and a speed."""
-    parts = [f'<svg xmlns="http://www.w3.org/2000/svg" viewBox="0 0 {WIDTH} {HEIGHT}" font-family="sans-serif" '
-             'font-size="13">', f'<rect width="{WIDTH}" height="{HEIGHT}" fill="#ffffff"/>', *axes()]
-    places = names_apart(curves)
-    for colour, (name, points) in zip(COLOURS, curves.items()):
-        path = " ".join(f"{across(size):.1f},{down(speed):.1f}" for size, speed in points)
-        parts.append(f'<polyline points="{path}" fill="none" stroke="{colour}" stroke-width="2"/>')
-        parts += [f'<circle cx="{across(size):.1f}" cy="{down(speed):.1f}" r="2.5" fill="{colour}"/>'
-                  for size, speed in points]
-        parts.append(text(across(points[-1][0]) + 10, places[name] + 4, name, "start", colour))
-    return "\n".join([*parts, "</svg>", ""])
+def drawing(unit, is_shared, groups):
+    """A drawing of groups of bars, each group a list of names with their numbers. One scale is for all groups, or each
+    has its own."""
+    parts, y = [text(NAMES, TOP - 12, unit)], TOP
+    greatest = max(value for group in groups for _, value in group)
+    for group in groups:
+        most = greatest if is_shared else max(value for _, value in group)
+        for place, (name, value) in enumerate(group):
+            parts += bar(y, name, value, most, COLOURS[place % len(COLOURS)])
+            y += BAR
+        y += BETWEEN
+    head = (f'<svg xmlns="http://www.w3.org/2000/svg" viewBox="0 0 {WIDTH} {y}" font-family="sans-serif" '
+            f'font-size="13">\n<rect width="{WIDTH}" height="{y}" fill="#ffffff"/>')
+    return "\n".join([head, *parts, "</svg>", ""])

@@ -23,7 +23,7 @@ FEW, KEPT, HEAP = 8_000, 8_000_000, 600_000
 # Bytes of a record's place in a table.
 PLACE = 24
 
-Row = namedtuple("Row", "name again ratios tables kept instructions heap size")
+Row = namedtuple("Row", "name again ratios tables kept instructions heap size records")
 
 
 def ways(vectors, peer):
@@ -134,5 +134,5 @@ def rows(work, vectors, peer, all_inputs, asked):
         if asked.counts:
             instructions = {way: instructions_a_byte(words, counted[made.name]) for way, words in both.items()}
             heap = {way: heap_a_byte(words, made) for way, words in known.items()}
-        size = PLACE * few.count(b"\r") / len(few)
-        yield Row(made.name, again, ratios, of_places, kept, instructions, heap, size)
+        records = few.count(b"\r") / len(few)
+        yield Row(made.name, again, ratios, of_places, kept, instructions, heap, PLACE * records, records)
