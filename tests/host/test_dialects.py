@@ -55,7 +55,7 @@ class Dialects(HostTest):
         for name, says, helps in found:
             with open(os.path.join(SAMPLES, f"{name}.records"), "rb") as file:
                 data = file.read()
-            options = re.findall(r"lislab normalize --([\w-]+)", helps)[:1]
+            options = re.findall(r"`--([\w-]+)`", helps)[:1]
             bare, fixed = (asyncio.run(ends_of(data, names)) for names in ([], options))
             reasons = [one.reason for one in bare if one.state != COMPLETE]
             if says.startswith("nothing is wrong"):
