@@ -24,7 +24,7 @@ CHANGED = (
     ("lislab", "| `--bom`", "| `--bomb`", True),
     ("lislab", "| `lislab_up` |", "| `lislab_is_up` |", True),
     ("lislab", "TCP connections at once (256)", "TCP connections at once (250)", True),
-    ("lislab", "| `codes` | checks a test code mapping |", "| `code` | checks a test code mapping |", True),
+    ("lislab", "| `codes` | [checks a test code mapping]", "| `code` | [checks a test code mapping]", True),
     ("deliver", "| `ucum` |", "| `UCUM` |", True),
     ("orders", "`rack`, `position`", "`rack`", True),
     ("operate", "`lislab watch --once`", "`lislab watch --first`", True),
