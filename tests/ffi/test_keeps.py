@@ -19,7 +19,8 @@ from tests.ffi.bridge import Bridge
 from tests.ffi.c import C11, IN_C, IN_PYTHON, SANITIZERS, python_over
 from tests.host.noisy import Analyzer, message
 from tests.play.hosts import scripts
-from tests.ffi.test_samples import ACK, CPP, ENQ, EOT, PATIENCE, TEXTS, InC, InPython, ask, frame, kept, told
+from tests.ffi.test_samples import (ACK, CPP, ENQ, EOT, PATIENCE, TEXTS, InC, InPython, always_full, ask, frame, kept,
+                                    told)
 
 HALF = b"R|1|^^^GLU|1"
 #: What the first programs print of a session of TEXTS.
@@ -148,9 +149,9 @@ def of_other_files(sample, path):
     return good
 
 
-def keeps_nothing(sample):
+def keeps_nothing(sample, path):
     """A text that can't be kept at all isn't acknowledged, also when it comes again."""
-    it = sample.start("/dev/full")
+    it = sample.start(always_full(path))
     good = ask(it.line, ENQ, ACK) and ask(it.line, frame(1, TEXTS[0]), b"")
     if sample.goes_on:
         good = good and ask(it.line, frame(1, TEXTS[0]), b"") and any(ask(it.line, ENQ, ACK, 10.0) for _ in range(4))
@@ -253,7 +254,7 @@ class Keeps(kit.Test):
             for cut in range(len(TEXTS) + 1):
                 self.check(is_killed(sample, f"{path}-{cut}", cut), f"{sample.name}, killed after {cut} texts")
             self.check(is_whole(sample, f"{path}-whole"), f"{sample.name}, a whole session")
-            self.check(keeps_nothing(sample), f"{sample.name}: what can't be kept is acknowledged")
+            self.check(keeps_nothing(sample, f"{path}-full"), f"{sample.name}: what can't be kept is acknowledged")
             self.check(of_short_write(sample, f"{path}-short"), f"{sample.name}: a write that is cut short")
             self.check(of_half_a_text(sample, f"{path}-half"), f"{sample.name}: half a text at its start")
             self.check(of_other_files(sample, f"{path}-other"), f"{sample.name}: a file that isn't its own")

@@ -9,7 +9,7 @@ import sys
 
 from tests import ROOT, kit
 from tests.ffi.c import BARE, C11, IN_PYTHON, RESULTS, SANITIZERS, compilers, python_over, shared, source
-from tests.ffi.test_samples import ACK, CPP, ENQ, ask, frame
+from tests.ffi.test_samples import ACK, CPP, ENQ, always_full, ask, frame
 from tests.install.test_build import dist_of
 
 VALUES = "".join(" ".join(line.split(" ")[:2]) + " \n" for line in RESULTS.splitlines())
@@ -140,7 +140,7 @@ class Programs(kit.Test):
         if not self.runs([*CPP, f"{ROOT}/examples/cpp/quick_receive.cpp", library, "-o", program]):
             return
         pipes = {"stdout": subprocess.PIPE, "stderr": subprocess.PIPE}
-        with subprocess.Popen([program, "0", "/dev/full"], text=True, **pipes) as ran:
+        with subprocess.Popen([program, "0", always_full(f"{program}-full")], text=True, **pipes) as ran:
             with socket.create_connection(("127.0.0.1", int(ran.stdout.readline().split()[1]))) as line:
                 self.check(ask(line, ENQ, ACK) and ask(line, frame(1, b"H|\\^&\r"), b""), "no reply is sent")
             self.same("what it reports", ran.communicate(timeout=300)[1],

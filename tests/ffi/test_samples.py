@@ -2,6 +2,7 @@
 the samples keep is tried in test_keeps.py, which takes the words of a session from here."""
 import os
 import socket
+import stat
 import subprocess
 import sys
 import threading
@@ -73,6 +74,16 @@ class InPython(InC):
 def kept(path):
     with open(path, "rb") as file:
         return file.read()
+
+
+def always_full(path):
+    """A device that is always full: one at this path if the test may make it. A sample locks its file, and a sample of
+    another run of the tests may have /dev/full."""
+    try:
+        os.mknod(path, stat.S_IFCHR | 0o600, os.makedev(1, 7))
+    except PermissionError:
+        return "/dev/full"
+    return path
 
 
 def of_host(test, work):
