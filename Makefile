@@ -20,13 +20,13 @@
 # make mutants  [CRATES="lis_link .."]   all mutants: the prover must reject each, and a test must notice it
 # make harmless [CRATES="lis_link .."]   rewrites that change nothing: each must still be proved
 # make fuzz     [EACH=600]               harnesses of libFuzzer over the library for C, so many seconds each
-# make both     [LISTS=100000]           random lists of events on a line between two stations, as the model answers them
+# make both     [LISTS=100000]           random lists of events on a line between two stations, as the model answers
 # make arm64                             all rows, programs and calls on ARM64, by qemu
 # make roots                             what `make release` makes, and a clone, in bare roots (root, debootstrap)
 # make soak     [PARTS="kills=1000 .."]  the host by fire, for hours (tests/host/more soak)
 # make noise    [SESSIONS=910]   so many sessions to each sample, over a wire that changes one byte of each frame
 # make plant CRATE=lis_link              wrong bodies that the kit makes up: what a crate's contracts let through
-# make bench                             speed, memory and instructions; writes build/docs/speed.md (ten minutes at most)
+# make bench                             speed, memory and instructions; writes build/docs/speed.md, in ten minutes
 #
 # make bench-check                       fails if a command makes over 3 % more instructions a byte; in make prove
 
@@ -40,8 +40,8 @@ DIST = dist
 PROGRAM = $(BUILD)/lislink
 VERSION = $(shell cat VERSION)
 
-.PHONY: build prove dist check debug demo test mutants harmless both soak noise plant bench bench-check install uninstall \
-  deb release roots arm64 docs fuzz FORCE
+.PHONY: build prove dist check debug demo test mutants harmless both soak noise plant bench bench-check install \
+  uninstall deb release roots arm64 docs fuzz FORCE
 
 build: $(PROGRAM) $(BUILD)/liblis_c.a $(BUILD)/liblislink.a $(BUILD)/liblislink.so
 

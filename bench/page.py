@@ -17,9 +17,9 @@ without proofs and without the crates of this repository. Both are compiled for 
 compared first, byte for byte; then they run one after the other on the same file. Times are the processor's, those of
 start-up and of the host from start to end. "Times the peer" is the peer's time divided by that of `lislink`, the median
 of the rounds; the middle half of the rounds follows it. Instructions per byte are counted by callgrind, as the
-difference of two runs, and don't vary with load. Memory is that of a stream of 256 MB: the most that was resident, about 1,000 KiB
-of which are pages of the C library that all programs share, and the program's own. The inputs are generated
-(`bench/inputs.py`), the same in every run.
+difference of two runs, and don't vary with load. Memory is that of a stream of 256 MB: the most that was resident,
+about 1,000 KiB of which are pages of the C library that all programs share, and the program's own. The inputs are
+generated (`bench/inputs.py`), the same in every run.
 
 """
 # The charts: the file, its unit, whether one scale is for all groups, and what is said of it.

@@ -7,8 +7,8 @@ public clause says what the member is. A member is pinned by
 - an `ensures` of the impl's own on each method that the trait says the member by, with `≡`, or that has its name;
 - a line of docs/pinned.table, which names the public contract that would be false with another member.
 
-No public clause can speak of a member where the trait or the type is private to its crate. A law says itself what holds,
-and the view of a model is a definition that tools/trust lists. So these are not looked at. Used by tools/trust.
+No public clause can speak of a member where the trait or the type is private to its crate. A law says itself what
+holds, and the view of a model is a definition that tools/trust lists. So these are not looked at. Used by tools/trust.
 """
 import glob
 import re
