@@ -70,7 +70,7 @@ FAULTS = {
     "test_codes.Table.test_ranges": (
         "model/codes.py", "row.written(6) + (b\" \" + row.written(5)).rstrip()", "row.written(6)"
     ),
-    "test_codes.Table.test_values": ("model/codes.py", "if unit == found.unit:", "if not unit:"),
+    "test_codes.Table.test_values": ("model/codes.py", "and unit == code.unit:", "and not unit:"),
     "test_codes.Table.test_which_row": (
         "model/codes.py",
         'for where in (line, "") if line',
@@ -135,11 +135,13 @@ FAULTS = {
     "test_fixes.Fixes.test_long_random": (
         "field/normalize.py", 'is_of_one or letter == b"R"', 'is_of_one or letter in (b"R", b"C", b"M", b"S")'
     ),
-    "test_mllp.Oru.test_fields": ("outbound/oru.py", "10: control_id(one.key, place),", "10: one.line,"),
-    "test_mllp.Oru.test_page": ("outbound/oru.py", "25: _report(order, results)}", "24: _report(order, results)}"),
+    "test_mllp.Oru.test_fields": ("outbound/oru.py", "{control_id(one.key, place)}", "{one.line}"),
+    "test_mllp.Oru.test_page": (
+        "outbound/oru.py", '"", _report(order, results), ""]', '_report(order, results), "", ""]'
+    ),
     "test_mllp.Oru.test_random": ("outbound/oru.py", 'r"[|^~\\\\&', 'r"[|^~\\\\'),
     "test_mllp.Oru.test_values": (
-        "outbound/oru.py", 'return "SN", [number.comparator,', 'return "NM", [number.comparator,'
+        "outbound/oru.py", 'return "SN", f"{number.', 'return "NM", f"{number.'
     ),
     "test_mllp.Receivers.test_ahead": ("outbound/mllp.py", "            meanwhile()\n", ""),
     "test_mllp.Receivers.test_ahead_of_what": (
@@ -196,19 +198,19 @@ FAULTS = {
     ),
     "test_mllp.Oru.test_obr": ("outbound/oru.py", "if number != 5)", "if number < 5)"),
     "test_mllp.Oru.test_tables": (
-        "outbound/oru.py", '10: result.nature if result.nature in _NATURES else "",', "10: result.nature,"
+        "outbound/oru.py", "{result.nature if result.nature in _NATURES else ''}", "{result.nature}"
     ),
     "test_mllp.Oru.test_numbers": (
-        "outbound/oru.py", "order.sample if placer == \"sample\" else \"\"", "order.sample"
+        "outbound/oru.py", "order.sample if wishes.placer == \"sample\" else \"\"", "order.sample"
     ),
     "test_mllp.Oru.test_specimens": (
         "outbound/oru.py", "return _SPECIMENS.get(text.upper(), \"\"), text", "return _SPECIMENS.get(text, \"\"), text"
     ),
     "test_mllp.Oru.test_ids": ("outbound/oru.py", "* 128 + place - 1", "* 64 + place - 1"),
     "test_mllp.Oru.test_codes": (
-        "outbound/oru.py", '[result.ucum, result.unit, "UCUM"] if result.ucum', "[result.unit] if result.ucum"
+        "outbound/oru.py", 'f"{ucum}^{unit}^UCUM" if ucum', "unit if ucum"
     ),
-    "test_mllp.Oru.test_times": ("outbound/oru.py", "7: taken or told.at(first)}", "7: taken}"),
+    "test_mllp.Oru.test_times": ("outbound/oru.py", "priority, taken or told.at(first))", "priority, taken)"),
     "test_mllp.Oru.test_wishes": (
         "outbound/oru.py", "one.authority or authority, one.kind or kind]", "one.authority, one.kind]"
     ),
@@ -218,12 +220,12 @@ FAULTS = {
     "test_mllp.Receivers.test_each_patient": ("outbound/mllp.py", "if data not in accepted:", "if data:"),
     "test_told.AsTold.test_oru": (
         "outbound/oru.py",
-        '    yield segment("MSH", _header(told, place, wishes))\n',
-        '    if place == 1:\n        yield segment("MSH", _header(told, place, wishes))\n',
+        '    yield f"{to}|',
+        '    if place == 1:\n        yield f"{to}|',
     ),
     "test_told.AsTold.test_fhir": ("model/results.py", "yield Case(None, controls", "yield Case(above, controls"),
     "test_told.AsTold.test_csv": ("model/results.py", "int(component or 1) - 1", "0"),
-    "test_makers.Makers.test_oru": ("outbound/oru.py", "19: told.at(result.at),", "19: result.at,"),
+    "test_makers.Makers.test_oru": ("outbound/oru.py", "{told.at(result.at)}", "{result.at}"),
     "test_makers.Makers.test_codes": ("cli/codes.py", "lines.reading(line).test", '""'),
     "test_makers.Makers.test_csv": ("model/results.py", "    if len(filled) == 1:\n", "    if not filled:\n"),
     "test_makers.Makers.test_fhir": ("model/results.py", "len(text) < 12 or not self", "len(text) < 12 or self"),

@@ -75,8 +75,8 @@ class Entry:
     """A record in its message: its fields by number or by name, its notes (C, M, S), and the records below it."""
 
     def __init__(self, row: Row, number: int, encoding: str) -> None:
-        #: The record itself.
-        self.row = row
+        #: The record itself, and its letter.
+        self.row, self.letter = row, row.letter
         #: Its number in the message, from 1.
         self.number = number
         #: The encoding of its texts.
@@ -87,19 +87,14 @@ class Entry:
         self.children: List[Entry] = []
 
     @property
-    def letter(self) -> str:
-        """The record's letter."""
-        return self.row.letter
-
-    @property
     def orders(self) -> "List[Entry]":
         """The orders below a patient or a query."""
-        return [one for one in self.children if one.letter == "O"]
+        return self.children if self.letter in "PQ" else []
 
     @property
     def results(self) -> "List[Entry]":
         """The results below an order."""
-        return [one for one in self.children if one.letter == "R"]
+        return self.children if self.letter == "O" else []
 
     def part(self, field: int, repeat: int = 0, component: int = 0) -> Optional[bytes]:
         """The bytes that a component means; None if there is no such component."""

@@ -123,6 +123,13 @@ class MessagePlaces:
     def __getitem__(self, index: int) -> View:
         return View(self, range(len(self.places))[index])
 
+    @property
+    def rows(self) -> List[Row]:
+        """Its records with their fields."""
+        data, marks = self.data, self.marks
+        texts = [(chr(letter), data[at : at + size]) for at, _, size, letter in self.places]
+        return [Row(letter, text, marks, text.count(marks[0], 5 if letter == "H" else 0), None) for letter, text in texts]
+
     def _of(self, letter: int) -> List[View]:
         return [View(self, index) for index, place in enumerate(self.places) if place[3] == letter]
 

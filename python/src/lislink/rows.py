@@ -111,6 +111,15 @@ class Row:
         _, _, _, between, inside, escape, _ = self._marks
         return None if inside in one or between in one or escape in one else one
 
+    def texts(self, encoding: str) -> List[Optional[str]]:
+        """Its fields as texts without blanks around them, each at its number less one; None for one that has repeats,
+        components or escapes."""
+        _, _, _, between, inside, escape, _ = self._marks
+        return [
+            None if inside in one or between in one or escape in one else one.decode(encoding, "replace").strip()
+            for one in self._split or self._cut()
+        ]
+
     def meaning(self, data: bytes) -> bytes:
         """What the bytes of a component mean: its escapes are decoded."""
         return self._meant(data) if self._marks[5] in data else data

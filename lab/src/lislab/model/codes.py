@@ -7,8 +7,9 @@ import io
 import re
 from typing import Callable, Dict, Iterator, List, NamedTuple, Optional, Sequence, Tuple
 
-from lislink.message import Entry
-from lislink.rows import Row
+from lislink.message import Entry, Message
+from lislink.records import RECORD_BYTES
+from lislink.rows import Row, marks_of
 from .failures import Refused
 from .numbers import Number, number_of, range_of, rounded, times
 from .options import OptionError
@@ -22,6 +23,8 @@ COLUMNS, _NEEDED = (
     ("analyzer", "laboratory"),
 )
 MARK, LEAVE_OUT = "lislab: ", "leave out"
+#: The bytes that records may have (LIS02-A2, 5.4.1 to 5.4.3), and the CR after each.
+_TEXT = bytes([7, 9, 11, 12, 13, *range(32, 127), *range(128, 255)])
 _ONE, _SYSTEM = decimal.Decimal(1), re.compile(r"[A-Za-z0-9]{1,12}$|[a-z]+:[!-~]+$")
 
 
@@ -145,6 +148,17 @@ def _more_of(code: Code, given: Dict[str, str]) -> "Tuple[Optional[Code], str]":
     return code._replace(digits=int(digits) if digits else None, system=system, ucum=ucum), ""
 
 
+class _Change(NamedTuple):
+    """What a table does to the results of a test in a unit: its row, which there may not be, and what that means; the
+    record's new fields, by their numbers; what is to be said of it; and whether values are multiplied."""
+
+    code: Optional[Code]
+    coding: Optional[Coding]
+    fields: Dict[int, bytes]
+    why: str
+    is_product: bool = False
+
+
 class Codes:
     """The codes of a laboratory."""
 
@@ -157,6 +171,8 @@ class Codes:
         self._patterns = sorted(patterns, key=lambda one: (-len(one.named()), not one.sent))
         #: The rows for tests that were looked up.
         self._known: Dict[Tuple[str, str], List[Code]] = {}
+        #: What was done to results, by line, encoding, delimiters, and the fields of the test and the unit.
+        self._changes: Dict[Tuple[str, str, bytes, bytes, bytes], _Change] = {}
 
     def of_orders(self, line: str) -> Dict[str, str]:
         """For the orders of a line: each code of the laboratory, with the analyzer's code in the first row that has it.
@@ -203,8 +219,8 @@ class Codes:
         """A message with the laboratory's codes, its units, and values that are multiplied. What isn't in the table
         stays as it is, and gets a comment that says so after its own; what a row leaves out is gone, with what is
         below it. `Refused` if a word can't be written in the message's encoding."""
-        records: List[bytes] = []
-        marks: List[bytes] = []
+        rows: List[Row] = []
+        marks: List[Row] = []
         codings: Dict[Tuple[int, int], Coding] = {}
         left_out, skips = 0, False
         for entry in message_of(one).entries:
@@ -212,29 +228,30 @@ class Codes:
             if skips:
                 continue
             if marks and entry.letter not in "CMS":
-                records += marks
+                rows += marks
                 marks = []
             if entry.letter == "R":
-                of = field_and_unit(entry)
-                found = self.found(one.line, *of)
-                skips = found is not None and found.laboratory == LEAVE_OUT
+                change = self._change(entry, one)
+                skips = change.code is not None and change.code.laboratory == LEAVE_OUT
                 if skips:
                     left_out += 1
                     continue
-                record, why = self._result(entry, of, one, found)
+                row, why = _result(entry, change, one)
                 numbers = [each for each in entry.notes if each.letter == "C"]
                 marks = [_comment(entry.row, len(numbers) + 1, why, one)] if why else []
-                records.append(record)
-                if found is not None:
-                    codings[len(records), 0] = Coding(found.laboratory, found.system, found.ucum, of[0])
+                rows.append(row)
+                if change.coding is not None:
+                    codings[len(rows), 0] = change.coding
             elif entry.letter == "O":
-                records.append(self._order(entry, one, len(records) + 1, codings))
+                rows.append(self._order(entry, one, len(rows) + 1, codings))
             else:
-                records.append(entry.row.text)
-        body = b"".join(record + b"\r" for record in records)
-        return Coded(one._replace(body=body), reading, codings, left_out)
+                rows.append(entry.row)
+        body = b"".join([row.text + b"\r" for row in rows])
+        is_read = not body.translate(None, _TEXT) and all(len(row.text) <= RECORD_BYTES for row in rows)
+        message = Message(rows, one.encoding) if is_read else None  # who reads the text is told what is wrong
+        return Coded(one._replace(body=body), reading, codings, left_out, message)
 
-    def _order(self, entry: Entry, one: Stored, number: int, codings: Dict[Tuple[int, int], Coding]) -> bytes:
+    def _order(self, entry: Entry, one: Stored, number: int, codings: Dict[Tuple[int, int], Coding]) -> Row:
         """The order with the laboratory's codes of its tests, as far as it has some."""
         row, (_, repeat, component, _) = entry.row, _marks(entry.row)
         tests = []
@@ -248,42 +265,55 @@ class Codes:
             tests.append(component.join(parts))
         return _with(row, {5: repeat.join(tests)} if row.written(5) else {})
 
-    def _result(self, entry: Entry, of: Tuple[str, str], one: Stored, found: Optional[Code]) -> Tuple[bytes, str]:
-        """A result of this field and unit as the laboratory has it, and what is to be said of it."""
-        row, (field, unit) = entry.row, of
+    def _change(self, entry: Entry, one: Stored) -> _Change:
+        """What a table does to the results of a test in a unit."""
+        row = entry.row
+        known = one.line, one.encoding, row.delimiters, row.written(3), row.written(5)
+        found = self._changes.get(known)
         if found is None:
-            code = code_among(field.split("^"), self.reading)
-            known = bool(self._of(one.line, field))
-            return row.text, f"no code for {code} in {unit or 'no unit'}" if known else f"unknown code {code or 'none'}"
-        changes = {3: _test(row, found.laboratory, one)}
-        if found.factor == _ONE:
-            return _with(row, {**changes, **({5: _bytes(found.unit, row, one)} if found.unit else {})}), ""
-        if unit == found.unit:
-            return _with(row, changes), f"it is in {unit} already, and isn't multiplied"
-        value = content_of(entry, 4)
-        number = number_of(value)
-        if number is None and value:
-            return _with(row, changes), "the value is no number, and isn't multiplied"
-        changes[5] = _bytes(found.unit, row, one)
-        told = []
-        if number is not None:
-            changes[4] = _bytes(_times(number, found).text(), row, one)
-            if found.digits is not None:
-                told.append(f"it was {number.text()} {unit}".strip())
-        told += self._range(entry, one, found, changes)
-        return _with(row, changes), "; ".join(told)
+            if len(self._changes) > 10000:
+                self._changes.clear()
+            found = self._changes[known] = self._change_of(entry, one)
+        return found
 
-    @staticmethod
-    def _range(entry: Entry, one: Stored, found: Code, changes: Dict[int, bytes]) -> List[str]:
-        """Multiplies the range of a result; what is to be said of it."""
-        row, text = entry.row, content_of(entry, 6)
-        product = _range_times(text, found)
-        if product:
-            changes[6] = _bytes(product, row, one)
-        elif text.strip():
-            changes[6] = row.written(6) + (b" " + row.written(5)).rstrip()
-            return [f"the range is in {content_of(entry, 5) or 'the unit of the analyzer'}"]
-        return []
+    def _change_of(self, entry: Entry, one: Stored) -> _Change:
+        row, (field, unit) = entry.row, field_and_unit(entry)
+        code = self.found(one.line, field, unit)
+        if code is None:
+            name = code_among(field.split("^"), self.reading)
+            lacked = f"no code for {name} in {unit or 'no unit'}" if self._of(one.line, field) else ""
+            return _Change(None, None, {}, lacked or f"unknown code {name or 'none'}")
+        if code.laboratory == LEAVE_OUT:
+            return _Change(code, None, {}, "")
+        coding, fields = Coding(code.laboratory, code.system, code.ucum, field), {3: _test(row, code.laboratory, one)}
+        if code.factor != _ONE and unit == code.unit:
+            return _Change(code, coding, fields, f"it is in {unit} already, and isn't multiplied")
+        new_unit = {5: _bytes(code.unit, row, one)} if code.unit else {}
+        return _Change(code, coding, {**fields, **new_unit}, "", code.factor != _ONE)
+
+
+def _result(entry: Entry, change: _Change, one: Stored) -> Tuple[Row, str]:
+    """A result as the laboratory has it, and what is to be said of it."""
+    row, code, fields = entry.row, change.code, change.fields
+    if code is None or not change.is_product:
+        return _with(row, fields), change.why
+    value = content_of(entry, 4)
+    number = number_of(value)
+    if number is None and value:
+        return _with(row, {3: fields[3]}), "the value is no number, and isn't multiplied"
+    fields, told = dict(fields), []
+    if number is not None:
+        fields[4] = _bytes(_times(number, code).text(), row, one)
+        if code.digits is not None:
+            told.append(f"it was {number.text()} {content_of(entry, 5)}".strip())
+    usual = content_of(entry, 6)
+    product = _range_times(usual, code)
+    if product:
+        fields[6] = _bytes(product, row, one)
+    elif usual.strip():
+        fields[6] = row.written(6) + (b" " + row.written(5)).rstrip()
+        told.append(f"the range is in {content_of(entry, 5) or 'the unit of the analyzer'}")
+    return _with(row, fields), "; ".join(told)
 
 
 @functools.lru_cache(maxsize=1024)  # a test has one range in many messages
@@ -336,14 +366,21 @@ def _encoded(letter: str, encoding: str) -> bytes:
         return {"\u03bc": "\u00b5", "\u00b5": "\u03bc"}.get(letter, letter).encode(encoding)
 
 
-def _with(row: Row, changes: Dict[int, bytes]) -> bytes:
+def _with(row: Row, changes: Dict[int, bytes]) -> Row:
     """A record with other fields, by the standard's numbers; the letter is field 1."""
+    if not changes:
+        return row
     field = _marks(row)[0]
     cells = row.text.split(field)
-    cells += [b""] * (max(changes, default=0) - len(cells))
+    cells += [b""] * (max(changes) - len(cells))
     for number, data in changes.items():
         cells[number - 1] = data
-    return field.join(cells)
+    return _row(row.letter, field.join(cells), row)
+
+
+def _row(letter: str, text: bytes, like: Row) -> Row:
+    """A record under the delimiters of another one."""
+    return Row(letter, text, marks_of(like.delimiters), text.count(like.delimiters[:1]), None)
 
 
 def _test(row: Row, code: str, one: Stored) -> bytes:
@@ -355,10 +392,10 @@ def _test(row: Row, code: str, one: Stored) -> bytes:
     return component.join([*parts[:3], _bytes(code, row, one), *parts[4:]])
 
 
-def _comment(row: Row, number: int, why: str, one: Stored) -> bytes:
+def _comment(row: Row, number: int, why: str, one: Stored) -> Row:
     words = (MARK + why).encode(one.encoding, "replace").decode(one.encoding)
     cells = [b"C", str(number).encode(), b"L", _bytes(words, row, one), b"G"]
-    return _marks(row)[0].join(cells)
+    return _row("C", _marks(row)[0].join(cells), row)
 
 
 def field_and_unit(result: Entry) -> Tuple[str, str]:

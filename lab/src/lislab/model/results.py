@@ -5,10 +5,12 @@ import functools
 import re
 import zoneinfo
 from collections import Counter
-from typing import Dict, Iterator, List, Mapping, NamedTuple, Optional, Tuple
+from typing import Callable, Dict, Iterator, List, Mapping, NamedTuple, Optional, Tuple
 
 from lislink.letters import UTF_8, looks_like
-from lislink.message import Entry, Fault, Message, read_all
+from lislink.message import Entry, Message
+from lislink.places import MessagePlaces
+from lislink.records import MessageError
 from .failures import Quarantined, Refused
 from .numbers import number_of
 from .options import LETTERS, TWICE
@@ -47,12 +49,14 @@ class Coding(NamedTuple):
 
 class Coded(NamedTuple):
     """A message as it is delivered by a code mapping: how it is read, the entries for the tests of its records, by
-    the record's number in the message and the test's place in it, and how many results it leaves out."""
+    the record's number in the message and the test's place in it, how many results it leaves out, and the message if it
+    is read already."""
 
     one: Stored
     reading: Reading = Reading()
     codings: Mapping[Tuple[int, int], Coding] = {}
     left_out: int = 0
+    message: Optional[Message] = None
 
 
 class Comment(NamedTuple):
@@ -118,11 +122,12 @@ class Case(NamedTuple):
 
 def message_of(one: Stored) -> Message:
     """The message that is kept; `Refused` if it can't be read."""
-    for each in read_all(one.body, one.encoding):
-        if isinstance(each, Fault):
-            raise Refused(f"message {one.number} can't be read: {each.error}")
-        return each.message
-    raise Refused(f"message {one.number} has no records")
+    try:
+        return Message(MessagePlaces(one.body).rows, one.encoding)
+    except MessageError as error:
+        raise Refused(f"message {one.number} can't be read: {error}") from None
+    except ValueError:
+        raise Refused(f"message {one.number} has no records") from None
 
 
 class Told:
@@ -136,7 +141,7 @@ class Told:
         #: The tests of results, by the records' numbers.
         self._tests: Dict[int, Tuple[str, str, Coding, str]] = {}
         self._look_at_letters()
-        self.message = message_of(self.one)
+        self.message = coded.message or message_of(self.one)
         #: How many orders are left out because they have no content; how many codes an order has twice.
         self.orders_left_out = self.twice = 0
         self.cases = [case for entry in self.message.entries if entry.letter in "PQ" for case in self._cases(entry)]
@@ -219,23 +224,30 @@ class Told:
             yield self._result(entry, test, turns[test[0]] if total[test[0]] > 1 else 0)
 
     def _result(self, entry: Entry, test: Tuple[str, str, Coding, str], turn: int) -> Result:
-        _, field, coding, name = test
-        repeats = 1 if entry.row.plain(7) is not None else len(entry.row.field(7))
-        flags = [entry.text(7, at).strip() for at in range(repeats)]
+        (_, field, coding, name), texts = test, entry.row.texts(entry.encoding)
+
+        def read(how: Callable[[Entry, int], str], *fields: int) -> List[str]:
+            found = [texts[at - 1] if at <= len(texts) else "" for at in fields]
+            return [how(entry, at) if text is None else text for at, text in zip(fields, found)]
+
+        value, unit, usual = read(content_of, 4, 5, 6)
+        nature, status = read(field_text, 8, 9)
+        operator, started, completed, instrument = read(first_text, 11, 12, 13, 14)
+        flags = read(field_text, 7) if len(texts) < 7 or texts[6] is not None else repeated(entry, 7)
         return Result(
             coding.code,
             name,
             coding.system,
-            content_of(entry, 4),
-            content_of(entry, 5),
+            value,
+            unit,
             coding.ucum,
-            content_of(entry, 6),
+            usual,
             [one for one in flags if one],
-            field_text(entry, 8),
-            field_text(entry, 9),
-            entry.text(11).strip(),
-            time_of(entry.text(13)) or time_of(entry.text(12)),
-            entry.text(14).strip() or self.message.header.text(5).strip(),
+            nature,
+            status,
+            operator,
+            time_of(completed) or time_of(started),
+            instrument or first_text(self.message.header, 5),
             comments_of(entry),
             field,
             turn,
@@ -377,6 +389,16 @@ def text_of(entry: Entry, field: int) -> str:
         return plain.decode(entry.encoding, "replace")
     parts = entry.parts(field)
     return parts if isinstance(parts, str) else entry.whole(field)
+
+
+def first_text(entry: Entry, field: int) -> str:
+    """The first component of a field without blanks around it."""
+    return entry.text(field).strip()
+
+
+def repeated(entry: Entry, field: int) -> List[str]:
+    """The same of each repeat of a field."""
+    return [entry.text(field, at).strip() for at in range(len(entry.row.field(field)))]
 
 
 def field_text(entry: Entry, field: int) -> str:

@@ -3,9 +3,10 @@ another patient. The same message gives the same bytes each time."""
 import functools
 import hashlib
 import re
+import string
 import time
 from collections import Counter
-from typing import Dict, Iterator, List, Mapping, NamedTuple, Optional, Sequence, Tuple, Union
+from typing import Dict, Iterator, List, Mapping, NamedTuple, Optional, Sequence, Tuple
 
 from lislink.message import Entry
 from ..model.numbers import number_of, range_of
@@ -30,14 +31,14 @@ _WORDS = {
     **{"TISS": "tissue", "UR": "urine", "URINM": "midstream urine"},
 }
 _SPECIMENS = {word.upper(): code for code, words in _WORDS.items() for word in (code, *words.split(", ")) if word}
+#: The numbers of two digits to the base 36.
+_PAIRS = [one + two for one in string.digits + string.ascii_uppercase for two in string.digits + string.ascii_uppercase]
 _ESCAPES = {"|": "\\F\\", "^": "\\S\\", "~": "\\R\\", "\\": "\\E\\", "&": "\\T\\"}
 _SPECIAL = re.compile(r"[|^~\\&\x00-\x1f]")
 #: OBR-7 must be there in a report; it is when the specimen was taken.
 _NOT_TAKEN = "OBR-7 is when the first result was completed: when the specimen was taken isn't known"
 #: A value of type NM, and the most characters of one of type ST.
 _NM, _ST = re.compile(r"[+-]?\d+(?:\.\d+)?$|[+-]?\.\d+$", re.ASCII), 199
-#: A field: a text, its components, or its repeats as lists of components.
-Field = Union[str, Sequence[str], Sequence[Sequence[str]]]
 VERSIONS = ("2.3.1", "2.5", "2.5.1")
 
 
@@ -97,34 +98,25 @@ def wishes_of(words: Sequence[str]) -> Wishes:
     return Wishes(header, authorities, samples, obr, placer, header_time)
 
 
-def escaped(text: str) -> str:
-    """A text in which what has a meaning in HL7 is an escape."""
-    return _SPECIAL.sub(_escape, text)
+def _escaped(*texts: str) -> Sequence[str]:
+    """Texts in which what has a meaning in HL7 is an escape."""
+    if _SPECIAL.search("".join(texts)) is None:
+        return texts
+    return [_SPECIAL.sub(_escape, one) for one in texts]
 
 
 def _escape(found: "re.Match[str]") -> str:
     return _ESCAPES.get(found[0]) or f"\\X{ord(found[0]):02X}\\"
 
 
-def segment(name: str, fields: Mapping[int, Field]) -> str:
-    """A segment with these fields, by their numbers, which rise, and the CR after it."""
-    out, last = name, 0
-    if name == "MSH":  # MSH-1 is the delimiter itself
-        out, last = "MSH|^~\\&", 2
-    for number, value in fields.items():
-        text = _field(value) if value else ""
-        if text:
-            out += "|" * (number - last) + text
-            last = number
-    return out + "\r"
+def _field(parts: Sequence[str]) -> str:
+    """A field with these components, without empty ones at its end."""
+    return "^".join(_escaped(*parts)).rstrip("^")
 
 
-def _field(value: Field) -> str:
-    if isinstance(value, str):
-        return value if value.isalnum() else escaped(value)
-    if isinstance(value[0], str):
-        return "^".join([_field(one) for one in value]).rstrip("^")
-    return "~".join([_field(one) for one in value]).rstrip("~")
+def _segment(*fields: str) -> str:
+    """A segment of fields whose texts are escaped, and the CR after it."""
+    return "|".join(fields).rstrip("|") + "\r"
 
 
 def control_id(key: str, place: int = 1) -> str:
@@ -135,9 +127,9 @@ def control_id(key: str, place: int = 1) -> str:
     else:
         number = int(hashlib.sha256(f"{key} {place}".encode()).hexdigest(), 16)
     digits = ""
-    for _ in range(20):
-        number, digit = divmod(number, 36)
-        digits = "0123456789ABCDEFGHIJKLMNOPQRSTUVWXYZ"[digit] + digits
+    for _ in range(10):
+        number, pair = divmod(number, 1296)
+        digits = _PAIRS[pair] + digits
     return digits
 
 
@@ -159,7 +151,10 @@ def messages_of(data: bytes) -> List[bytes]:
 
 def _segments(told: Told, place: int, case: Case, wishes: Wishes) -> Iterator[str]:
     """The segments of a patient, in turn."""
-    yield segment("MSH", _header(told, place, wishes))
+    mode, one = told.message.header.text(12).strip(), told.one
+    to, kind, rest = _head(one.line, mode if mode in ("D", "T") else "P", tuple(wishes.header.items()))
+    time_of_it = _stamp(one.began if one.ended is None else one.ended)
+    yield f"{to}|{time_of_it}||{kind}|{control_id(one.key, place)}|{rest}\r"
     yield from _patient(case, wishes)
     marks = [Comment("L", mark) for mark in told.marks]
     reports = [(order, list(told.results(order))) for order in case.orders]
@@ -172,21 +167,15 @@ def _segments(told: Told, place: int, case: Case, wishes: Wishes) -> Iterator[st
         marks = []
 
 
-def _header(told: Told, place: int, wishes: Wishes) -> Dict[int, Field]:
-    one, mode = told.one, told.message.header.text(12).strip()
-    at = one.began if one.ended is None else one.ended
-    fields: Dict[int, Field] = {
-        3: "lislab",
-        4: one.line,
-        7: _stamp(at),
-        9: ["ORU", "R01", *([] if wishes.version == VERSIONS[0] else ["ORU_R01"])],
-        10: control_id(one.key, place),
-        11: mode if mode in ("D", "T") else "P",
-        12: wishes.version,
-        18: "UNICODE UTF-8",
-    }
-    given = {number: value.split("^") for number, value in wishes.header.items()}
-    return dict(sorted({**fields, **given}.items()))
+@functools.lru_cache(maxsize=64)
+def _head(line: str, mode: str, header: Tuple[Tuple[int, str], ...]) -> Tuple[str, str, str]:
+    """What MSH has in each message of a line: the fields up to 6, field 9, and the fields from 11."""
+    version = dict(header).get(12, VERSIONS[-1])
+    kind = ["ORU", "R01", *([] if version == VERSIONS[0] else ["ORU_R01"])]
+    fields = {3: ["lislab"], 4: [line], 9: kind, 11: [mode], 12: [version], 18: ["UNICODE UTF-8"]}
+    fields.update({number: value.split("^") for number, value in header})
+    cells = [_field(fields.get(number, [])) for number in range(19)]
+    return "|".join(["MSH|^~\\&", *cells[3:7]]), cells[9], "|".join(cells[11:])
 
 
 def _stamp(at: float) -> str:
@@ -206,25 +195,17 @@ def _patient(case: Case, wishes: Wishes) -> Iterator[str]:
         return
     street, *town = [*parts_of(record, 11), ""]
     sex = field_text(record, 9).upper()
-    yield segment(
-        "PID",
-        {
-            1: "1",
-            3: [_identity(one, *wishes.authorities.get(field, ("", ""))) for field, one in identities.items()],
-            5: [*(name + [""] * 6)[:6], "L"] if name else ["", "", "", "", "", "", "U"],
-            6: parts_of(record, 7),
-            7: _day(record.text(8)),
-            8: sex if sex in ("M", "F", "U") else "",
-            11: [street, "", *town],
-            13: field_text(record, 13),
-        },
-    )
+    named = [_identity(one, *wishes.authorities.get(field, ("", ""))) for field, one in identities.items()]
+    name = [*(name + [""] * 6)[:6], "L"] if name else [""] * 6 + ["U"]
+    mother, where, phone = _field(parts_of(record, 7)), _field([street, "", *town]), _field([field_text(record, 13)])
+    born, sex = _day(record.text(8)), sex if sex in ("M", "F", "U") else ""
+    yield _segment("PID|1", "", "~".join(named), "", _field(name), mother, born, sex, "", "", where, "", phone)
     yield from _notes(case.comments)
 
 
-def _identity(one: Identity, authority: str, kind: str) -> List[str]:
+def _identity(one: Identity, authority: str, kind: str) -> str:
     """A patient's identity (CX): authority and type as the message names them, else as they are set."""
-    return [one.value, "", "", one.authority or authority, one.kind or kind]
+    return _field([one.value, "", "", one.authority or authority, one.kind or kind])
 
 
 def _day(text: str) -> str:
@@ -276,44 +257,40 @@ def _order(
     """OBR, its comments, its priority, its results, and SPM."""
     record, is_old = order.record, wishes.version == VERSIONS[0]
     taken, (code, text) = told.at(record.text(8)), specimen_of(record)
-    kind = [code, text, "HL70487"] if code else ["", text] if text else []
+    kind = _field([code, text, "HL70487" if code else ""])
     priority = _among(_PRIORITIES, field_text(record, 6))
     first = "" if taken else min((one.at for one in results if one.at), default="")
-    fields: Dict[int, Field] = {1: str(number), 4: _service(order, results), 25: _report(order, results)}
-    fields.update(_request(told, order, wishes.placer))
-    fields.update({5: priority, 7: taken or told.at(first)})
-    if is_old:
-        kept = order.instrument_sample if order.sample else ""
-        fields.update({15: kind, 20: kept, 27: [*[""] * 5, priority] if priority else ""})
-    yield segment("OBR", dict(sorted(fields.items())))
+    yield _request(told, number, order, results, (kind, priority, taken or told.at(first)), wishes)
     yield from _notes([*order.comments, *([Comment("L", _NOT_TAKEN)] if first else []), *more])
     if priority and not is_old:
-        yield segment("TQ1", {1: "1", 9: priority})
+        yield f"TQ1|1||||||||{priority}\r"
     for place, result in enumerate(results, 1):
         yield from _result(told, place, result, taken)
     if not is_old and (kind or order.control or order.sample or order.instrument_sample):
-        usual = ["", "control" if order.control else "unspecified"]
-        yield _sample(order, kind or usual, taken, told.at(record.text(15)))
+        usual = "^control" if order.control else "^unspecified"
+        named, role = _field([order.sample, order.instrument_sample]), "Q" if order.control else ""
+        received = told.at(record.text(15))
+        yield _segment("SPM|1", named, "", kind or usual, *[""] * 6, role, *[""] * 5, taken, received)
 
 
-def _request(told: Told, order: Ordered, placer: str) -> Dict[int, Field]:
-    """What OBR has of the order's record. No field of it has the number that who ordered gave the order: OBR-2 is as it
-    is set. The laboratory knows the order by its sample."""
-    record, number = order.record, order.sample if placer == "sample" else ""
-    if placer.startswith("O"):
-        field, component = (placer.split(".") + ["1"])[1:3]
-        number = record.text(int(field), 0, int(component) - 1).strip()
-    return {
-        2: number,
-        3: order.sample or order.instrument_sample,
-        6: told.at(record.text(7)),
-        8: told.at(record.text(9)),
-        11: _among(_ACTIONS, field_text(record, 12)),
-        13: field_text(record, 14),
-        14: told.at(record.text(15)),
-        16: parts_of(record, 17),
-        22: told.at(record.text(23)),
-    }
+def _request(
+    told: Told, number: int, order: Ordered, results: List[Result], known: Tuple[str, str, str], wishes: Wishes
+) -> str:
+    """OBR: with the sample's kind, the priority and the time at which it was taken. No field of the order's record has
+    the number that who ordered gave the order: OBR-2 is as it is set. The laboratory knows the order by its sample."""
+    (kind, priority, taken), record, is_old = known, order.record, wishes.version == VERSIONS[0]
+    placer = order.sample if wishes.placer == "sample" else ""
+    if wishes.placer.startswith("O"):
+        field, component = (wishes.placer.split(".") + ["1"])[1:3]
+        placer = record.text(int(field), 0, int(component) - 1).strip()
+    kept = order.instrument_sample if is_old and order.sample else ""
+    sample = order.sample or order.instrument_sample
+    placer, sample, about, kept = _escaped(placer, sample, field_text(record, 14), kept)
+    requested, ended, received, reported = (told.at(record.text(at)) for at in (7, 9, 15, 23))
+    fields = [placer, sample, _service(order, results), priority, requested, taken, ended]
+    fields += ["", "", _among(_ACTIONS, field_text(record, 12)), "", about, received, kind if is_old else ""]
+    fields += [_field(parts_of(record, 17)), "", "", "", kept, "", reported, "", "", _report(order, results), ""]
+    return _segment(f"OBR|{number}", *fields, f"^^^^^{priority}" if is_old and priority else "")
 
 
 def _among(letters: str, text: str) -> str:
@@ -321,19 +298,12 @@ def _among(letters: str, text: str) -> str:
     return text.upper() if len(text) == 1 and text.upper() in letters else ""
 
 
-def _sample(order: Ordered, kind: List[str], taken: str, received: str) -> str:
-    """SPM."""
-    named = [order.sample, order.instrument_sample] if order.instrument_sample else [order.sample]
-    role = "Q" if order.control else ""
-    return segment("SPM", {1: "1", 2: named, 4: kind, 11: role, 17: taken, 18: received})
-
-
-def _service(order: Ordered, results: List[Result]) -> List[str]:
+def _service(order: Ordered, results: List[Result]) -> str:
     """OBR-4: the test of an order, or of its results if they have one, else the list of its tests."""
     tests = order.tests or [Coding(code, system) for code, system in {(one.code, one.system): 0 for one in results}]
     if len(tests) == 1:
-        return [tests[0].code, "", _system(tests[0].system)]
-    return ["PANEL", " ".join(one.code for one in tests), "L"]
+        return _field([tests[0].code, "", _system(tests[0].system)])
+    return _field(["PANEL", " ".join(one.code for one in tests), "L"])
 
 
 def _system(system: str) -> str:
@@ -363,24 +333,14 @@ def _status(result: Result) -> str:
 
 def _result(told: Told, place: int, result: Result, taken: str) -> Iterator[str]:
     kind, value = _value(result.value)
-    yield segment(
-        "OBX",
-        {
-            1: str(place),
-            2: kind,
-            3: [result.code, result.name, _system(result.system)],
-            4: str(result.turn or ""),
-            5: value,
-            6: [result.ucum, result.unit, "UCUM"] if result.ucum else result.unit,
-            7: _range(result.range),
-            8: [[one] for one in result.flags if one in _FLAGS],
-            10: result.nature if result.nature in _NATURES else "",
-            11: _status(result),
-            14: taken,
-            16: result.operator,
-            18: result.instrument,
-            19: told.at(result.at),
-        },
+    texts = result.code, result.name, _system(result.system), result.unit, result.ucum, result.operator
+    code, name, system, unit, ucum, operator, instrument = _escaped(*texts, result.instrument)
+    flags = "~".join([one for one in result.flags if one in _FLAGS])
+    yield _segment(
+        f"OBX|{place}|{kind}|{code}^{name}^{system}|{result.turn or ''}|{value}",
+        f"{ucum}^{unit}^UCUM" if ucum else unit,
+        f"{_range(result.range)}|{flags}||{result.nature if result.nature in _NATURES else ''}",
+        f"{_status(result)}|||{taken}||{operator}||{instrument}|{told.at(result.at)}",
     )
     told_so = [f"flag {one}" for one in result.flags if one not in _FLAGS]
     told_so += [] if result.status in _STATUS else [f"the analyzer's status is {result.status}"]
@@ -391,24 +351,23 @@ def _result(told: Told, place: int, result: Result, taken: str) -> Iterator[str]
 def _range(text: str) -> str:
     """A range as HL7 has it, if it is one of numbers."""
     usual = range_of(text)
-    return text if usual is None else usual.text()
+    return _field([text if usual is None else usual.text()])
 
 
-def _value(text: str) -> "tuple[str, Field]":
+def _value(text: str) -> "tuple[str, str]":
     """The type of a value, and the value: a number, a number after a comparator, or a text."""
-    if not text:
-        return "", ""
-    if _NM.match(text):
-        return "NM", text
+    if not text or _NM.match(text):
+        return "NM" if text else "", text
     number = number_of(text)
     if number is not None and number.comparator:
-        return "SN", [number.comparator, number.text()[len(number.comparator) :]]
-    return ("ST" if len(text) <= _ST else "TX"), text
+        return "SN", f"{number.comparator}^{number.text()[len(number.comparator) :]}"
+    return "ST" if len(text) <= _ST else "TX", _field([text])
 
 
 def _notes(comments: Sequence[Comment]) -> Iterator[str]:
     for number, one in enumerate(comments, 1):
-        yield segment("NTE", {1: str(number), 2: one.source if one.source in ("L", "P") else "O", 3: one.text})
+        source = one.source if one.source in ("L", "P") else "O"
+        yield _segment(f"NTE|{number}|{source}", *_escaped(one.text))
 
 
 #: The parts of an answer that are logged: only codes, because its texts may repeat a patient's data.
