@@ -27,8 +27,8 @@ def copy(folder):
 
 
 def run(folder, words, **how):
-    """What a command prints within five minutes, and its status."""
-    ran = subprocess.run(words, cwd=folder, stdout=subprocess.PIPE, stderr=subprocess.STDOUT, timeout=300, **how)
+    """What a command prints, and its status. A busy machine may take long."""
+    ran = subprocess.run(words, cwd=folder, stdout=subprocess.PIPE, stderr=subprocess.STDOUT, timeout=3600, **how)
     return ran.stdout, ran.returncode
 
 
