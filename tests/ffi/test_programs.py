@@ -39,8 +39,7 @@ PROGRAMS = {"values": (["values.c", "names.c", "pieces.c", "heap.c"], re.escape(
             "signals": (["../../tests/ffi/signals.c", "analyzer.c", "host.c", "heap.c"], r"a timeout, a busy host, a closed line\n"),
             "message": (["message.c"], r"\d+ calls refused in turn\n"),
             "records": (["records.c"], r"\d+ calls refused in turn\n"),
-            "refused": (["refused.c"], r"\d+ calls refused in turn\n"),
-            "results": (["results.c", "heap.c"], re.escape(RESULTS))}
+            "refused": (["refused.c"], r"\d+ calls refused in turn\n")}
 
 #: What room.cpp prints: 1,048,577 bytes more than C takes, which are those of a text and its end in a string.
 ROOM = (r"a receiver: 499 texts, 0 calls\na station: 499 texts, 0 calls\nreserved: 3145729 bytes\n"
@@ -89,19 +88,6 @@ class Programs(kit.Test):
         for name, wanted in (("quick_results", RESULTS), ("read_places", WHOSE), ("read_results", None)):
             words = [sys.executable, f"{IN_PYTHON}/{name}.py"]
             self.names_one(words, f"{work}/broken", wanted, 0, **python_over(library))
-
-    def test_sessions(self):
-        """A message that a session left without its L is not printed, and is named: its texts come again."""
-        work = kit.folder_of(self)
-        with open(self.panel, "rb") as file:
-            texts = file.read().splitlines(keepends=True)
-        self.runs([*C11, *SANITIZERS, source("results.c"), source("heap.c"), self.archive, "-o", f"{work}/results"])
-        with open(f"{work}/link", "wb") as file:
-            file.write(session(texts[:5]) + session(texts) + session(texts[:5]))
-        with open(f"{work}/link") as given:
-            ran = subprocess.run([f"{work}/results"], stdin=given, capture_output=True, text=True, timeout=300)
-        self.same("results", (ran.stdout, ran.stderr, ran.returncode),
-                  (RESULTS, 2 * "a message without its end is dropped\n", 0))
 
     def names_one(self, words, path, wanted, status, **how):
         """Whether a sample prints this, and one line on standard error of a record that can't be read."""
