@@ -157,12 +157,12 @@ FAULTS = {
         "self._ended.update(ended)",
     ),
     "test_late.Late.test_a_new_line": Edit(
-        "host/duplex.py", "if self._site.is_anew and waits and self", "if False and waits and self"
+        "host/duplex.py", "if self._site.is_anew and self._waits()", "if False and self._waits()"
     ),
     "test_late.Late.test_the_same_line": Edit(
         "host/asked.py", "Serial) and not place.waits:", "Serial) and place.waits:"
     ),
-    "test_late.Late.test_a_serial_line": Edit("host/duplex.py", "return max(float(seconds), QUIET - since)", "return seconds"),
+    "test_late.Late.test_a_serial_line": Edit("host/duplex.py", "max(self._due, self._asked + QUIET * scale)", "self._due"),
     "test_late.Suspended.test_lines_are_taken_anew": Edit(
         "host/line.py", "(self._is_cut or not self._is_busy())", "not self._is_busy()"
     ),
@@ -205,7 +205,9 @@ FAULTS = {
         "diagnosis/events.py", "self._those.get(type(event), ())", "sum(self._those.values(), [])"
     ),
     "test_lines.Lines.test_observers": Edit("diagnosis/events.py", "except Exception as error:", "except OSError as error:"),
-    "test_lines.Lines.test_giving_way": Edit("host/line.py", "return not (self._stopping and self._is_through()) and (", "return ("),
+    "test_lines.Lines.test_giving_way": Edit(
+        "host/line.py", "while not (self._stopping and", "while not (self._stopping and not self._inbox.pieces and"
+    ),
     "test_lines_file.LinesFile.test_enq_behind_eot": Edit(
         "host/line.py", "                if self._stopping and self._is_through():\n                    return\n", ""
     ),
@@ -267,7 +269,7 @@ FAULTS = {
     "test_fixes.Fixes.test_query": Edit("host/duplex.py", "feed(body[: QUERY + 1])", "feed(body[:9])"),
     "test_fixes.Fixes.test_repeats": Edit("cli/serve.py", "place.name: place.fix for", "place.name: () for"),
     "test_fixes.Fixes.test_left": Edit("host/left.py", 'one.body.endswith((b"\\r", b"\\n"))', "False"),
-    "test_fixes.Fixes.test_order": Edit("host/keeper.py", "                    await self._fixer.order.over()", "                    pass"),
+    "test_fixes.Fixes.test_order": Edit("host/keeper.py", "            await self._fixer.order.over()", "            pass"),
     "test_fixes.Fixes.test_a_stop_starts_nothing": Edit("host/fixer.py", "        self._is_stopped = True\n", ""),
     "test_fixes.Fixes.test_tries_delay_nobody": Edit("host/fixer.py", 'self._run("tries", ', 'self._run("short", '),
     "test_fixes.Fixes.test_streams": Edit(
@@ -449,8 +451,8 @@ FAULTS = {
     "test_said.Said.test_saying": Edit("model/said.py", "if poll.poll(0):", "if poll:"),
     "test_said.Said.test_who_waits_is_answered_first": Edit(
         "host/commits.py",
-        "    for _, done, _ in batch:\n        if done",
-        '    if fault is not None:\n        say("")\n    for _, done, _ in batch:\n        if done',
+        "    for one in batch:\n        if one.done",
+        '    if fault is not None:\n        say("")\n    for one in batch:\n        if one.done',
     ),
     "test_serial.Serial.test_a_device_that_is_no_terminal": Edit(
         "host/serials.py", "self._ready is False and not self._unusable and", "self._ready is False and"
@@ -509,7 +511,7 @@ FAULTS = {
     "test_turns.Turns.test_connections_of_a_line": Edit(
         "diagnosis/pulse.py", "if time.monotonic() - pulse.good_at < PATIENCE * pulse.scale:", "if pulse.good_at < 0:"
     ),
-    "test_turns.Turns.test_room_for_texts": Edit("host/line.py", "self._has_room(is_there)", "self._has_room(True)"),
+    "test_turns.Turns.test_room_for_texts": Edit("host/intake.py", "self._note(has is not None)", "self._note(True)"),
     "test_status.Status.test_running": Edit(
         "watch/status.py", "return not store.held_to_the_end and ", "return "
     ),
@@ -539,7 +541,7 @@ FAULTS = {
         "diagnosis/pulse.py", "            if pulse.polls < EMPTY:\n", "            if pulse.polls < 2:\n"
     ),
     "test_watch.Watch.test_reasons": Edit(
-        "diagnosis/pulse.py", "raw = bytes(self._carry) + raw if", "raw = raw if"
+        "diagnosis/pulse.py", "            raw = bytes(self._carry) + raw\n", "            pass\n"
     ),
     "test_watch.Watch.test_ring": Edit(
         "diagnosis/ring.py", "while len(self._held) - drop > self._most:", "while len(self._held) - drop > 2 * self._most:"

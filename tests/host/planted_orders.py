@@ -65,7 +65,7 @@ FAULTS = {
         "elif self._station.phase in (Phase.BUSY, Phase.CONTENTION):\n            self._station.give_up()",
     ),
     "test_orders.Answers.test_a_busy_analyzer": (
-        "host/duplex.py", "seconds = self._station.seconds", "seconds = self._station.seconds and 1"
+        "host/duplex.py", "scale = self._station.seconds, self", "scale = self._station.seconds and 1, self"
     ),
     "test_orders.Answers.test_a_line_that_is_pulled": (
         "host/duplex.py",
@@ -123,7 +123,7 @@ FAULTS = {
     ),
     "test_queries.Queries.test_hl7": ("order.py", 're.match(rb"MSH.", text)', 're.match(rb"FHS.", text)'),
     "test_queries.Queries.test_settings": ("model/asks.py", "O\\.([34])", "O\\.([345])"),
-    "test_orders.OnSerial.test_a_new_host": ("host/duplex.py", "if not self.is_tcp:", "if self.is_tcp:"),
+    "test_orders.OnSerial.test_a_new_host": ("host/duplex.py", "if not self._wire.is_tcp:", "if self._wire.is_tcp:"),
     "test_orders.Unheard.test_long_text": ("host/intake.py", "PIECE, FIRST = 1024, 1 << 16", "PIECE, FIRST = 1 << 20, 1 << 16"),
     "test_orders.Unheard.test_heard_first": ("host/duplex.py", "if self._inbox.pieces:", "if self._inbox.pieces is None:"),
     "test_orders.Answers.test_last_try": (

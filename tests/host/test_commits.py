@@ -62,12 +62,12 @@ class Owed(HostTest):
             turns, counts = line.Turns(), Counter()
             say = lambda *row: said.append(row)  # noqa: E731
             one = line.Line(line.Parts(wire, intake, observers, say, counts, fixer, committer, turns))
-            one._keeper.put_later(ended("1"))
+            one.keeper.put_later(ended("1"))
             await asyncio.sleep(0)
-            before = counts["messages"], one.last
+            before = counts["messages"], one.keeper.last
             kept[0].set_result(None)
             await asyncio.sleep(0.01)
-            return before, (counts["messages"], one.last)
+            return before, (counts["messages"], one.keeper.last)
 
         self.same("before and after", asyncio.run(runs()), ((0, None), (1, 2.0)))
 

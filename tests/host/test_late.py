@@ -157,7 +157,7 @@ class Suspended(HostTest):
             task = asyncio.ensure_future(line.run())
             for unit in (ENQ, FRAME, ENQ):
                 line.data(unit, asyncio.get_running_loop().time())
-                while line._inbox.pieces or line._alarm.waiter is None:
+                while line._inbox.pieces or line._inbox.waiter is None:
                     await asyncio.sleep(0.01)
                 asleep.note()
             line.lost()

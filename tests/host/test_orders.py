@@ -669,6 +669,15 @@ class Desks(HostTest):
         self.same("done", done, ["mark", "mark", "look"])
 
 
+def line_of(outbox, sent, is_tcp=True):
+    """A line with orders, over a wire that takes what is sent."""
+    wire = unittest.mock.Mock(is_tcp=is_tcp, write=sent.append)
+    intake, committer, observers, fixer = (unittest.mock.Mock(names=frozenset(), bodies={}) for _ in range(4))
+    parts = Parts(wire, intake, observers, print, Counter(), fixer, committer, Turns())
+    intake.drop.return_value = intake.take.return_value = []
+    return TwoWayLine(outbox, Site("asks", "x", "latin-1", True, "L-I", "1"), parts)
+
+
 class OnSerial(HostTest):
     """Orders on a serial line."""
 
@@ -688,22 +697,19 @@ class OnSerial(HostTest):
         self.same("asks", os.read(cable.slaves[1], 1) if ready else b"", ENQ)
         self.true("not at once", time.monotonic() - began > 16 * scale)
 
+        async def first(is_tcp):
+            with unittest.mock.patch("lislab.host.duplex.clock", lambda: 100.0):
+                return line_of(unittest.mock.Mock(), [], is_tcp)._start_at()
+
+        self.same("its first session", [asyncio.run(first(is_tcp)) for is_tcp in (False, True)], [116.0, 100.0])
+
 
 class Unheard(HostTest):
     """What comes while the store is asked for orders, or a long text is searched for queries."""
 
-    def line(self, outbox, sent):
-        """A line with orders, over a wire that takes what is sent."""
-        wire = unittest.mock.Mock(is_tcp=True, write=sent.append)
-        intake, committer, observers, fixer = (unittest.mock.Mock(names=frozenset(), bodies={}) for _ in range(4))
-        parts = Parts(wire, intake, observers, print, Counter(), fixer, committer, Turns())
-        line = TwoWayLine(outbox, Site("asks", "x", "latin-1", True, "L-I", "1"), parts)
-        intake.drop.return_value = intake.take.return_value = []
-        return line
-
     def test_long_text(self):
-        """A long text is read in pieces of 1 KiB, and the other lines may have their turn after each; queries are found in the
-        records that are stored, each once."""
+        """A long text is read in pieces of 1 KiB, and the other lines may have their turn after each; queries are found in
+        the records that are stored, each once."""
         text, done, queries = b"H|\\^&\rQ|1|^S1||ALL\rL|1|N\r" * 4000, [], []
 
         class Noted(Reader):
@@ -712,13 +718,13 @@ class Unheard(HostTest):
                 return super().feed(data)
 
         async def runs():
-            line = self.line(unittest.mock.Mock(), [])
-            keeper, line._asks = line._keeper, queries.append
+            line = line_of(unittest.mock.Mock(), [])
+            keeper, line._asks = line.keeper, queries.append
             keeper.intake = Intake("asks", "x", "latin-1", 1 << 24, time.time)
             keeper.intake.listens(line._asking.note, line._asking.over)
             keeper._committer = unittest.mock.Mock(part=60, put=unittest.mock.AsyncMock())
             keeper._fixer.order.over = unittest.mock.AsyncMock()
-            line._share.is_over = line._share.comes_back = lambda: done.append("turn")
+            line._share.is_over = line._share.is_behind = lambda: done.append("turn")
             with unittest.mock.patch("lislab.host.intake.Reader", Noted):
                 self.same("kept", await line._keep(text), True)
 
@@ -736,7 +742,7 @@ class Unheard(HostTest):
             return None
 
         async def runs():
-            line = self.line(outbox, sent)
+            line = line_of(outbox, sent)
 
             async def take(_):
                 line.data(ENQ, asyncio.get_running_loop().time())

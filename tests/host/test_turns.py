@@ -126,8 +126,9 @@ class Shared:
 
 def long_frames(text):
     """The frames of a long text."""
-    starts = range(0, len(text), LONG_FRAME_TEXT)
-    return [frame_bytes(number % 8, start == starts[-1], text[start : start + LONG_FRAME_TEXT], frame_limit=LONG_FRAME_TEXT)
+    size = LONG_FRAME_TEXT
+    starts = range(0, len(text), size)
+    return [frame_bytes(number % 8, start == starts[-1], text[start : start + size], frame_limit=size)
             for number, start in enumerate(starts, 1)]
 
 

@@ -175,7 +175,8 @@ class Owner:
             self._owned()
         size = len(data) - at
         call = self._calls[name] if size <= _SHORT else self._long_calls[name]
-        return int(call(self._pointer, address(data) + at if at else data, size, *words))
+        count: int = call(self._pointer, address(data) + at if at else data, size, *words)
+        return count
 
     def _set_limit(self, limit: int) -> None:
         """Sets how long a frame's text may be. An object that can't have that limit is closed."""
@@ -484,8 +485,9 @@ class Receiver(ReceivingEnd[Step]):
 
     def _heard(self, left: int) -> Iterator[Tuple[int, Step]]:
         out = _library.StepOut()
+        told = ctypes.byref(out)
         while self._at < len(self._piece):
-            self._at += self._read("hear", self._piece, self._at, ctypes.byref(out))
+            self._at += self._read("hear", self._piece, self._at, told)
             if out.note:
                 yield self._at - 1 - left, self._told(out)
 

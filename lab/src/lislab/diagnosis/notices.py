@@ -14,6 +14,10 @@ AT_ONCE, SECONDS = 10, 30.0
 #: another encoding; noise on the line; all else.
 CONNECTION, MESSAGE, FRAME, REPLY, SESSION, OTHER = "connection", "message", "frame", "reply", "session", "other"
 CODES, LETTERS, NOISE = "codes", "letters", "noise"
+#: The steps of a frame that is acknowledged, and of one that is rejected. A member of an enumeration has a name here if
+#: each text would look it up.
+ACCEPTED = Note.ACCEPTED
+TAKEN = (ACCEPTED, Note.DUPLICATE)
 REJECTED = (
     Note.OUT_OF_TURN,
     Note.REFUSED,

@@ -27,6 +27,7 @@ from .events import (
     Sent,
 )
 from .faults import Cause, cause_of_frame
+from .notices import ACCEPTED, TAKEN
 from .protocols import has_bare_frames, is_hl7, parity_of, telnet_in
 from .ring import Ring
 from .verdicts import BAD, GOOD, Verdict, Ways, advice_on, is_way, plain_hint, way_of
@@ -51,7 +52,9 @@ BUCKETS = (0.005, 0.01, 0.025, 0.05, 0.1, 0.25, 0.5, 1.0, 2.5, 5.0, 10.0)
 #: How a disk is full, in the words of SQLite, PostgreSQL and the system.
 _FULL = re.compile("disk is full|no space left|file too large|quota exceeded", re.I)
 _SIGNALS = bytes([4, 5, 6, 0x15])
-_ALONE = (Note.OPENED, Note.ENDED)
+#: The steps with which a session begins or ends.
+_TIMED_OUT = Note.TIMED_OUT
+_SESSIONS = (Note.OPENED, Note.ENDED, _TIMED_OUT)
 _FRAMES = {
     Note.OUT_OF_TURN: Verdict.OUT_OF_TURN,
     Note.NO_ROOM: Verdict.NO_ROOM,
@@ -340,23 +343,23 @@ class Probe:
 
     def _meant(self, meant: Meant) -> None:
         """What a byte meant."""
-        (place, step, _), raw = meant, b""
-        if step.note is not Note.TIMED_OUT:
-            raw = self._now[self._start : place + 1] if step.note not in _ALONE else raw
-            if self._carry:
-                raw = bytes(self._carry) + raw if step.note not in _ALONE else raw
-                self._carry.clear()
+        place, step, is_enq = meant
+        note, raw = step.note, self._now[self._start : place + 1]
+        if self._carry:
+            raw = bytes(self._carry) + raw
+        if note is not _TIMED_OUT:
+            self._carry.clear()
             self._start = place + 1
-        if step.note in (Note.OPENED, Note.ENDED, Note.TIMED_OUT):
-            self._session(step.note, step.note in _ALONE and self._now[place : place + 1] == b"\x05")
-        elif step.note in (Note.ACCEPTED, Note.DUPLICATE):
-            self._accept(step, raw)
-        elif step.note is Note.REFUSED or step.note in _FRAMES:
+        if note in TAKEN:
+            self._accept(note is ACCEPTED, raw)
+        elif note in _SESSIONS:
+            self._session(note, is_enq)
+        elif note is Note.REFUSED or note in _FRAMES:
             self.units += 1
             self._pulse.right("silent", "strange")
             self._reject(step, raw)
 
-    def _accept(self, step: Step, raw: bytes) -> None:
+    def _accept(self, is_new: bool, raw: bytes) -> None:
         """A frame is acknowledged: a new one, or one that came again by its number."""
         frame, pulse = raw[raw.rfind(2) :], self._pulse
         if not self._good:
@@ -364,7 +367,7 @@ class Probe:
         self.units, self._good = self.units + 1, self._good + 1
         if pulse.troubles:
             pulse.right("silent", "strange")
-        if step.note is Note.ACCEPTED:
+        if is_new:
             self._due, pulse.polls, pulse.good_at = (self._due + 1) % 8, 0, time.monotonic()
             if pulse.troubles:
                 pulse.right("frames", "hopeless")

@@ -5,7 +5,7 @@ from typing import Callable, Optional
 from lislink.codes import FrameFault, Note
 from lislink.link import Step
 from .events import Came, Closed, Late, Meant, OwnAnswered, ReplyAfterAll, Restarted, Sees
-from .notices import CONNECTION, FRAME, NOISE, REJECTED, REPLY, SESSION
+from .notices import ACCEPTED, CONNECTION, FRAME, NOISE, REJECTED, REPLY, SESSION, TAKEN
 
 #: After so many bytes without a session, or so many empty sessions, the host logs that.
 BYTES, EMPTY = 1000, 5
@@ -84,19 +84,19 @@ class Watch:
     def meant(self, meant: Meant) -> None:
         """What a byte meant."""
         place, step, is_enq = meant
-        self.at = self._before + place
-        if step.note is Note.OPENED:
+        note, self.at = step.note, self._before + place
+        if note in TAKEN:
+            self._accepted += 1
+            self._taken += note is ACCEPTED
+        elif note is Note.OPENED:
             self.session_over(place)
             self.sessions += 1
             self._start, self._second = self._before + place + 1, self._data[place + 1 : place + 2]
-        elif step.note is Note.ENDED:
+        elif note is Note.ENDED:
             self.session_over(place)
-        elif step.note is Note.TIMED_OUT:
+        elif note is Note.TIMED_OUT:
             self.session_over()
-        elif step.note in (Note.ACCEPTED, Note.DUPLICATE):
-            self._accepted += 1
-            self._taken += step.note is Note.ACCEPTED
-        elif step.note in REJECTED:
+        elif note in REJECTED:
             self._reject(f"ends at byte {self.at} of the connection: {code_of(step)}")
         if is_enq:
             self._note_enq(step)

@@ -1,8 +1,9 @@
 """The last bytes of a line in both directions, with their times: in memory, for who looks now, and gone with the
 process."""
+import functools
 import struct
 import time
-from typing import Iterator, List, NamedTuple, Optional, Tuple
+from typing import Iterator, List, NamedTuple, Optional, Tuple, Union
 
 from lislink.capture import LINE_BYTES, Capture, Line
 from .events import Came, Restarted, Sees, Sent, TimerOver
@@ -30,10 +31,10 @@ class Ring:
         #: The number of the oldest piece that is held, and of the next one.
         self.first = self.next = 0
 
-    def add(self, connection: int, mark: str, data: bytes = b"") -> None:
-        """A piece that comes or goes now."""
-        data = data[-(self._most // 2) :]
-        self._held += HEAD.pack(time.time_ns(), connection, mark.encode(), len(data)) + data
+    def add(self, connection: int, mark: bytes, piece: Union[Came, Sent] = Came(b"")) -> None:
+        """Adds a piece that comes or goes now; without bytes, an event."""
+        data = piece.data[-(self._most // 2) :]
+        self._held += HEAD.pack(time.time_ns(), connection, mark, len(data)) + data
         self.next += 1
         drop = 0
         while len(self._held) - drop > self._most:
@@ -45,10 +46,10 @@ class Ring:
     def sees(self, connection: int) -> Sees:
         """What it does when something goes over a connection of the line."""
         return {
-            Came: lambda came: self.add(connection, ">", came.data),
-            Sent: lambda sent: self.add(connection, "<", sent.data),
-            TimerOver: lambda _: self.add(connection, "T"),
-            Restarted: lambda _: self.add(connection, "R"),
+            Came: functools.partial(self.add, connection, b">"),
+            Sent: functools.partial(self.add, connection, b"<"),
+            TimerOver: lambda _: self.add(connection, b"T"),
+            Restarted: lambda _: self.add(connection, b"R"),
         }
 
     def after(self, number: int) -> Tuple[int, bytes]:

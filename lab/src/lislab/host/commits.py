@@ -1,8 +1,9 @@
-"""Commits: one thread that keeps at once what all lines wait for. A slow disk delays no line's reading."""
+"""Commits: one thread stores together what all lines wait for. A slow disk delays no line's reading."""
 import asyncio
 import threading
 import time
 from collections import deque
+from queue import Empty, SimpleQueue
 from typing import Callable, Deque, List, NamedTuple, Optional
 
 from ..model.store import Store, StoreError, Unit
@@ -14,77 +15,79 @@ LAST_TRIES = 5
 
 
 class _Waiting(NamedTuple):
-    """A unit that is to be kept; `done` is its future, which an error ends unless it is owed."""
+    """A unit that is to be stored, and its future. An error ends the future, unless the unit is owed."""
 
     unit: Unit
     done: "asyncio.Future[None]"
+    is_long: bool
     is_owed: bool
 
 
 class Committer:
-    """Keeps units in the order in which they are put. `put` is done when its unit is on the disk."""
+    """Stores units in the order in which they are put."""
 
     def __init__(self, store: Store, say: Callable[[str], None]) -> None:
         self._store, self._say = store, say
         self._loop = asyncio.get_running_loop()
+        #: What the lines put; None at the end.
+        self._put: "SimpleQueue[Optional[_Waiting]]" = SimpleQueue()
+        #: What the thread has taken from there: units, parts of long texts, and units that could not be stored.
         self._waiting: Deque[_Waiting] = deque()
         self._long: Deque[_Waiting] = deque()
         self._owed: Deque[_Waiting] = deque(maxlen=OWED)
-        #: How many changes of one line are kept at once.
+        #: How many changes of one line are stored at once.
         self.part = store.part
-        #: When what is owed is tried again, and how many changes then.
-        self._next_try, self._some = 0.0, 1
-        #: What the thread waits for, locked as long as it is to wait; whether somebody has unlocked it since.
-        self._wait, self._is_woken, self._stopping = threading.Lock(), False, False
-        self._wait.acquire()
+        #: When what is owed is tried again, and how many changes then; whether the host stops.
+        self._next_try, self._some, self._stopping = 0.0, 1, False
         #: How many commits were made, and how many failed.
         self.commits = self.failed = 0
         self._thread = threading.Thread(target=self._run, name="commits", daemon=True)
         self._thread.start()
 
-    def put(self, unit: Unit, is_long: bool = False) -> "asyncio.Future[None]":
-        """Done when the unit is kept; StoreError if it can't be. Of units that are parts of long texts a commit has
-        one, so that the others don't wait for all."""
-        return self._queue(unit, is_long, False)
-
-    def put_later(self, unit: Unit, is_long: bool = False) -> "asyncio.Future[None]":
-        """Keeps a unit for which no reply waits; if it can't be kept now, it is owed: it is tried again until it is
-        kept. Done then."""
-        return self._queue(unit, is_long, True)
-
-    def _queue(self, unit: Unit, is_long: bool, is_owed: bool) -> "asyncio.Future[None]":
+    def put(self, unit: Unit, is_long: bool = False, is_owed: bool = False) -> "asyncio.Future[None]":
+        """Returns a future, which is done when the unit is on the disk; StoreError if it can't be. A commit has at most
+        one part of a long text, so that other lines don't wait for all of it."""
         done = self._loop.create_future()
-        (self._long if is_long else self._waiting).append(_Waiting(unit, done, is_owed))
-        if not self._is_woken:
-            self._wake()
+        self._put.put(_Waiting(unit, done, is_long, is_owed))
         return done
 
-    def _wake(self) -> None:
-        """Has the thread look for what waits, which it does after it clears this."""
-        if not self._is_woken:
-            self._is_woken = True
-            self._wait.release()
+    def put_later(self, unit: Unit, is_long: bool = False) -> "asyncio.Future[None]":
+        """The same for a unit for which no reply waits. If it can't be stored, it is owed: it is tried again until it
+        is."""
+        return self.put(unit, is_long, True)
 
     async def stop(self) -> None:
-        """Keeps what is still waiting, and ends the thread."""
-        self._stopping = True
-        self._wake()
+        """Stores what is still waiting, and ends the thread."""
+        self._put.put(None)
         while self._thread.is_alive():
             await asyncio.sleep(0.01)
         await asyncio.sleep(0)
 
     def _run(self) -> None:
-        while True:
-            if self._wait.acquire(True, max(0.0, self._next_try - time.monotonic()) if self._owed else -1):
-                self._is_woken = False
-            while self._waiting or self._long:
-                one = [self._long.popleft()] if self._long else []
-                self._keep([*_some_of(self._waiting, TOGETHER), *one])
-            if self._stopping and not self._waiting and not self._long:
-                self._keep_the_rest()
-                return
-            if self._owed:
+        while self._take():
+            one = [self._long.popleft()] if self._long else []
+            batch = [*_some_of(self._waiting, TOGETHER), *one]
+            if batch:
+                self._keep(batch)
+            else:
                 self._keep_owed()
+        self._keep_the_rest()
+
+    def _take(self) -> bool:
+        """Takes what the lines have put. If there is nothing to store, it waits for that, or until what is owed is due.
+        Returns False once the host stops and all is stored."""
+        is_idle = not (self._waiting or self._long or self._stopping)
+        while is_idle or not self._put.empty():
+            try:
+                one = self._put.get(timeout=max(0.0, self._next_try - time.monotonic()) if self._owed else None)
+            except Empty:
+                break
+            is_idle = False
+            if one is None:
+                self._stopping = True
+            else:
+                (self._long if one.is_long else self._waiting).append(one)
+        return bool(self._waiting or self._long or not self._stopping)
 
     def _keep_the_rest(self) -> None:
         tries = LAST_TRIES
@@ -93,50 +96,51 @@ class Committer:
             tries -= 0 if self._keep_owed() else 1
 
     def _keep(self, batch: List[_Waiting]) -> None:
-        fault = self._commit([one.unit for one in batch])
+        """Stores a batch, and then some of what is owed."""
+        fault = self._commit(batch)
         if fault is not None:
             self.failed += 1
             self._owed.extend(one for one in batch if one.is_owed)
-            batch = [one for one in batch if not one.is_owed]
-        self._settle(batch, fault)
-        if fault is None and self._owed:
+            self._settle([one for one in batch if not one.is_owed], fault)
+        elif self._owed:
             self._keep_owed()
 
-    def _settle(self, batch: List[_Waiting], fault: Optional[Exception]) -> None:
-        try:
-            self._loop.call_soon_threadsafe(_settle, batch, fault, self._say)
-        except RuntimeError:
-            pass  # the loop is closed: nobody waits any more
-
     def _keep_owed(self) -> bool:
-        """Tries some of what is owed: whether it is kept. What fails is tried after the others the next time, and one by
-        one, so that none holds up another."""
+        """Tries to store some of what is owed, if that is due. Returns False if it failed. It is then tried after the
+        others, and one by one, so that none holds up another."""
         now = time.monotonic()
         if not self._owed or now < self._next_try:
             return True
         batch = _some_of(self._owed, self._some)
-        fault = self._commit([one.unit for one in batch])
-        if fault is None:
+        if self._commit(batch) is None:
             self._some = min(2 * self._some, TOGETHER)
-            self._settle(batch, None)
             return True
         self._owed.extend(batch)
         self._next_try, self._some = now + 1, 1
         return False
 
-    def _commit(self, units: List[Unit]) -> Optional[Exception]:
+    def _commit(self, batch: List[_Waiting]) -> Optional[Exception]:
+        """Stores a batch. Returns what went wrong; else the batch is settled."""
         try:
-            self._store.commit(units)
-            self.commits += 1
-            return None
+            self._store.commit([one.unit for one in batch])
         except StoreError as error:
             return error
         except Exception as error:  # a fault of the store's own is no reason to lose the thread
             return StoreError(f"{type(error).__name__}: {error}")
+        self.commits += 1
+        self._settle(batch, None)
+        return None
+
+    def _settle(self, batch: List[_Waiting], fault: Optional[Exception]) -> None:
+        """Ends the futures of a batch, on the thread of the lines."""
+        try:
+            self._loop.call_soon_threadsafe(_settle, batch, fault, self._say)
+        except RuntimeError:
+            pass  # the loop is closed: nobody waits any more
 
 
 def _some_of(queue: Deque[_Waiting], most: int) -> List[_Waiting]:
-    """Takes what goes into one commit from a queue, to which others may add meanwhile."""
+    """Takes what goes into one commit."""
     batch: List[_Waiting] = []
     size = 0
     while queue and (not batch or size + len(queue[0].unit) <= most):
@@ -146,12 +150,12 @@ def _some_of(queue: Deque[_Waiting], most: int) -> List[_Waiting]:
 
 
 def _settle(batch: List[_Waiting], fault: Optional[Exception], say: Callable[[str], None]) -> None:
-    for _, done, _ in batch:
-        if done.done():
+    for one in batch:
+        if one.done.done():
             continue
         if fault is None:
-            done.set_result(None)
+            one.done.set_result(None)
         else:
-            done.set_exception(fault)
+            one.done.set_exception(fault)
     if fault is not None:
         say(f"not stored: {fault}")

@@ -10,12 +10,13 @@ from lislink.link import LinkError
 from lislink.records import Reader, messages
 from lislink.rows import Row
 from lislink.station import Answer, Station
-from ..diagnosis.events import Looked, OwnAnswered, OwnFailed, ReplyAfterAll, Sent
+from ..diagnosis.events import Looked, OwnAnswered, OwnFailed, ReplyAfterAll, Sent, TimerOver
 from ..diagnosis.notices import OTHER
 from ..model.query import query_of
 from ..model.store import Add, Change
 from .feeds import Heard
-from .line import ENQ, Ear, Line, Parts
+from .inbox import clock
+from .line import ENQ, NEVER, Ear, Line, Parts
 from .outbox import Batch, Outbox, Site
 
 #: After a text that can't be kept, and after a session of the host's own that failed on a serial line, none starts for
@@ -33,8 +34,8 @@ _WHY = {Outcome.TIMED_OUT: "no reply came in time", Outcome.SIX_TRIES: "a frame 
 
 
 class Read(NamedTuple):
-    """A message that has ended: its records, if it holds a query, and the samples that it has results for, each with all
-    that may name a test of them."""
+    """A message that has ended: its records, if it holds a query; and the samples of its results, each with all that
+    may name one of its tests."""
 
     rows: List[Row]
     results: Dict[str, Set[str]]
@@ -88,24 +89,24 @@ class TwoWayLine(Line):
 
     def __init__(self, outbox: Outbox, site: Site, parts: Parts) -> None:
         super().__init__(parts)
-        self._outbox, self._site, self._asking = outbox, site, Asking(site.encoding)
+        self._outbox, self._site, self._asking, self._say = outbox, site, Asking(site.encoding), parts.say
         #: What is to be sent next; what is being sent; whether the outbox may have more; when a session may start.
         self._ready: Deque[Batch] = deque()
         self._sending: Optional[Batch] = None
-        self._has_work, self._free_at, self._busy = True, self._loop.time(), 0
+        self._has_work, self._free_at, self._busy = True, clock(), 0
         #: How often both asked in a row, and what the station did before the last byte.
         self._contended, self._phase = 0, Phase.NEUTRAL
         #: The queries that are looked up, one after another.
         self._answers: "set[asyncio.Task[None]]" = set()
         self._look_ups = asyncio.Lock()
-        if not self.is_tcp:  # a reply to the host that was here before may still be on its way
+        if not self._wire.is_tcp:  # a reply to the host that was here before may still be on its way
             self._quiet()
         #: When the host sent something of its own last.
-        self._asked = self._loop.time()
+        self._asked = clock()
         #: Whether a session of the host's own had no reply, and nothing came since; whether anything ever came.
         self._unanswered = self._has_heard = False
         outbox.wakes(self._woken)
-        self._keeper.intake.listens(self._asking.note, self._asking.over)
+        self.keeper.intake.listens(self._asking.note, self._asking.over)
 
     def _begin(self, frame: int, is_careful: bool) -> Ear:
         self._station = Station(Role.COMPUTER, frame_limit=frame, careful=is_careful)
@@ -118,13 +119,16 @@ class TwoWayLine(Line):
         self._station.close_line()
         self._quiet()
 
-    def _seconds(self) -> Optional[float]:
-        seconds = self._station.seconds
-        if self.is_tcp or seconds is None or self._station.phase not in _WAITS or self._station.is_open:
-            return seconds
-        # On a serial line ENQ goes out again once no late reply to the last one can come.
-        since = (self._loop.time() - self._asked) / self._limits.scale
-        return max(float(seconds), QUIET - since)
+    def _set_timer(self, now: float) -> None:
+        seconds, scale = self._station.seconds, self._limits.scale
+        self._due = NEVER if seconds is None else now + seconds * scale
+        if seconds is not None and not self._wire.is_tcp and self._waits():
+            # On a serial line ENQ goes out again once no late reply to the last one can come.
+            self._due = max(self._due, self._asked + QUIET * scale)
+
+    def _waits(self) -> bool:
+        """Returns whether ENQ goes out again when the timer is over."""
+        return self._station.phase in _WAITS and not self._station.is_open
 
     def _has_room(self, is_there: bool) -> None:
         if not is_there and self._station.is_open:
@@ -143,17 +147,17 @@ class TwoWayLine(Line):
         self._outbox.forget(self._site, self._woken)
 
     def _quiet(self) -> None:
-        self._free_at = self._loop.time() + QUIET * self._limits.scale
+        self._free_at = clock() + QUIET * self._limits.scale
 
     # ---- what comes
 
     async def _timed(self, now: float) -> None:
-        waits = self._station.phase in _WAITS and not self._station.is_open
-        if self._site.is_anew and waits and self._station.needs_new_line:
+        self._tell(TimerOver())
+        if self._site.is_anew and self._waits() and self._station.needs_new_line:
             self._put_off()
         else:
             await self._meant(self._station.timer(), 0, now)
-            self._look_at_room()
+            self._room.look(self._ear.held)
 
     def _put_off(self) -> None:
         """ENQ would go out again, and a reply to the last one may come late: it goes out on the next connection."""
@@ -163,7 +167,7 @@ class TwoWayLine(Line):
         if batch is not None:
             self._outbox.unsent(self._site, batch)
         self.stop("for a new connection, on which the host asks again")
-        self._set_timer(self._loop.time())
+        self._set_timer(clock())
 
     async def _heard(self, data: bytes, arrived: float) -> None:
         self._note_late(data)
@@ -173,7 +177,7 @@ class TwoWayLine(Line):
                     answer = answer._replace(step=self._feeds.restored(heard, answer.step))
                 await self._meant(answer, place + heard.start, arrived, heard.data[place] == ENQ)
                 if place + heard.start + 1 < len(data):
-                    await self._take_turns()
+                    await self._share.take_turns()
                 if self._is_through():
                     return
 
@@ -183,13 +187,13 @@ class TwoWayLine(Line):
             await self._step(answer.step, arrived, place, is_enq)
             self._contended = 0
         elif answer.send:
-            self._asked = self._loop.time()
+            self._asked = clock()
             self._send(answer.send)
         elif self._station.phase is Phase.BUSY:
             self._asked_in_vain()
         elif self._phase is Phase.CONTENTION and before is not Phase.CONTENTION:
             self._both_asked()
-        self._set_timer(self._loop.time())
+        self._set_timer(clock())
         if self._sending is not None and self._station.phase is Phase.NEUTRAL:
             self._session_over(self._sending)
 
@@ -263,7 +267,7 @@ class TwoWayLine(Line):
         if answer.batch is not None:
             self._ready.append(answer.batch)
         self._has_work = True
-        self._alarm.wake()
+        self._inbox.wake()
 
     def _found(self, is_any: bool) -> None:
         """Whether there was an order for a query. A LIS that hands over none is known by that."""
@@ -281,7 +285,7 @@ class TwoWayLine(Line):
             self._station.give_up()
             back.append(self._sending)
             self._sending = None
-            self._set_timer(self._loop.time())
+            self._set_timer(clock())
         await self._outbox.take_back(self._site, back)
 
     # ---- what goes out
@@ -293,13 +297,12 @@ class TwoWayLine(Line):
     def _woken(self, asked: str, line: str) -> None:
         if asked == self._site.place or (self._site.unasked and not asked and line in ("", self._site.line)):
             self._has_work = True
-            self._alarm.wake()
+            self._inbox.wake()
 
-    def _start_at(self) -> Optional[float]:
+    def _start_at(self) -> float:
         if self._is_busy() or self._stopping or self._lost or not (self._ready or self._has_work):
-            return None
-        turn = (self._station.turn_seconds or 0) * self._limits.scale
-        return self._free_at + turn
+            return NEVER
+        return self._free_at + (self._station.turn_seconds or 0) * self._limits.scale
 
     async def _start(self) -> None:
         batch = self._ready.popleft() if self._ready else await self._outbox.take(self._site)
@@ -317,9 +320,9 @@ class TwoWayLine(Line):
         self._sending, self._phase = batch, self._station.phase
         self._busy, self._contended = self._outbox.put_off.pop(self._site.place, (0, 0))
         self._counts["own_sessions"] += 1
-        self._asked = self._loop.time()
+        self._asked = clock()
         self._send(out)
-        self._set_timer(self._loop.time())
+        self._set_timer(clock())
 
     def _session_over(self, batch: Batch) -> None:
         """A session of the host's own is over. If it failed, a reply may still be on its way: the line is closed if it
@@ -328,7 +331,7 @@ class TwoWayLine(Line):
         if outcome is Outcome.DONE:
             self._tell(OwnAnswered())
             self._sending = None
-            self._free_at = self._loop.time()
+            self._free_at = clock()
             self._counts["orders"] += len(batch.placed)
             self._outbox.sent(self._site, batch)
             return
@@ -342,7 +345,7 @@ class TwoWayLine(Line):
         self._over_in_vain(_WHY.get(outcome, f"the session ended as {outcome.name}"), outcome is Outcome.SIX_TRIES)
         self._unanswered = outcome is Outcome.TIMED_OUT
         self._quiet()
-        if self.is_tcp and outcome is not Outcome.SIX_TRIES:
+        if self._wire.is_tcp and outcome is not Outcome.SIX_TRIES:
             self.stop("since a session of the host's own failed")
 
     def _over_in_vain(self, why: str, is_rejected: bool = False) -> None:

@@ -46,24 +46,22 @@ class Pool:
 
 
 class TextRoom:
-    """The room that a line has for a text that isn't complete. What all lines hold over the first bytes of each is
-    limited."""
+    """The room of a line for a text that isn't complete. All lines share what is over the first bytes of each."""
 
-    def __init__(self, pool: Pool) -> None:
-        self._pool = pool
-        #: How many bytes it has of what all share; how many came since a text was complete.
+    def __init__(self, pool: Pool, note: Callable[[bool], None]) -> None:
+        self._pool, self._note = pool, note
+        #: How many bytes the line has of what all share; how many came since its last text was complete.
         self.has = self.open = 0
 
-    def takes(self, held: int) -> Optional[bool]:
-        """Takes room for so many bytes: whether it is there; None if none is needed."""
-        if held <= FIRST and not self.has:
-            return None
-        has = self._pool.taken(self.has, held)
-        self.has = self.has if has is None else has
-        return has is not None
+    def look(self, held: int) -> None:
+        """Takes room for so many bytes, if the text needs some, and notes whether it is there."""
+        if held > FIRST or self.has:
+            has = self._pool.taken(self.has, held)
+            self.has = self.has if has is None else has
+            self._note(has is not None)
 
     def close(self) -> None:
-        """Gives all back."""
+        """Gives the room back."""
         self._pool.taken(self.has, 0)
 
 
@@ -99,7 +97,8 @@ class _Message:
         #: All its bytes, as long as they aren't too many to be fixed; how many of them count.
         self.body, self.held = body, 0
         self.places = self.size = self.records = 0
-        self.fault, self.letters = "", Letters(begin.encoding)
+        #: Why it can't be read; and what its letters look like, from the first one that isn't ASCII.
+        self.fault, self.letters = "", None  # type: str, Optional[Letters]
         #: Where its last record ended, in bytes of the message.
         self.ended = 0
 
@@ -128,8 +127,6 @@ class Intake:
         self._message: Optional[_Message] = None
         #: The reader of the last message, if it was whole and nothing follows it.
         self._reader: Optional[Reader] = None
-        #: The ends of messages that aren't known to be kept.
-        self._ends: List[End] = []
         #: What the letters of complete messages look like that have ended, by their keys, if it is another encoding.
         self.letters: Dict[str, str] = {}
 
@@ -138,8 +135,8 @@ class Intake:
         self._note, self._broken = note, broken
 
     def take(self, text: bytes) -> Iterator[List[Change]]:
-        """The changes that keep a text, step by step, each of which is short work; TooLong if a message passes the
-        limit. Call `kept` when those so far are kept; if they can't be, or not all were taken, call `undo`."""
+        """Yields the changes that store a text, step by step, each of which is short work; TooLong if a message passes
+        the limit. If they can't be stored, or not all were taken, call `drop`."""
         for piece in (text,) if len(text) <= PIECE and text.endswith(b"\r") else _pieces(text):
             at = 0
             while at < len(piece):
@@ -147,18 +144,7 @@ class Intake:
                 if self._message is None:
                     self._begin(changes)
                 at += self._take_some(piece[at:] if at else piece, changes)
-                for change in changes:
-                    if isinstance(change, End):
-                        self._ends.append(change)
                 yield changes
-
-    def also(self, ends: Iterable[End]) -> None:
-        """Messages that others were made of end with these changes too."""
-        self._ends += ends
-
-    def kept(self) -> None:
-        """All changes so far are kept."""
-        self._ends = []
 
     @property
     def goes_on(self) -> bool:
@@ -170,14 +156,6 @@ class Intake:
         one = self._message
         if one is not None:
             one.fault, one.body = _after(one, reason) + (f"; {one.fault}" if one.fault else ""), None
-
-    def undo(self, reason: str) -> List[Change]:
-        """The changes if those that were given last aren't kept: their messages are not complete."""
-        ends, self._ends = self._ends, []
-        undone = [one._replace(state=INCOMPLETE, reason=reason) if one.state == COMPLETE else one for one in ends]
-        changes = [*undone, *self.drop(reason)]
-        self.bodies = {}
-        return changes
 
     def drop(self, reason: str) -> List[Change]:
         """The changes if no more comes of the message: what was acknowledged of it stays, with the reason."""
@@ -249,7 +227,10 @@ class Intake:
         one.places += 1
         one.size += len(body)
         one.digest.update(body)
-        one.letters.take(body)
+        if one.letters is None and not body.isascii():
+            one.letters = Letters(one.begin.encoding)
+        if one.letters is not None:
+            one.letters.take(body)
         if one.body is not None and self._held is not None:
             one.body += body
             if one.size > self._held.first and not self._held.takes(one):
@@ -262,7 +243,7 @@ class Intake:
             self._reader = one.reader
         else:
             one.reader.close()
-        look = one.letters.look() if state == COMPLETE else ""
+        look = one.letters.look() if state == COMPLETE and one.letters is not None else ""
         if look:
             self.letters[one.key] = look
         if state != COMPLETE and one.body:

@@ -2,11 +2,11 @@
 import asyncio
 import functools
 from collections import Counter
-from typing import Callable, List, Optional, Sequence
+from typing import Callable, Dict, List, Optional, Sequence
 
 from ..diagnosis.events import MessageEnded, Observers
 from ..diagnosis.notices import LETTERS, MESSAGE
-from ..model.store import FIXED, COMPLETE, Add, Change, End
+from ..model.store import COMPLETE, FIXED, INCOMPLETE, Add, Change, End
 from .commits import Committer
 from .intake import Intake
 from .fix import Ended
@@ -27,8 +27,13 @@ def _join(part: List[Change], changes: List[Change]) -> None:
     part += changes
 
 
+def _incomplete(end: End, reason: str) -> End:
+    """The end of a message that could not be stored."""
+    return end._replace(state=INCOMPLETE, reason=reason) if end.state == COMPLETE else end
+
+
 class Keeper:
-    """Keeps what comes on one line."""
+    """Stores what comes on one line."""
 
     def __init__(
         self,
@@ -45,20 +50,25 @@ class Keeper:
         self._tell, self._counts, self._say, self._took_fixed = observers.tell, counts, say, took_fixed
         #: Messages that ended, of which it is to be tried which setting would deliver them.
         self._tries: List[Ended] = []
+        #: The ends of messages in the text that aren't stored yet, by the messages' keys.
+        self._ends: Dict[str, End] = {}
         #: Whether a text is kept in parts.
         self._is_long = False
         #: When the last message was kept, by the clock on the wall.
         self.last: Optional[float] = None
 
     async def keep(self, text: bytes) -> None:
-        """Keeps a text, one part of its changes after another: however many they are, no other line waits for all.
-        StoreError or TooLong if it can't be kept: call `undo` then."""
+        """Stores a text, in parts if it has many changes, so that no other line waits for all of them. Call `undo`
+        after StoreError or TooLong."""
         part: List[Change] = []
         for changes in self.intake.take(text):
+            for one in changes:
+                if isinstance(one, End):
+                    self._ends[one.key] = one
             if self.intake.bodies:
                 changes = await self._fixed(changes)
-            if part and self._share.is_over():
-                await self._share.wait()
+            if part:
+                await self._share.take_turns()
             if len(part) + len(changes) > self._committer.part:
                 self._is_long = True
                 await self._put(part)
@@ -71,38 +81,42 @@ class Keeper:
             await self._put(part)
         self._is_long = False
         if self._tries:
+            self._ends.clear()
             self._fixer.begin_tries(self._tries, self.put_later)
 
     def undo(self, reason: str) -> None:
-        """A text could not be kept."""
+        """A text could not be stored: the messages that ended in it, or go on, are incomplete."""
         self._is_long = False
         self._tries.clear()
-        undone = self.intake.undo(reason)
+        undone: List[Change] = [_incomplete(one, reason) for one in self._ends.values()]
+        undone += self.intake.drop(reason)
+        self._ends.clear()
+        self.intake.bodies = {}
         if undone:
             self.put_later(undone)
 
     async def _fixed(self, changes: List[Change]) -> List[Change]:
-        """The same changes, with what is made of the messages that end and aren't complete."""
+        """Returns these changes, with those that store the messages made of the ones that end and aren't complete."""
         bodies, self.intake.bodies = self.intake.bodies, {}
         self._share.rests()
         changes = await self._fixer.of_all(changes, bodies, True, self._tries)
         self._share.goes_on()
-        self.intake.also(fixed_ends(changes))
+        self._ends.update((one.key, one) for one in fixed_ends(changes))
         return changes
 
     async def _put(self, part: Sequence[Change]) -> None:
-        has_end = False
-        for one in part:
-            if isinstance(one, End):
-                has_end = True
-                if one.state == COMPLETE:
-                    await self._fixer.order.over()  # nothing overtakes what is made of an earlier message
+        """Stores a part of a text."""
+        ends = [one for one in part if isinstance(one, End)] if self._ends else []
+        if ends and any(one.state == COMPLETE for one in ends):
+            await self._fixer.order.over()  # no message overtakes one that is made of an earlier one
         self._share.rests()
         await self._committer.put(part, self._is_long)
-        self.intake.kept()
-        if self._share.comes_back():
+        for one in ends:
+            self._ends.pop(one.key, None)
+        self._share.goes_on()
+        if self._share.is_behind():
             await self._share.wait()
-        if has_end:
+        if ends:
             self._note_ends(part)
 
     def _note_ends(self, changes: Sequence[Change]) -> None:

@@ -1,21 +1,21 @@
 """One line of a host: it hears bytes, keeps texts, and replies. The proved receiver decides what each byte means and
 what is answered; this module decides when an answer goes out: after its text is kept, and never late."""
 import asyncio
+import math
 from collections import Counter
 from dataclasses import dataclass, field
-from typing import Callable, Optional, Protocol, Sequence
+from typing import Callable, Protocol, Sequence
 
 from lislink.codes import Note
 from lislink.link import FRAME_TEXT, RECEIVER, Receiver, Step
 from ..diagnosis.events import Came, Closed, Late, Meant, Noise, NotKept, Observers, Restarted, Sent, TimerOver
-from ..diagnosis.notices import REJECTED
+from ..diagnosis.notices import REJECTED, TAKEN
 from ..model.options import Limits
 from ..model.store import Change, StoreError
-from .alarm import Alarm
 from .asleep import Asleep
 from .commits import Committer
 from .feeds import Heard, LineFeeds
-from .inbox import Inbox
+from .inbox import Inbox, clock
 from .inbox import Wire as Wire
 from .intake import FIRST, Intake, Pool, TextRoom, TooLong
 from .keeper import Keeper
@@ -23,10 +23,10 @@ from .fix import LINE_FEEDS
 from .fixer import Fixer
 from .turns import Share, Turns
 
-#: EOT after so many seconds without a frame is that of an analyzer that heard no reply.
+#: An analyzer that sends EOT so many seconds after the last reply has probably heard no reply.
 BROKEN = 10.0
-ENQ = 5
-#: What ends a session, and what that makes of a message without its L record.
+ENQ, NEVER = 5, math.inf
+#: What ends a session, and the reason of a message that it leaves without its L record.
 _ENDS = {
     Note.OPENED: "a new session began before its L record",
     Note.NOT_READY: "a new session began before its L record",
@@ -34,8 +34,7 @@ _ENDS = {
     Note.TIMED_OUT: "the analyzer sent nothing more before its L record",
 }
 _NOISE = "there was noise on the line before its L record"
-_TAKEN = (Note.ACCEPTED, Note.DUPLICATE)
-#: What follows each ENQ or STX that is heard as noise.
+#: The steps after which ENQ and STX that were heard as noise are counted.
 _AFTER_NOISE = frozenset((Note.ENDED, Note.TIMED_OUT, *REJECTED))
 _COUNTED = {
     Note.OPENED: "sessions",
@@ -49,10 +48,6 @@ _COUNTED = {
     Note.OUT_OF_MEMORY: "rejected",
     Note.TIMED_OUT: "timeouts",
 }
-
-
-def _is_over(at: Optional[float], now: float) -> bool:
-    return at is not None and now >= at
 
 
 @dataclass(frozen=True)
@@ -91,203 +86,166 @@ class Ear(Protocol):
         """How many ENQ and STX were heard as noise."""
 
     def close(self) -> None:
-        """Hears no more."""
+        """Releases its memory."""
 
 
 class Line:
-    """A line that is connected. It tells what happens on it to its observers, none of which it waits for."""
+    """A line that is connected. It tells its observers what happens on it, and waits for none of them."""
 
     def __init__(self, parts: Parts) -> None:
-        self._loop = asyncio.get_running_loop()
-        self._wire, self._limits, self._counts, self._say = parts.wire, parts.limits, parts.counts, parts.say
+        self._wire, self._limits, self._counts = parts.wire, parts.limits, parts.counts
         self._tell, self._asleep, self.peer = parts.observers.tell, parts.asleep, parts.intake.peer
-        self._inbox, self._alarm, self._room = Inbox(parts.wire), Alarm(), TextRoom(parts.room)
+        self._inbox = Inbox(parts.wire)
+        #: Takes bytes that came, at this time of the loop's clock or later.
+        self.data = self._inbox.add
         self._share = Share(parts.turns, self.peer, self._inbox.pause)
         shared = parts.committer, parts.fixer, self._share, parts.observers, parts.counts, parts.say
-        self._keeper = Keeper(parts.intake, *shared, self._took_fixed)
-        #: What is between the line and the end that hears it, if its frames may hold LF; and that end.
+        self.keeper = Keeper(parts.intake, *shared, self._took_fixed)
+        #: Passes frames that may hold LF on to the receiver; None if the line's frames may not.
         self._feeds = LineFeeds(parts.frame, parts.is_careful) if parts.fixer.names & LINE_FEEDS else None
         self._ear: Ear = self._begin(parts.frame, parts.is_careful)
-        #: When the timer is over.
-        self._due: Optional[float] = None
-        #: Whether the last frame was taken, and when a reply went out last.
-        self._is_taken, self._replied = False, 0.0
-        #: When bytes came last, by the loop's clock; whether there was a session; how many bytes were noise.
-        self.last_byte, self.had_session, self._noise = self._loop.time(), False, 0
-        #: Whether it is gone, or to be closed between sessions, or now; why, once that is known.
+        self._room = TextRoom(parts.room, self._has_room)
+        #: When the timer is over; whether the last frame was taken; when a reply was sent last.
+        self._due, self._is_taken, self._replied = NEVER, False, 0.0
+        #: When bytes came last, by the loop's clock; whether there was a session; how many ENQ and STX were noise.
+        self.last_byte, self.had_session, self._noise = clock(), False, 0
+        #: Whether the connection is gone; whether the line is to be closed between sessions, or at once; and why.
         self._lost = self._stopping = self._is_cut = False
         self._closed = ""
 
-    # ---- what is other on a line on which the host sends too
+    # ---- what differs on a line on which the host sends too
 
     def _begin(self, frame: int, is_careful: bool) -> Ear:
-        """Makes the end that hears the line."""
+        """Makes what hears the line."""
         self._receiver = Receiver(frame_limit=frame, careful=is_careful)
         return self._receiver
 
     def _is_busy(self) -> bool:
-        """Whether a session goes on."""
+        """Returns whether a session goes on."""
         return self._ear.is_open
 
     def _begin_anew(self) -> None:
-        """Drops what is held: the analyzer is heard again when it asks for the line."""
+        """Drops what is held. The analyzer is heard again when it sends ENQ."""
         self._receiver.restart()
 
-    def _seconds(self) -> Optional[float]:
-        """How long the timer runs before it is over."""
-        return RECEIVER if self._ear.is_open else None
+    def _set_timer(self, now: float) -> None:
+        """Starts the timer, if the analyzer has the line."""
+        self._due = now + RECEIVER * self._limits.scale if self._receiver.is_open else NEVER
 
     def _end(self) -> None:
         """The line is closed."""
 
     def _has_room(self, is_there: bool) -> None:
-        """Takes no more of a text for which there is no room."""
+        """There is room for more of a text, or there isn't: then its frames are rejected."""
         self._receiver.set_room(is_there)
 
     async def _timed(self, now: float) -> None:
-        """The timer's time is over."""
+        """The timer is over."""
+        self._tell(TimerOver())
         await self._step(self._receiver.timer(), now)
-        self._look_at_room()
+        self._room.look(self._ear.held)
 
     async def _heard(self, data: bytes, arrived: float) -> None:
+        """Passes bytes to the receiver, and does what each of its steps asks for."""
         for heard in self._feeds.take(data) if self._feeds else (Heard(data),):
             for place, step in self._receiver.hear_placed(heard.data):
                 if self._feeds:
                     step = self._feeds.restored(heard, step)
                 await self._step(step, arrived, place + heard.start, heard.data[place] == ENQ)
                 if place + heard.start + 1 < len(data):
-                    await self._take_turns()
+                    await self._share.take_turns()
                 if self._stopping and self._is_through():
                     return
 
-    def _start_at(self) -> Optional[float]:
-        """When a session of the host's own may start, if it has something to send."""
-        return None
+    def _start_at(self) -> float:
+        """Returns when a session of the host's own may start; NEVER if it has nothing to send."""
+        return NEVER
 
     async def _start(self) -> None:
-        """Starts it."""
+        """Starts a session of the host's own."""
 
     def _took_fixed(self, key: str, changes: Sequence[Change]) -> None:
-        """A message was fixed by these changes, and is kept or will be."""
+        """A message was fixed, and these changes store it."""
 
     # ---- what is the same on each line
 
-    def data(self, data: bytes, arrived: float) -> None:
-        """Bytes came, not before this time of the loop's clock."""
-        self._inbox.add(data, arrived, self._loop.time())
-        self._alarm.wake()
-
     def lost(self, why: str = "by the other end") -> None:
-        """The line is gone: what came is still heard."""
+        """The connection is gone. What came before is still heard."""
         self._lost, self._closed = True, self._closed or why
-        self._alarm.wake()
+        self._inbox.wake()
 
     def stop(self, why: str) -> None:
         """Closes the line as soon as no session goes on."""
         self._stopping, self._closed = True, self._closed or why
-        self._alarm.wake()
+        self._inbox.wake()
 
     def cut(self, why: str) -> None:
-        """Closes the line now, also within a session: what came and isn't answered yet is too old."""
+        """Closes the line at once, also within a session: what came and isn't answered yet is too old."""
         self._inbox.clear()
         self._is_cut = True
         self.stop(why)
-
-    @property
-    def is_tcp(self) -> bool:
-        """Whether it is a connection, of which there may be any number."""
-        return self._wire.is_tcp
-
-    @property
-    def last(self) -> Optional[float]:
-        """When its last message was kept, by the clock on the wall."""
-        return self._keeper.last
 
     async def run(self) -> None:
         """Hears the line until it is closed."""
         why = "the line was closed before its L record"
         try:
-            while not (self._stopping and self._is_through()) and (self._inbox.pieces or await self._is_ready()):
-                now = self._loop.time()
+            while not (self._stopping and self._is_through()) and (self._inbox.pieces or not self._lost):
+                now = clock()
                 if self._inbox.pieces:
                     await self._hear(now)
-                elif self._due is not None and now >= self._due:
-                    await self._timer(now)
-                elif _is_over(self._start_at(), now):
+                elif now >= self._due:
+                    await self._timed(now)
+                elif now >= (start := self._start_at()):
                     await self._start()
-                elif now - self.last_byte >= self._limits.idle:
+                elif now >= (idle := self.last_byte + self._limits.idle):
                     self._counts["idle"] += 1
                     self._closed = f"after {self._limits.idle:g} s of silence"
                     break
+                else:
+                    self._share.rests()
+                    await self._inbox.wait(min(self._due, start, idle))
+                    self._share.goes_on()
         except asyncio.CancelledError:
             why = "the host was stopped"
             self._closed = self._closed or "since the host stops"
             raise
         finally:
             self._lost = True
-            self._keeper.drop(f"the line was closed {self._closed}" if self._is_cut else why)
+            self.keeper.drop(f"the line was closed {self._closed}" if self._is_cut else why)
             self._room.close()
             self._end()
             self._ear.close()
             self._tell(Closed(self._closed or "after a fault"))
             self._wire.close()
-            self._alarm.stop()
+            self._inbox.stop()
 
     def _is_through(self) -> bool:
-        """Whether the line is to be closed and no session goes on: what came since, as ENQ, is heard by nobody."""
+        """Returns whether the line is to be closed now. Bytes that came since, as ENQ, are not heard."""
         return self._stopping and (self._is_cut or not self._is_busy())
-
-    async def _is_ready(self) -> bool:
-        """Waits until there is something to do, which isn't so if the line is over."""
-        if self._inbox.paused_at is not None:
-            self._inbox.read_on(self._loop.time())
-        if self._lost:
-            return False
-        due = self.last_byte + self._limits.idle
-        for at in (self._due, self._start_at()):
-            due = due if at is None or at > due else at
-        self._share.rests()
-        await self._alarm.wait(due)
-        self._share.goes_on()
-        return not (self._stopping and self._is_through()) and (not self._lost or len(self._inbox.pieces) > 0)
-
-    async def _timer(self, now: float) -> None:
-        self._tell(TimerOver())
-        await self._timed(now)
 
     async def _hear(self, now: float) -> None:
         """Hears the next piece."""
         arrived, data = self._inbox.take()
         self.last_byte = now
-        if self._due is not None and arrived >= self._due:
-            await self._timer(now)
+        if arrived >= self._due:
+            await self._timed(now)
         self._tell(Came(data))
         self._room.open += len(data)
         await self._heard(data, arrived)
         if self._room.open > FIRST or self._room.has:
-            self._look_at_room()
+            self._room.look(self._ear.held)
         if self._inbox.pieces:
-            await self._take_turns()
-
-    def _look_at_room(self) -> None:
-        """Takes room for the text that is open."""
-        is_there = self._room.takes(self._ear.held)
-        if is_there is not None:
-            self._has_room(is_there)
-
-    async def _take_turns(self) -> None:
-        """Lets the others have their turn, if this line has had more than they."""
-        if self._share.is_over():
-            await self._share.wait()
+            await self._share.take_turns()
 
     def _note_noise(self) -> None:
-        """Notes how many ENQ and STX came inside a session or a frame, where no analyzer sends them."""
+        """Counts ENQ and STX that came inside a session or a frame, where no analyzer sends them."""
         before, self._noise = self._noise, self._ear.noise
         if self._noise > before:
             self._counts["noise"] += self._noise - before
             self._tell(Noise(self._noise - before))
 
     async def _step(self, step: Step, arrived: float, place: int = 0, is_enq: bool = False) -> None:
+        """Does what a step asks for: stores its text, then sends its reply."""
         self._tell(Meant(place, step, is_enq))
         note, has_text = step.note, step.text is not None
         if note in _COUNTED:
@@ -298,21 +256,17 @@ class Line:
             self.had_session = self.had_session or note is Note.OPENED
             is_over = self._is_taken and arrived - self._replied < BROKEN * self._limits.scale
             is_over = is_over and note is Note.ENDED and not is_enq
-            self._keeper.drop(_NOISE if is_enq and note is Note.ENDED else _ENDS[note], is_over)
-        self._is_taken = note in _TAKEN or (self._is_taken and note not in REJECTED)
+            self.keeper.drop(_NOISE if is_enq and note is Note.ENDED else _ENDS[note], is_over)
+        self._is_taken = note in TAKEN or (self._is_taken and note not in REJECTED)
         if step.text is not None and not await self._keep(step.text):
             return
-        now = self._loop.time()
+        now = clock()
         if step.reply and not self._answer(step.reply, arrived, now, has_text):
             return
         self._set_timer(now)
 
-    def _set_timer(self, now: float) -> None:
-        seconds = self._seconds()
-        self._due = None if seconds is None else now + seconds * self._limits.scale
-
     def _answer(self, reply: bytes, arrived: float, now: float, is_kept: bool) -> bool:
-        """Sends a reply, if its sender may still be waiting for it; whether it answers a text that is kept."""
+        """Sends a reply, unless it would be late. `is_kept` says whether it acknowledges a text that is stored."""
         if self._is_cut:
             self._restart(self._closed)
             return False
@@ -328,26 +282,27 @@ class Line:
         return True
 
     async def _keep(self, text: bytes) -> bool:
-        """Keeps a text; if it can't be kept there is no reply, and the receiver begins anew."""
+        """Stores a text. If that fails there is no reply, and the receiver begins anew."""
         self._counts["texts"] += 1
         self._room.open = 0
         try:
-            await self._keeper.keep(text)
+            await self.keeper.keep(text)
         except (StoreError, TooLong) as error:
             self._counts["not_stored"] += 1
             self._tell(NotKept(error))
-            self._keeper.undo(f"a text could not be stored: {error}")
+            self.keeper.undo(f"a text could not be stored: {error}")
             self._restart("a text could not be stored")
             return False
         return True
 
     def _restart(self, reason: str) -> None:
+        """The receiver begins anew, and the message that goes on is dropped for this reason."""
         self._begin_anew()
-        self._set_timer(self._loop.time())
+        self._set_timer(clock())
         self._counts["restarts"] += 1
         self._tell(Restarted())
-        self._keeper.drop(reason)
-        self._look_at_room()
+        self.keeper.drop(reason)
+        self._room.look(self._ear.held)
 
 
 class Ticks:

@@ -80,7 +80,7 @@ class PlainLine(Line):
         return receiver
 
     async def _keep(self, text: bytes) -> bool:
-        intake = self._keeper.intake
+        intake = self.keeper.intake
         if text and text == self._last and intake.goes_on:
             intake.spoil("a block came twice in a row, and may be a repeat")
         self._last = text

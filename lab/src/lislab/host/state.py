@@ -29,8 +29,8 @@ class Counts:
 
     def note_last(self, line: Line, name: str) -> None:
         """Notes when a line kept its last message."""
-        if line.last is not None:
-            self._last[name] = max(line.last, self._last.get(name, 0.0))
+        if line.keeper.last is not None:
+            self._last[name] = max(line.keeper.last, self._last.get(name, 0.0))
 
     def data(self, open_now: "Counter[str]") -> Dict[str, Any]:
         """All of them, with how many connections each line has now."""

@@ -1,48 +1,49 @@
-"""Whose turn it is, where many lines have work for one thread. The lines of a peer have one account. A peer that had
-more of the thread than the others waits until they have had as much: so one that works now and then waits for nobody,
-however many others have work all the time, over however many connections."""
+"""Turns of many lines that share one thread. The lines of a peer have one account, which is charged for their time. A
+peer that has used more time than the others waits until they have used as much. So a peer that works now and then waits
+for nobody, however many others work all the time, and over however many connections."""
 import asyncio
 import heapq
 import time
 from typing import Callable, List, Optional, Tuple
 from weakref import WeakValueDictionary
 
-#: A line goes on without a wait until its peer had so many seconds more than the others, or, unless it had as many
-#: less, until all had so many in this turn of the loop; so many that wait go on in a turn, besides those that had less.
+#: A line goes on without waiting until its peer has used HEARS seconds more than the others. Unless it has used as many
+#: less, it also waits once all lines have used ALL seconds of this turn of the loop. Of the lines that wait, AT_ONCE go
+#: on in each turn of the loop, besides those whose peers have used less.
 HEARS, ALL, AT_ONCE = 0.002, 0.002, 2
-#: What a peer had less counts up to so many seconds; and what it did without a pause: what took longer was not its work
-#: alone, as when the interpreter collects garbage.
+#: A peer that has used less is credited up to CREDIT seconds. A line is charged at most MOST seconds for work without a
+#: pause: what takes longer isn't its work alone, as when the interpreter collects garbage.
 CREDIT, MOST = 0.004, 0.004
 
 
 class Account:
-    """What the lines of a peer had of the thread, in seconds."""
+    """How much time the lines of a peer have used, in seconds."""
 
     def __init__(self, had: float) -> None:
         self.had = had
 
 
 class Turns:
-    """The lines that wait for their turn: one of the peer that had the least is the next one."""
+    """The lines that wait for their turn. The next one is a line of the peer that has used the least time."""
 
-    def __init__(self, worked: Callable[[], float] = time.thread_time) -> None:
-        #: How long the thread has worked.
+    def __init__(self, worked: Callable[[], float] = time.monotonic) -> None:
+        #: The clock by which time is used. The thread's own clock would cost a call of the system each time.
         self.worked = worked
-        #: How much those had that go on.
+        #: How much time the peers used whose lines go on.
         self.had = 0.0
         #: The accounts of the peers that have lines.
         self._accounts: "WeakValueDictionary[str, Account]" = WeakValueDictionary()
         self._waiting: "List[Tuple[float, int, Account, asyncio.Future[None]]]" = []
         self._count, self._goes = 0, False
-        #: When this turn of the loop began; None before any line was asked in it.
+        #: When the first line checked for its turn in this turn of the loop; None if none has.
         self._begun: Optional[float] = None
 
     def account(self, peer: str) -> Account:
-        """The account of a peer, which all its lines have."""
+        """Returns the account of a peer, which all its lines share."""
         return self._accounts.setdefault(peer, Account(self.had))
 
     def is_full(self, now: float) -> bool:
-        """Whether the lines had enough in this turn of the loop, now that the thread has worked for so long."""
+        """Whether the lines have used enough of this turn of the loop by now."""
         if self._begun is None:
             self._begun = now
             asyncio.get_running_loop().call_soon(self._turn_over)
@@ -52,7 +53,7 @@ class Turns:
         self._begun = None
 
     async def wait(self, account: Account) -> None:
-        """Done when it is the turn of a line with this account."""
+        """Returns when it is the turn of a line with this account."""
         loop = asyncio.get_running_loop()
         one: "asyncio.Future[None]" = loop.create_future()
         self._count += 1
@@ -80,40 +81,40 @@ class Turns:
 
 
 class Share:
-    """What a line does with its peer's account."""
+    """What one line uses of its peer's account."""
 
     def __init__(self, turns: Turns, peer: str, before: Callable[[], None] = lambda: None) -> None:
         self._turns, self._account, self._since = turns, turns.account(peer), turns.worked()
-        #: What the line does before it waits for its turn: it is read no further if more waits already.
+        #: Called before the line waits for its turn: it is read no further if more waits already.
         self._before = before
 
     def goes_on(self) -> None:
-        """The line works from now on: what the thread did before was others' work."""
+        """The line works from now on: the time until now isn't charged to it."""
         self._since = self._turns.worked()
 
     def rests(self) -> None:
-        """The line waits for something: what it did since it went on counts."""
+        """Charges the line for the time since it went on: it waits for something now."""
         now, account = self._turns.worked(), self._account
         account.had = max(self._turns.had - CREDIT, account.had) + min(now - self._since, MOST)
         self._since = now
 
-    def is_over(self) -> bool:
-        """Whether others come first: the peer had more than they, with what the line did since it went on, or all had
-        enough for now."""
-        self.rests()
-        return self._is_behind()
-
-    def comes_back(self) -> bool:
-        """The line goes on after it waited for something: whether others come first all the same."""
-        self.goes_on()
-        return self._is_behind()
-
-    def _is_behind(self) -> bool:
-        more = max(self._account.had - self._turns.had, -CREDIT)
+    def is_behind(self) -> bool:
+        """Whether other lines come first: the peer has used more than theirs, or all have used enough of this turn."""
+        more = self._account.had - self._turns.had
         return more > HEARS or (more > -HEARS and self._turns.is_full(self._since))
 
+    def is_over(self) -> bool:
+        """Charges the line for its work so far. Returns whether other lines come first."""
+        self.rests()
+        return self.is_behind()
+
+    async def take_turns(self) -> None:
+        """Lets other lines work, if they come first."""
+        if self.is_over():
+            await self.wait()
+
     async def wait(self) -> None:
-        """Done when it is the line's turn again."""
+        """Returns when it is the line's turn again."""
         self._before()
         await self._turns.wait(self._account)
         self.goes_on()

@@ -46,18 +46,6 @@ def _marks(count: int, width: int) -> str:
     return ",".join([f"({','.join('?' * width)})"] * (count // width))
 
 
-def texts_of(units: Sequence[Unit]) -> List[Any]:
-    """The values of the rows of texts, if one statement can put all that is to be kept: if it is nothing else; empty if
-    it can't."""
-    values: List[Any] = []
-    for unit in units:
-        for one in unit:
-            if not isinstance(one, Add):
-                return []
-            values += one
-    return values if len(values) <= 4 * ROWS else []
-
-
 @functools.lru_cache(maxsize=1024)
 def insert(table: str, count: int, width: int) -> str:
     """A statement that puts rows of so many values into a table: those that aren't there."""

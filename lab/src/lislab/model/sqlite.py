@@ -6,8 +6,8 @@ from typing import Any, Iterator, List, Optional, Sequence, Tuple
 
 from .files import is_locked, take_lock
 from .schema import STATES_OF_SQLITE
-from .sql import TEXT, SqlStore, insert, texts_of
-from .store import Stored, StoreError, Unit
+from .sql import ROWS, TEXT, SqlStore, insert
+from .store import Add, Stored, StoreError, Unit
 
 #: How long another program's short transaction is waited for, in seconds.
 PATIENCE = 5.0
@@ -98,13 +98,14 @@ class SqliteStore(SqlStore):
         return [str(row[0]) for row in self.read("PRAGMA integrity_check") if row[0] != "ok"]
 
     def commit(self, units: Sequence[Unit]) -> None:
-        """Texts alone are put by one statement, which is a transaction by itself."""
-        texts = texts_of(units)
-        if not texts or self._db is None or self._db.in_transaction:
+        """Stores units. If they are few texts, one statement does it, which is a transaction by itself."""
+        changes = [one for unit in units for one in unit]
+        is_short = 0 < len(changes) <= ROWS and all(isinstance(one, Add) for one in changes)
+        if not is_short or self._db is None or self._db.in_transaction:
             super().commit(units)
             return
         try:
-            self.run(insert(TEXT, len(texts), 4), texts)
+            self._db.execute(insert(TEXT, 4 * len(changes), 4), [value for one in changes for value in one])
         except Exception as error:
             raise self._undone(error) from None
 
