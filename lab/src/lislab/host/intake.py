@@ -61,8 +61,9 @@ class TextRoom:
             self._note(has is not None)
 
     def close(self) -> None:
-        """Gives the room back."""
+        """Gives the room back, and notes nothing more."""
         self._pool.taken(self.has, 0)
+        del self._note
 
 
 class Held:

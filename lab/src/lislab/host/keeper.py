@@ -152,6 +152,11 @@ class Keeper:
         elif changes:
             self.put_later(changes)
 
+    def end(self, reason: str) -> None:
+        """The line is closed. It isn't told any more what is fixed, and can be freed at once."""
+        self.drop(reason)
+        self._took_fixed = lambda key, changes: None
+
     async def _end_later(self, changes: List[Change], bodies: Bodies, is_over: bool) -> None:
         """Ends a message for which no reply waits, with what is made of it."""
         tries: List[Ended] = []

@@ -211,7 +211,7 @@ class Line:
             raise
         finally:
             self._lost = True
-            self.keeper.drop(f"the line was closed {self._closed}" if self._is_cut else why)
+            self.keeper.end(f"the line was closed {self._closed}" if self._is_cut else why)
             self._room.close()
             self._end()
             self._ear.close()

@@ -98,6 +98,7 @@ class TcpWire(asyncio.BufferedProtocol, Wire):
             self._transport.write(data)
 
     def close(self) -> None:
+        self.line = None
         if self._transport is not None:
             self._transport.close()
 
