@@ -236,6 +236,7 @@ FAULTS = {
     "test_deliver.Deliver.test_letters": ("model/results.py", "self.marks += [why] if why else []", "del why"),
     "test_deliver.Deliver.test_left_out": ("outbound/deliver.py", "self.empty += not is_handed", "self.empty += 0"),
     "test_deliver.Deliver.test_filters": ("outbound/export.py", "line(_harmless(row) if form.safe else row)", "line(row)"),
+    "test_deliver.Deliver.test_corrected": ("outbound/corrected.py", "if first.number < number", "if number"),
     "test_deliver.Deliver.test_ends_the_process": ("outbound/quarantine.py", "self._count(one.key, tries + 1)", "pass"),
     "test_deliver.Deliver.test_a_stop_is_no_try": (
         "outbound/deliver.py", "except (Unreachable, Stopped):", "except Unreachable:"

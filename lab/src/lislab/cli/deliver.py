@@ -11,11 +11,13 @@ from ..model import options
 from ..model.failures import Refused
 from ..model.files import is_locked
 from ..model.options import OptionError, split_peer
+from ..model.results import Reading
 from ..model.said import many, say
-from ..model.store import StoreError
+from ..model.store import Store, StoreError
 from ..model.stores import open_store
 from ..outbound import deliver, export, https, mllp, quarantine
 from ..outbound.ahead import Ahead
+from ..outbound.corrected import Corrections, without
 from .common import GOOD, LOOKS_WRONG, add_renamed
 from .export import add_forms, form_asked
 from .words import COUNT, FACTOR, add_store
@@ -88,8 +90,19 @@ def _form_of(ask: argparse.Namespace) -> export.Form:
     return form_asked(ask, form, say)
 
 
-def _target_of(ask: argparse.Namespace, form: export.Form, lock: int, ahead: Ahead) -> deliver.Target:
+def _target_of(
+    ask: argparse.Namespace, form: export.Form, store: Store, lock: int, ahead: Ahead
+) -> deliver.Target:
     """A function that delivers a message, by the options."""
+    target = _receiver_of(ask, form, lock, ahead)
+    if form.form in ("records", "json"):
+        return target
+    reading = form.tables.reading if form.tables else lambda line: Reading()
+    return without(target, Corrections(store, reading), say)
+
+
+def _receiver_of(ask: argparse.Namespace, form: export.Form, lock: int, ahead: Ahead) -> deliver.Target:
+    """The same for any message."""
     where: str = ask.to or ask.directory or ""
     scheme, slashes, rest = where.partition("://")
     scheme = scheme if slashes else ""
@@ -119,7 +132,7 @@ def run_deliver(ask: argparse.Namespace) -> int:
     try:
         kept = _quarantine_of(ask, form)
         ahead = Ahead(export.writer_of(form))
-        target = _target_of(ask, form, cursor.lock, ahead)
+        target = _target_of(ask, form, store, cursor.lock, ahead)
         one = deliver.Delivery(
             store,
             cursor,
@@ -184,7 +197,7 @@ def _run_again(ask: argparse.Namespace) -> int:
     store = open_store(ask.store)
     cursor = deliver.Cursor(ask.cursor, say)
     try:
-        target = _target_of(ask, form, cursor.lock, Ahead(export.writer_of(form)))
+        target = _target_of(ask, form, store, cursor.lock, Ahead(export.writer_of(form)))
         one = deliver.Delivery(store, cursor, target, say, quarantine=_quarantine_of(ask, form))
         return GOOD if deliver.run_again(one, ask.resend) else LOOKS_WRONG
     finally:
