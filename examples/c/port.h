@@ -26,14 +26,17 @@ static inline time_t now(void) {
 static inline int accept_one(uint16_t port) {
     struct sockaddr_in at = {.sin_family = AF_INET, .sin_port = htons(port)};
     socklen_t size = sizeof at;
-    int server = socket(AF_INET, SOCK_STREAM, 0);
+    int server = socket(AF_INET, SOCK_STREAM, 0), again = 1, line;
     at.sin_addr.s_addr = htonl(INADDR_LOOPBACK);
-    if (server < 0 || bind(server, (struct sockaddr *)&at, size) != 0 || listen(server, 1) != 0
+    if (server < 0 || setsockopt(server, SOL_SOCKET, SO_REUSEADDR, &again, sizeof again) != 0
+        || bind(server, (struct sockaddr *)&at, size) != 0 || listen(server, 1) != 0
         || getsockname(server, (struct sockaddr *)&at, &size) != 0)
         return -1;
     printf("port %d\n", ntohs(at.sin_port));
     fflush(stdout);
-    return accept(server, NULL, NULL);
+    line = accept(server, NULL, NULL);
+    close(server);    /* the next program may have the port */
+    return line;
 }
 
 /* Sends a byte; whether the line takes it. A line that the other side closed ends no program. */

@@ -36,18 +36,21 @@ struct line_clock {
 
 // The line of the first analyzer that connects to a port; port 0 is one that is free, and is printed. -1 if it fails.
 inline int accept_one(unsigned short port) {
-    int server = socket(AF_INET, SOCK_STREAM, 0);
+    int server = socket(AF_INET, SOCK_STREAM, 0), again = 1;
     sockaddr_in at{};
     socklen_t size = sizeof at;
     at.sin_family = AF_INET;
     at.sin_port = htons(port);
     at.sin_addr.s_addr = htonl(INADDR_LOOPBACK);
-    if (server < 0 || bind(server, reinterpret_cast<sockaddr *>(&at), sizeof at) != 0 || listen(server, 1) != 0
+    if (server < 0 || setsockopt(server, SOL_SOCKET, SO_REUSEADDR, &again, sizeof again) != 0
+        || bind(server, reinterpret_cast<sockaddr *>(&at), sizeof at) != 0 || listen(server, 1) != 0
         || getsockname(server, reinterpret_cast<sockaddr *>(&at), &size) != 0)
         return -1;
     std::printf("port %d\n", ntohs(at.sin_port));
     std::fflush(stdout);
-    return accept(server, nullptr, nullptr);
+    int line = accept(server, nullptr, nullptr);
+    close(server);    // the next program may have the port
+    return line;
 }
 
 // A new line to HOST:PORT, -1 if it fails.
