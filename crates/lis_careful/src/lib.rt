@@ -7,6 +7,3 @@ mod receiver;
 
 pub use lis_link::{Hearing, ReceiverOf, Step};
 pub use receiver::{CarefulHearing, closes, hear_byte, hear_bytes, heard_as, is_altered, noise_of};
-
-#[cfg(test)]
-mod tests;

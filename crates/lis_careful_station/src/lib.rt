@@ -7,6 +7,3 @@ mod station;
 pub use lis_careful::CarefulHearing;
 pub use lis_station::{AnswerOf, Role, Station, StationOver};
 pub use station::{CarefulHearingOf, hear_byte, hear_bytes, hear_receiving};
-
-#[cfg(test)]
-mod tests;
