@@ -1,5 +1,6 @@
-//! Ports over a reader or a writer that fails at one call and works again after it: a call that was made again would
-//! be seen to succeed.
+//! What no contract of a port over a reader or a writer says: it fails where that one does, and no call is made again.
+//! Most are over one that fails at one call and works again after it, where a call that was made again would be seen
+//! to succeed.
 
 use lis_port::{Buffered, Faltering, Once, ReadAhead, Reading, Sink, Source, Writing, read_sent};
 use std::io::{BufReader, BufWriter, ErrorKind, Read, Result, Write};
@@ -121,6 +122,24 @@ fn a_sink_reports_whether_its_flush_failed(rt: HostRuntime) {
     let mut sink = Writing::new(writer);
     assert!(rt; sink.flush().is_ok() && !sink.failed());
     assert!(rt; sink.flush().is_err() && sink.failed());
+    assert!(rt; sink.into_inner().calls() == 2);
+}
+
+#[test]
+fn an_interrupted_write_is_not_made_again(rt: HostRuntime) {
+    let mut sink = Writing::new(Faltering::new(Vec::new(rt.alloc()), 1, ErrorKind::Interrupted));
+    assert!(rt; sink.write(b"abc") == Ok(3));
+    assert!(rt; sink.write(b"def").is_err());
+    assert!(rt; sink.into_inner().calls() == 2);
+}
+
+#[test]
+fn a_buffered_sink_sends_at_a_flush(rt: HostRuntime) {
+    let writer = BufWriter::with_capacity(rt.alloc(), 8, Vec::new(rt.alloc()));
+    let mut sink = Buffered::new(writer.expect(&rt, "memory"));
+    assert!(rt; sink.write(b"abc") == Ok(3));
+    assert!(rt; sink.flush().is_ok());
+    assert!(rt; sink.into_inner().get_ref().as_slice() == b"abc".as_slice());
 }
 
 #[test]
@@ -158,8 +177,10 @@ fn all_that_was_read_ahead_is_given(rt: HostRuntime) {
     let reader = BufReader::with_capacity(rt.alloc(), 4, b"abcd".as_slice());
     let mut source = ReadAhead::new(reader.expect(&rt, "memory"));
     assert!(rt; source.read(&mut buffer[..1]) == Ok(1));
+    assert!(rt; !source.may_wait());
     assert!(rt; source.read(&mut buffer) == Ok(2));
     assert!(rt; buffer.as_slice() == b"bc".as_slice());
+    assert!(rt; source.into_inner().buffer() == b"d".as_slice());
 }
 
 #[test]

@@ -14,8 +14,6 @@ mod faults;
 #[cfg(test)]
 mod link_text;
 #[cfg(test)]
-mod port;
-#[cfg(test)]
 mod ports_in_memory;
 #[cfg(test)]
 mod receiving;
