@@ -61,6 +61,6 @@ fn a_whole_frame_is_borrowed_at_once(rt: HostRuntime) {
     let frame = Frame::new(1, true, text).expect(&rt, "a frame");
     let bytes = frame_bytes(&frame);
     let (count, borrowed) = Scanner::new().scan(bytes.as_slice());
-    assert!(rt; count == 247);
-    assert!(rt; borrowed.is_some_and(|frame| frame.is_last() && frame.text().len() == 240));
+    let frame = borrowed.expect(&rt, "a frame");
+    assert!(rt; count == 247 && frame.is_last() && frame.text().len() == 240);
 }

@@ -68,16 +68,16 @@ fn the_components_of_a_record_are_found(rt: HostRuntime) {
             parts[4].component
         ) == (7, 3, 3, 3)
     );
-    assert!(rt;
-        table.record(4).is_some_and(|entry| entry.len() == 3) && table.record(14).is_none()
-    );
+    let entry = table.record(4).expect(&rt, "a record");
+    assert!(rt; entry.len() == 3 && table.record(14).is_none());
     drop(table);
 }
 
 /// Fails where the table has no tree of so many records.
 fn assert_tree(rt: &impl Abort, alloc: Global, table: &MessageTable<'_>, count: u64) {
     let made: Option<Message> = table.to_message(alloc).expect(rt, "memory");
-    assert!(rt; made.as_ref().is_some_and(|message| message.len() == count));
+    let made = made.expect(rt, "a message");
+    assert!(rt; made.len() == count);
     drop(made);
 }
 
