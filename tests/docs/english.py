@@ -19,10 +19,8 @@ def blank(found):
 
 
 def without_code(text):
-    """A page in which each piece of code is the word Code, each link is its text, and blocks of code are blank, as the
-    names after the broken line of an item are."""
+    """A page in which each piece of code is the word Code, each link is its text, and blocks of code are blank."""
     text = re.sub(r"(?ms)^ *```.*?^ *```$|<!--.*?-->", blank, text)
-    text = re.sub(r"\\\n(?:  .*\n)*", blank, text)
     text = re.sub(r"(?m)(?<=\n\n)(?:(?: {4}.*|)\n)+", blank, text)
     text = re.sub(r"!\[[^]]*\]\([^)]*\)", blank, text)
     text = re.sub(r"(?s)(`+)(?!`)((?:(?!\n\n).)+?)(?<!`)\1(?!`)", lambda it: "Code" + "\n" * it[0].count("\n"), text)

@@ -32,7 +32,7 @@ FOUND = [
     (GOOD, 0, [7], [], []),
     (GOOD + f"\n{LONG}\n", 1, [7], [], []),
     (GOOD + f"\n```\n{LONG}\nWhat is kept.\n```\n\n| {LONG} | What is kept. |\n", 0, [7], [], []),
-    (GOOD + f"\n- It ends.\\\n  `a`{', `b`' * 40}\n- {LONG}\\\n  `What`\n", 1, [7], [], []),
+    (GOOD + f"\n- It ends.\n  `a`{', `b`' * 20}.\n- {LONG}\n  `What`.\n", 1, [7], [], []),
     (GOOD + "\nIt ends. What is acknowledged\nis kept. `What` is code.\n", 0, [7, 18], [], []),
     ("# A page\n\nFor all. It presumes nothing.\n\n## Next\n", 0, [], ["what to read next"], []),
     ("# A page\n\nText.\n\n## For whom\n\nRead next. You need it.\n", 0, [],
