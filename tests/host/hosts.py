@@ -25,6 +25,7 @@ SCALE = 0.02
 #: The scale of a test in which no timer may run out, however busy the machine is: 15 seconds are 5 minutes.
 NEVER = 20
 ENV = {**os.environ, "PYTHONPATH": SOURCE}
+SENDER = os.path.join(ROOT, "tests", "host", "sender.py")
 FAULTY = os.path.join(ROOT, "tests", "host", "faulty.py")
 
 
@@ -234,9 +235,9 @@ def lislab(*words, **how):
 
 
 def sending(port, *words, scale=SCALE):
-    """`lislab send` as a process that goes on."""
+    """`lislab send` as a process that goes on, perhaps on a bad line."""
     to = ["--to", f"127.0.0.1:{port}", "--scale", str(scale), "--quiet"]
-    words = ["-m", "lislab", "send", *to, *words]
+    words = [SENDER, *to, *words]
     return process(words, stdout=subprocess.DEVNULL, stderr=subprocess.PIPE)
 
 

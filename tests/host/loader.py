@@ -22,10 +22,8 @@ def main():
         texts=lambda one: (message(one, number) for number in range(shares[one])),
         names=names,
         rate=0.0,
-        trouble=send.Trouble(),
         scale=1.0,
         tries=10,
-        seed=1,
         log=None,
         seconds=None,
     )

@@ -19,7 +19,7 @@ from lislab.host import asked as asking
 from lislab.host import serials, serve
 from lislab.host import tty as serial
 from lislab.model.stores import open_store
-from tests.host.hosts import ENV, SCALE, Found, Host, HostTest, acknowledged, process
+from tests.host.hosts import ENV, SCALE, SENDER, Found, Host, HostTest, acknowledged, process
 
 #: Where Debian's packages for Python are.
 DEBIAN = "/usr/lib/python3/dist-packages"
@@ -256,7 +256,7 @@ class Serial(HostTest):
         store, log = self.path(f"{name}.db"), self.path(f"{name}.log")
         host = Host(store, "--serial", f"{cable.names[0]}:9600,name=serial", listen=False, env=env)
         words = ["--serial", f"{cable.names[1]}:9600", "--scale", str(SCALE), "--noise", "0.001", "--tries", "0"]
-        words = ["-m", "lislab", "send", *words, "--made", "60", "--log", log, "--quiet"]
+        words = [SENDER, *words, "--made", "60", "--log", log, "--quiet"]
         one = process(words, stdout=subprocess.DEVNULL, stderr=subprocess.DEVNULL, env=env)
         for _ in range(3):
             time.sleep(0.7)

@@ -1,7 +1,6 @@
 """`lislab send --query`: an analyzer that queries the orders of samples, receives them, and may send results for
 them."""
 import asyncio
-import random
 import re
 from typing import Iterator, List, NamedTuple, Optional, Sequence, Tuple
 
@@ -10,7 +9,7 @@ from lislink.letters import LATIN
 from lislink.link import FRAME_TEXT
 from lislink.records import Writer, messages
 from lislink.station import Answer, Station
-from .send import Channel, Target, Trouble, connect
+from .send import Channel, Target, connect
 
 #: How long the orders are waited for after a query, and a session that the host begins, in seconds.
 ORDERS = 30.0
@@ -124,13 +123,13 @@ class Asker:
         self._station.close()
 
 
-async def connected(target: Target, tries: int, scale: float) -> Channel:
+async def connected(target: Target, tries: int) -> Channel:
     """A line to a host, which is tried so many times, a second apart; OSError."""
     tried = 0
     while True:
         tried += 1
         try:
-            return await connect(target, Trouble(), random.Random(), scale)
+            return await connect(target)
         except OSError:
             if tried == tries:
                 raise

@@ -6,7 +6,6 @@ import json
 import os
 import random
 import socket
-import struct
 import sys
 import time
 from collections import Counter, deque
@@ -25,23 +24,12 @@ Target = Union[Tuple[str, int], Serial]
 Texts = List[bytes]
 
 
-class Trouble(NamedTuple):
-    """What goes wrong on the line on purpose: the chance of damage to a byte, of a reply that is held back until its
-    timer is over, and of a reset before a unit; whether units are cut at random places."""
-
-    noise: float = 0.0
-    late: float = 0.0
-    reset: float = 0.0
-    cut: bool = False
-
-
 class Channel(asyncio.Protocol):
-    """A line to a host, with its trouble."""
+    """A line to a host."""
 
-    def __init__(self, trouble: Trouble, rng: random.Random, scale: float) -> None:
-        self._trouble, self._rng, self._scale = trouble, rng, scale
+    def __init__(self) -> None:
         self._loop = asyncio.get_running_loop()
-        self._came: Deque[Tuple[float, int]] = deque()
+        self._came: Deque[int] = deque()
         self._waiter: "Optional[asyncio.Future[None]]" = None
         self._closed = False
         self._transport: Optional[asyncio.Transport] = None
@@ -54,12 +42,8 @@ class Channel(asyncio.Protocol):
         transport.get_extra_info("socket").setsockopt(socket.IPPROTO_TCP, socket.TCP_NODELAY, 1)
 
     def data_received(self, data: bytes) -> None:
-        """Replies came; some are held back, and with each all that follow."""
-        for byte in self._damaged(data):
-            at = max(self._loop.time(), self._came[-1][0] if self._came else 0.0)
-            if self._trouble.late and self._rng.random() < self._trouble.late:
-                at += REPLY * self._scale * (1 + self._rng.random())
-            self._came.append((at, byte))
+        """Replies came."""
+        self._came.extend(data)
         self._wake()
 
     def connection_lost(self, exc: Optional[Exception]) -> None:
@@ -91,46 +75,22 @@ class Channel(asyncio.Protocol):
 
     async def byte(self, due: float) -> Optional[int]:
         """The next reply byte; None if none comes until then. EOFError if the line is closed."""
-        while True:
-            now = self._loop.time()
-            if self._came and self._came[0][0] <= now:
-                return self._came.popleft()[1]
-            if self._closed and not self._came:
+        while not self._came:
+            if self._closed:
                 raise EOFError("the line is closed")
-            if now >= due:
+            if self._loop.time() >= due:
                 return None
             self._waiter = self._loop.create_future()
-            alarm = self._loop.call_at(min(due, self._came[0][0]) if self._came else due, self._wake)
+            alarm = self._loop.call_at(due, self._wake)
             try:
                 await self._waiter
             finally:
                 alarm.cancel()
                 self._waiter = None
-
-    def _damaged(self, data: bytes) -> bytes:
-        """With this chance a byte, one byte of a unit is lost, or becomes another that is printable. The checksum
-        notices each such damage of a frame, and no reply becomes another one."""
-        noise, rng = self._trouble.noise, self._rng
-        if not noise or rng.random() < (1 - noise) ** len(data):
-            return data
-        place = rng.randrange(len(data))
-        other = bytes([rng.choice([byte for byte in range(32, 127) if byte != data[place]])])
-        return data[:place] + (b"" if rng.random() < 0.2 else other) + data[place + 1 :]
+        return self._came.popleft()
 
     async def write(self, data: bytes) -> None:
         """Sends a unit."""
-        if self._trouble.reset and self._rng.random() < self._trouble.reset:
-            self.reset()
-            raise EOFError("the line is reset")
-        data = self._damaged(data)
-        while data:
-            size = self._rng.randrange(1, len(data) + 1) if self._trouble.cut else len(data)
-            self._write(data[:size])
-            data = data[size:]
-            if data:
-                await asyncio.sleep(self._rng.random() * 0.002)
-
-    def _write(self, data: bytes) -> None:
         if self._closed:
             raise EOFError("the line is closed")
         if self._transport is not None:
@@ -141,14 +101,6 @@ class Channel(asyncio.Protocol):
                 data = data[os.write(self._descriptor, data) :]
             except BlockingIOError:
                 time.sleep(0.001)
-
-    def reset(self) -> None:
-        """Breaks a connection off, as a machine does that loses its power."""
-        if self._transport is not None:
-            one = self._transport.get_extra_info("socket")
-            one.setsockopt(socket.SOL_SOCKET, socket.SO_LINGER, struct.pack("ii", 1, 0))
-            self._transport.abort()
-        self._closed = True
 
     def close(self) -> None:
         """Closes the line."""
@@ -186,12 +138,8 @@ async def session(channel: Channel, texts: Sequence[bytes], scale: float, waits:
                 out = sender.reply(reply)
 
 
-async def connect(target: Target, trouble: Trouble, rng: random.Random, scale: float) -> Channel:
+async def connect(target: Target, made: Callable[[], Channel] = Channel) -> Channel:
     """A line to a host; OSError."""
-
-    def made() -> Channel:
-        return Channel(trouble, rng, scale)
-
     if isinstance(target, Serial):
         channel = made()
         channel.begin(open_serial(target))
@@ -212,9 +160,8 @@ class Sent(NamedTuple):
 class Analyzer:
     """Sends messages one after another to one host."""
 
-    def __init__(self, target: Target, trouble: Trouble, scale: float, tries: int, seed: int) -> None:
-        self._target, self._trouble, self._scale, self._tries = target, trouble, scale, tries
-        self._rng = random.Random(seed)
+    def __init__(self, plan: "Plan") -> None:
+        self._target, self._made, self._scale, self._tries = plan.target, plan.made, plan.scale, plan.tries
         self._channel: Optional[Channel] = None
         #: How many messages are done and failed, and how its sessions ended.
         self.done = self.failed = 0
@@ -230,7 +177,7 @@ class Analyzer:
             tried += 1
             try:
                 if self._channel is None:
-                    self._channel = await self._connect()
+                    self._channel = await connect(self._target, self._made)
                 outcome = await session(self._channel, texts, self._scale, self.waits)
                 why = outcome.name
             except (OSError, EOFError) as error:
@@ -244,12 +191,9 @@ class Analyzer:
         self.failed += 1
         return Sent(False, why, tried, time.monotonic() - begun)
 
-    async def _connect(self) -> Channel:
-        return await connect(self._target, self._trouble, self._rng, self._scale)
-
     async def _give_up(self) -> None:
         """After a session that failed: nothing of it may reach the next one."""
-        wait = min(1.0, REPLY * self._scale) * (0.2 + 0.8 * self._rng.random())
+        wait = min(1.0, REPLY * self._scale) * (0.2 + 0.8 * random.random())
         if isinstance(self._target, Serial):
             wait = REPLY * self._scale
         await asyncio.sleep(wait)
@@ -296,12 +240,12 @@ class Plan(NamedTuple):
     texts: Callable[[str], Iterator[Texts]]
     names: Sequence[str]
     rate: float
-    trouble: Trouble
     scale: float
     tries: int
-    seed: int
     log: Optional[str]
     seconds: Optional[float]
+    #: What makes a line to the host.
+    made: Callable[[], Channel] = Channel
 
 
 class Summary(NamedTuple):
@@ -319,10 +263,7 @@ async def send_all(plan: Plan, report: Callable[[str, int, Sent], None]) -> Summ
     begun, log = time.monotonic(), None
     if plan.log is not None:
         log = Appended(plan.log, os.O_APPEND)
-    analyzers = [
-        Analyzer(plan.target, plan.trouble, plan.scale, plan.tries, plan.seed + place)
-        for place in range(len(plan.names))
-    ]
+    analyzers = [Analyzer(plan) for _ in plan.names]
     work = [
         asyncio.ensure_future(_send_of(plan, name, analyzer, log, report))
         for name, analyzer in zip(plan.names, analyzers)

@@ -9,7 +9,7 @@ from ..model import options
 from ..model.options import OptionError
 from ..model.said import many, say
 from .common import GOOD, LOOKS_WRONG, add_renamed
-from .words import CHANCE, COUNT, FACTOR, PLACE, SECONDS, add_scale
+from .words import COUNT, FACTOR, PLACE, SECONDS, add_scale
 
 
 def add_command(commands: Any) -> None:
@@ -47,19 +47,8 @@ def _add_send(one: argparse.ArgumentParser) -> None:
     one.add_argument("--results", metavar="FILE", help="with --query: send results, from rows TEST,VALUE,UNIT")
     one.add_argument("--log", metavar="FILE", help="write a JSON line for every message that is done")
     one.add_argument("--quiet", action="store_true", help="print no line per message")
-    _add_damage(one)
     add_scale(one)
     one.set_defaults(run=run_send)
-
-
-def _add_damage(one: argparse.ArgumentParser) -> None:
-    """What only tests of this repository use: the chances that a byte is damaged, a reply comes after its timer, or the
-    connection is reset before a unit; units cut at random places; the random seed, and the names of the analyzers."""
-    for name in ("--noise", "--late", "--reset"):
-        one.add_argument(name, type=CHANCE, default=0.0, metavar="P", help=argparse.SUPPRESS)
-    one.add_argument("--cut", action="store_true", help=argparse.SUPPRESS)
-    one.add_argument("--seed", type=int, default=1, help=argparse.SUPPRESS)
-    one.add_argument("--name", default="A", help=argparse.SUPPRESS)
 
 
 def _texts_of(ask: argparse.Namespace, bad: List[str]) -> Callable[[str], Iterator[send.Texts]]:
@@ -89,9 +78,8 @@ def run_send(ask: argparse.Namespace) -> int:
     for why in bad:
         say(why)
     many = ask.analyzers > 1 or ask.made is not None
-    names = [f"{ask.name}{number}" if many else "" for number in range(1, ask.analyzers + 1)]
-    trouble = send.Trouble(ask.noise, ask.late, ask.reset, ask.cut)
-    plan = send.Plan(target, texts, names, ask.rate, trouble, ask.scale, ask.tries, ask.seed, ask.log, ask.seconds)
+    names = [f"A{number}" if many else "" for number in range(1, ask.analyzers + 1)]
+    plan = send.Plan(target, texts, names, ask.rate, ask.scale, ask.tries, ask.log, ask.seconds)
 
     def report(name: str, number: int, sent: send.Sent) -> None:
         if not ask.quiet:
@@ -111,7 +99,7 @@ def _run_query(ask: argparse.Namespace, target: send.Target) -> int:
     samples = [] if ask.query == ["ALL"] else ask.query
 
     async def run() -> asker.Round:
-        channel = await asker.connected(target, ask.tries, ask.scale)
+        channel = await asker.connected(target, ask.tries)
         try:
             return await asker.ask(channel, samples, values, ask.scale)
         except EOFError as error:

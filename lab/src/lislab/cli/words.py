@@ -14,25 +14,24 @@ def add_store(parser: argparse.ArgumentParser) -> None:
     )
 
 
-def number_from(kind: Callable[[str], float], least: float, most: float = math.inf) -> Callable[[str], float]:
-    """A function that reads a number within these bounds."""
+def number_from(kind: Callable[[str], float], least: float) -> Callable[[str], float]:
+    """A function that reads a number of at least so much."""
 
     def read(word: str) -> float:
         try:
             value = kind(word)
         except ValueError:
             value = math.nan
-        if not least <= value <= most:
-            bounds = f"at least {least}" if most == math.inf else f"from {least} to {most}"
-            raise argparse.ArgumentTypeError(f"expected a number {bounds}, not {word}")
+        if not value >= least:
+            raise argparse.ArgumentTypeError(f"expected a number at least {least}, not {word}")
         return value
 
     return read
 
 
-#: Numbers of one and of zero or more; seconds that may be none, and others; a chance.
+#: Numbers of one and of zero or more; seconds that may be none, and others.
 COUNT, PLACE = number_from(int, 1), number_from(int, 0)
-SECONDS, FACTOR, CHANCE = number_from(float, 0), number_from(float, 0.001), number_from(float, 0, 1)
+SECONDS, FACTOR = number_from(float, 0), number_from(float, 0.001)
 
 
 def add_allow(parser: argparse.ArgumentParser) -> None:
