@@ -196,9 +196,9 @@ class Tools(kit.Test):
 
 
 # A process that takes two seconds of a processor, as a proof, as the edits of a crate, and as something else.
-BUSY = "i=0; while [ $i -lt 600000 ]; do i=$((i+1)); done\n"
-BUSY_WORDS = ("sh busy build --crate-name lis_port", "(cd rt-edit-1; sh ../busy check --crate-name lis_port)",
-              "sh busy check lis_text")
+BUSY = "import time\nwhile time.process_time() < 2:\n    pass\n"
+BUSY_WORDS = ("python3 busy build --crate-name lis_port", "(cd rt-edit-1; python3 ../busy check --crate-name lis_port)",
+              "python3 busy check lis_text")
 # A kit whose `rt ci` proves one crate and tries an edit of it; another one is kept, and the third fails.
 GATE = f"""#!/bin/sh
 [ "$1" = ci ] || exit
