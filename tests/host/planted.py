@@ -171,7 +171,7 @@ FAULTS = {
     ),
     "test_late.Suspended.test_clocks": Edit("host/asleep.py", "            self._noted = self._drift()\n", "            pass\n"),
     "test_lines.Lines.test_cuts": Edit(
-        "host/line.py", "self._receiver.hear_placed(heard.data)", "self._receiver.hear_placed(heard.data[:64])"
+        "host/line.py", "self._receiver.hear_placed(data)", "self._receiver.hear_placed(data[:64])"
     ),
     "test_lines.Lines.test_keeping": Edit(
         "host/keeper.py",
@@ -198,7 +198,7 @@ FAULTS = {
         "host/intake.py", "one.fault or _after(one, reason), changes", "_after(one, reason), changes"
     ),
     "test_lines.Lines.test_enq_behind_eot": Edit(
-        "host/line.py", "                if self._stopping and self._is_through():\n                    return\n", ""
+        "host/line.py", "            if self._stopping and self._is_through():\n                return\n", ""
     ),
     "test_lines.Lines.test_calls_of_a_text": Edit("host/line.py", "if note in _AFTER_NOISE:", "if note:"),
     "test_lines.Lines.test_who_listens": Edit(
@@ -209,7 +209,7 @@ FAULTS = {
         "host/line.py", "while not (self._stopping and", "while not (self._stopping and not self._inbox.pieces and"
     ),
     "test_lines_file.LinesFile.test_enq_behind_eot": Edit(
-        "host/line.py", "                if self._stopping and self._is_through():\n                    return\n", ""
+        "host/line.py", "            if self._stopping and self._is_through():\n                return\n", ""
     ),
     "test_lines.Lines.test_stop": Edit(
         "host/line.py", "return self._stopping and (self._is_cut or not self._is_busy())", "return self._stopping"
@@ -544,7 +544,7 @@ FAULTS = {
         "diagnosis/pulse.py", "            raw = bytes(self._carry) + raw\n", "            pass\n"
     ),
     "test_watch.Watch.test_ring": Edit(
-        "diagnosis/ring.py", "while len(self._held) - drop > self._most:", "while len(self._held) - drop > 2 * self._most:"
+        "diagnosis/ring.py", "if len(self._held) > self._most:", "if len(self._held) > 2 * self._most:"
     ),
     "test_watch.Watch.test_rows": Edit(
         "cli/watch.py", "return WRONG if client.is_bad(data) else GOOD", "return GOOD"

@@ -410,7 +410,7 @@ class Watch(HostTest):
             one.add(1, b">", Came(b"%03d" % number))
         first, held = one.after(0)
         pieces = list(ring.pieces_of(held))
-        self.true("its room", len(held) <= 1000 < len(held) + 20, str(len(held)))
+        self.true("its room", len(held) <= 1000 < len(held) + 20 + 1000 // ring.SPARE, str(len(held)))
         self.same("the last pieces", [int(piece.data) for piece in pieces], list(range(first, 500)))
         self.same("the pieces from one on", one.after(498)[0], 498)
         self.same("none is new", one.after(500), (500, b""))

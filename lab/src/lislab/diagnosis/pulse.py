@@ -361,7 +361,7 @@ class Probe:
 
     def _accept(self, is_new: bool, raw: bytes) -> None:
         """A frame is acknowledged: a new one, or one that came again by its number."""
-        frame, pulse = raw[raw.rfind(2) :], self._pulse
+        pulse = self._pulse
         if not self._good:
             self._first_frame()
         self.units, self._good = self.units + 1, self._good + 1
@@ -371,8 +371,8 @@ class Probe:
             self._due, pulse.polls, pulse.good_at = (self._due + 1) % 8, 0, time.monotonic()
             if pulse.troubles:
                 pulse.right("frames", "hopeless")
-            self._frame = frame
-        elif self._frame and frame != self._frame:
+            self._frame = raw
+        elif self._frame and raw[raw.rfind(2) :] != self._frame[self._frame.rfind(2) :]:
             pulse.wrong("lost", Verdict.LOST)
 
     def _first_frame(self) -> None:
@@ -404,7 +404,7 @@ class Probe:
         """A session begins, or is over; by ENQ or otherwise."""
         found = self.silent() or self.strange()
         self._over(note, is_enq)
-        if not {"silent", "strange"} & set(self._pulse.troubles):
+        if found is not None and not {"silent", "strange"} & set(self._pulse.troubles):
             self._pulse.remember(found)
         if note is not Note.OPENED:
             self._strays(self._now[self._start : self._start + TOGETHER])
@@ -419,12 +419,12 @@ class Probe:
         """The session is over: updates the line's state if no frame of it was accepted."""
         if not self.is_open:
             return
-        verdict, parity = self._without_frame(is_enq)
         self.is_open, pulse = False, self._pulse
         if self.units:
             if not self._good:
                 pulse.wrong("hopeless", Verdict.NONE_ACCEPTED)
             return
+        verdict, parity = self._without_frame(is_enq)
         if note is Note.ENDED and verdict is Verdict.NO_FRAME:
             pulse.polls += 1
             if pulse.polls < EMPTY:

@@ -8,8 +8,9 @@ from typing import Iterator, List, NamedTuple, Optional, Tuple, Union
 from lislink.capture import LINE_BYTES, Capture, Line
 from .events import Came, Restarted, Sees, Sent, TimerOver
 
-#: How many bytes are held of a line, with the head of each piece; and that head: time, connection, mark, length.
-MOST = 256 << 10
+#: How many bytes are held of a line, with the head of each piece; the part of them that is dropped at once; and that
+#: head: time, connection, mark, length.
+MOST, SPARE = 256 << 10, 64
 HEAD = struct.Struct(">QIcI")
 ENQ = 5
 
@@ -33,15 +34,20 @@ class Ring:
 
     def add(self, connection: int, mark: bytes, piece: Union[Came, Sent] = Came(b"")) -> None:
         """Adds a piece that comes or goes now; without bytes, an event."""
-        data = piece.data[-(self._most // 2) :]
-        self._held += HEAD.pack(time.time_ns(), connection, mark, len(data)) + data
+        data = piece.data if len(piece.data) <= self._most // 2 else piece.data[-(self._most // 2) :]
+        self._held += HEAD.pack(time.time_ns(), connection, mark, len(data))
+        self._held += data
         self.next += 1
-        drop = 0
-        while len(self._held) - drop > self._most:
+        if len(self._held) > self._most:
+            self._drop()
+
+    def _drop(self) -> None:
+        """Drops the oldest pieces: some more than it must, so that it has nothing to do for a while."""
+        drop, most = 0, self._most - self._most // SPARE
+        while len(self._held) - drop > most:
             drop += HEAD.size + HEAD.unpack_from(self._held, drop)[3]
             self.first += 1
-        if drop:
-            del self._held[:drop]
+        del self._held[:drop]
 
     def sees(self, connection: int) -> Sees:
         """What it does when something goes over a connection of the line."""

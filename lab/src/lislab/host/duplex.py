@@ -1,4 +1,4 @@
-"""A line on which the host sends too: it answers queries and sends worklists, each in a session of its own. The
+"""A line on which the host sends too. It answers queries and sends worklists, each in a session of its own. The
 proved station decides what each byte means and for whom it is; this module decides when a session starts. What the
 analyzer sends comes first."""
 import asyncio
@@ -14,17 +14,17 @@ from ..diagnosis.events import Looked, OwnAnswered, OwnFailed, ReplyAfterAll, Se
 from ..diagnosis.notices import OTHER
 from ..model.query import query_of
 from ..model.store import Add, Change
-from .feeds import Heard
 from .inbox import clock
 from .line import ENQ, NEVER, Ear, Line, Parts
 from .outbox import Batch, Outbox, Site
 
-#: After a text that can't be kept, and after a session of the host's own that failed on a serial line, none starts for
-#: so many seconds: what is on its way has come by then. The most bytes of a query that are held.
+#: The host starts no session for QUIET seconds after a text that it can't store, and on a serial line after its own
+#: session failed: replies that are on their way have come by then. A query has at most QUERY bytes.
 QUIET, QUERY = 16.0, 1 << 16
-#: Of a message the results of so many samples are noted.
+#: How many samples of a message have their results noted.
 MOST_SAMPLES = 1000
-#: So many NAKs to its ENQ end a session, and so many times that the other end asked too and then sent nothing.
+#: The host gives its session up after so many NAKs to its ENQ, or if the analyzer sent ENQ too and then nothing so
+#: many times.
 BUSY = 6
 _REPLIES = (b"\x04", b"\x06", b"\x15")
 #: The phases after which ENQ goes out again.
@@ -42,20 +42,20 @@ class Read(NamedTuple):
 
 
 class Asking:
-    """The queries and the results in the records of a line."""
+    """Finds the queries and the results in the records of a line."""
 
     def __init__(self, encoding: str) -> None:
         self._encoding = encoding
         #: The messages that have ended.
         self._read: List[Read] = []
-        #: The records of the message so far, as far as it may be a query; how long it is, and whether it has one.
+        #: The records of the message so far, unless it is too long for a query; its size; whether it has a query.
         self._held, self._size, self._asks = bytearray(), 0, False
-        #: The samples that the last order names, and the results of the message.
+        #: The samples of the last order record, and the results of the message.
         self._samples: List[str] = []
         self._results: Dict[str, Set[str]] = {}
 
     def note(self, row: Row) -> None:
-        """A record came. A message that is too long for a query is none."""
+        """Notes a record. A message that is too long for a query is none."""
         self._size, self._asks = self._size + len(row.text) + 1, self._asks or row.letter == "Q"
         self._held += row.text + b"\r" if self._size <= QUERY else b""
         if row.letter == "O":
@@ -70,7 +70,7 @@ class Asking:
             self._held, self._size, self._asks, self._results = bytearray(), 0, False, {}
 
     def read(self) -> List[Read]:
-        """The messages that have ended since it was asked last."""
+        """Returns the messages that have ended since the last call."""
         read, self._read = self._read, []
         return read
 
@@ -79,31 +79,32 @@ class Asking:
         return [part for part in parts if part]
 
     def over(self) -> None:
-        """No more comes of the message. One that can't be read has neither queries nor results."""
+        """Drops the message, because it breaks off or can't be read: it has neither queries nor results."""
         self._held, self._size, self._asks = bytearray(), 0, False
         self._samples, self._results = [], {}
 
 
 class TwoWayLine(Line):
-    """A line that is connected, on which the host sends what its outbox has for it."""
+    """A line on which the host also sends what its outbox has for it."""
 
     def __init__(self, outbox: Outbox, site: Site, parts: Parts) -> None:
         super().__init__(parts)
         self._outbox, self._site, self._asking, self._say = outbox, site, Asking(site.encoding), parts.say
-        #: What is to be sent next; what is being sent; whether the outbox may have more; when a session may start.
+        #: The batches to send next, and the one that is being sent; whether the outbox may have more; when a session
+        #: may start; how many NAKs its ENQ had in a row.
         self._ready: Deque[Batch] = deque()
         self._sending: Optional[Batch] = None
         self._has_work, self._free_at, self._busy = True, clock(), 0
-        #: How often both asked in a row, and what the station did before the last byte.
+        #: How often both ends sent ENQ in a row, and the station's phase before the last byte.
         self._contended, self._phase = 0, Phase.NEUTRAL
-        #: The queries that are looked up, one after another.
+        #: The queries that are being looked up, one after another.
         self._answers: "set[asyncio.Task[None]]" = set()
         self._look_ups = asyncio.Lock()
         if not self._wire.is_tcp:  # a reply to the host that was here before may still be on its way
             self._quiet()
-        #: When the host sent something of its own last.
+        #: When the host sent something of its own session last.
         self._asked = clock()
-        #: Whether a session of the host's own had no reply, and nothing came since; whether anything ever came.
+        #: Whether the host's last session had no reply and nothing came since; whether anything ever came.
         self._unanswered = self._has_heard = False
         outbox.wakes(self._woken)
         self.keeper.intake.listens(self._asking.note, self._asking.over)
@@ -160,7 +161,7 @@ class TwoWayLine(Line):
             self._room.look(self._ear.held)
 
     def _put_off(self) -> None:
-        """ENQ would go out again, and a reply to the last one may come late: it goes out on the next connection."""
+        """Puts the session off to the next connection, because a late reply to its ENQ could answer the next ENQ."""
         batch, self._sending = self._sending, None
         self._station.give_up()
         self._outbox.put_off[self._site.place] = self._busy, self._contended
@@ -171,15 +172,13 @@ class TwoWayLine(Line):
 
     async def _heard(self, data: bytes, arrived: float) -> None:
         self._note_late(data)
-        for heard in self._feeds.take(data) if self._feeds else (Heard(data),):
-            for place, answer in self._station.hear_placed(heard.data):
-                if self._feeds and answer.step:
-                    answer = answer._replace(step=self._feeds.restored(heard, answer.step))
-                await self._meant(answer, place + heard.start, arrived, heard.data[place] == ENQ)
-                if place + heard.start + 1 < len(data):
-                    await self._share.take_turns()
-                if self._is_through():
-                    return
+        answers = self._feeds.answers(self._station, data) if self._feeds else self._station.hear_placed(data)
+        for place, answer in answers:
+            await self._meant(answer, place, arrived, place >= 0 and data[place] == ENQ)
+            if place + 1 < len(data):
+                await self._share.take_turns()
+            if self._is_through():
+                return
 
     async def _meant(self, answer: Answer, place: int, arrived: float, is_enq: bool = False) -> None:
         before, self._phase = self._phase, self._station.phase
@@ -198,21 +197,21 @@ class TwoWayLine(Line):
             self._session_over(self._sending)
 
     def _note_late(self, data: bytes) -> None:
-        """Says that a reply came after the session to which it belongs had ended without it."""
+        """Reports a reply that came after the session to which it belongs had ended without it."""
         was_unanswered, self._unanswered, self._has_heard = self._unanswered, False, True
         if was_unanswered and data[:1] in _REPLIES:
             self._counts["late_replies"] += 1
             self._tell(ReplyAfterAll(data[0]))
 
     def _asked_in_vain(self) -> None:
-        """The analyzer doesn't give the line: it is asked again a few times."""
+        """The analyzer doesn't give the line. The host asks again a few times."""
         self._busy += 1
         if self._busy >= BUSY:
             self._station.give_up()
 
     def _both_asked(self) -> None:
-        """The analyzer asks for the line as well. It comes first; one that then sends nothing isn't waited for without
-        end."""
+        """The analyzer asks for the line as well, and comes first. If it then sends nothing a few times, the host gives
+        its session up."""
         self._contended += 1
         if self._contended >= BUSY:
             self._station.give_up()
@@ -236,14 +235,14 @@ class TwoWayLine(Line):
             self._takes(read)
 
     def _takes(self, read: Read) -> None:
-        """A message is stored."""
+        """Does what a message asks for, once it is stored."""
         for sample, tests in read.results.items():
             self._outbox.came(self._site, sample, tests)
         if read.rows:
             self._asks(read.rows)
 
     def _asks(self, rows: List[Row]) -> None:
-        """A message that holds a query is kept."""
+        """Looks up the queries of a message that is stored."""
         self._counts["queries"] += 1
         task = asyncio.ensure_future(self._look_up(rows))
         self._answers.add(task)
@@ -256,7 +255,7 @@ class TwoWayLine(Line):
             self._say(f"a query is dropped after an error: {type(fault).__name__}: {fault}", OTHER)
 
     async def _look_up(self, rows: List[Row]) -> None:
-        """A query is kept: what the outbox has for it is sent as soon as the line is free."""
+        """Looks up queries. The host sends what the outbox has for them as soon as the line is free."""
         queries = [query_of(row, self._site.encoding, self._site.asks) for row in rows if row.letter == "Q"]
         if any(one.cancels for one in queries):
             await self._take_back()
@@ -270,12 +269,12 @@ class TwoWayLine(Line):
         self._inbox.wake()
 
     def _found(self, is_any: bool) -> None:
-        """Whether there was an order for a query. A LIS that hands over none is known by that."""
+        """Notes whether there was an order for a query. So `lislab watch` notices a LIS that hands over no orders."""
         self._counts["found_nothing"] += not is_any
         self._tell(Looked(is_any))
 
     async def _take_back(self) -> None:
-        """The analyzer takes its query back: no answer is sent that hasn't begun."""
+        """The analyzer cancels its query. Answers that haven't begun are not sent."""
         for task in self._answers - {asyncio.current_task()}:
             task.cancel()
         back = [batch for batch in self._ready if batch.is_answer]
@@ -325,8 +324,8 @@ class TwoWayLine(Line):
         self._set_timer(clock())
 
     def _session_over(self, batch: Batch) -> None:
-        """A session of the host's own is over. If it failed, a reply may still be on its way: the line is closed if it
-        can be connected anew, else none starts until such a reply has come."""
+        """A session of the host's own is over. If it failed, a reply may still be on its way. So a TCP line is closed,
+        to be connected again; on a serial line no session starts until such a reply has come."""
         outcome = self._station.outcome
         if outcome is Outcome.DONE:
             self._tell(OwnAnswered())

@@ -5,10 +5,11 @@ Where such a frame ends is decided here, by code that is tested and not proved: 
 CR. Whether it is taken is decided by the proved receiver: the digits of its checksum are changed by as much as its
 bytes, so the receiver accepts the frame exactly if the original is right. The host stores the original."""
 import re
-from typing import Iterator, NamedTuple, Optional
+from typing import Iterator, NamedTuple, Optional, Tuple
 
 from lislink.codes import Note
-from lislink.link import Step
+from lislink.link import Receiver, Step
+from lislink.station import Answer, Station
 
 _STX, _LF, _VT = b"\x02", b"\n", b"\x0b"
 #: What ends a frame, and what breaks one off.
@@ -63,6 +64,19 @@ class LineFeeds:
     def _over(self, data: bytes, at: int, text: Optional[bytes] = None) -> Heard:
         self._frame.clear()
         return Heard(data, at - len(data), text)
+
+    def steps(self, receiver: Receiver, data: bytes) -> Iterator[Tuple[int, Step]]:
+        """What these bytes mean to a receiver, each step with its place in them."""
+        for heard in self.take(data):
+            for place, step in receiver.hear_placed(heard.data):
+                yield place + heard.start, self.restored(heard, step)
+
+    def answers(self, station: Station, data: bytes) -> Iterator[Tuple[int, Answer]]:
+        """The same to a station."""
+        for heard in self.take(data):
+            for place, answer in station.hear_placed(heard.data):
+                step = answer.step and self.restored(heard, answer.step)
+                yield place + heard.start, answer._replace(step=step)
 
     def restored(self, heard: Heard, step: Step) -> Step:
         """What a byte meant, with the text as it came."""

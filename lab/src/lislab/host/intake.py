@@ -1,5 +1,5 @@
-"""The messages in the texts of a line. Where a record ends, which may come next and which is the last of its message
-is decided by the proved reader."""
+"""Finds the messages in the texts of a line, and returns the changes that store them. The proved reader decides where a
+record ends, which record may come next, and which is the last of its message."""
 import hashlib
 import re
 from typing import Callable, Dict, Iterable, Iterator, List, Optional, Tuple
@@ -21,23 +21,25 @@ _WORDS = {
 }
 
 
-#: A step of the work takes so many bytes of a text, if a record ends there. So many bytes of each message are held.
+#: A step of the work takes PIECE bytes of a text, if a record ends there. The first FIRST bytes of a message, or of a
+#: text that isn't complete, are held in the line's own room.
 PIECE, FIRST = 1024, 1 << 16
 _NEXT_HEADER = re.compile(rb"\r[Hh][^0-9A-Za-z]")
 
 
 class TooLong(Exception):
-    """A message has more bytes than the line takes."""
+    """A message has more bytes than the line accepts."""
 
 
 class Pool:
-    """So many bytes for all lines of a host, besides the first ones of each, which it has for itself."""
+    """Room that all lines of a host share: for the bytes that each holds over its first ones."""
 
     def __init__(self, most: int) -> None:
         self._left = most
 
     def taken(self, has: int, size: int) -> Optional[int]:
-        """What somebody has of it now who had `has` and holds so many bytes; None if there is no room for them."""
+        """Takes room for somebody who had `has` bytes of it and holds `size` bytes now. Returns how many bytes of it
+        they have; None if there is no room."""
         wants = max(0, size - FIRST)
         if wants - has > self._left:
             return None
@@ -50,52 +52,53 @@ class TextRoom:
 
     def __init__(self, pool: Pool, note: Callable[[bool], None]) -> None:
         self._pool, self._note = pool, note
-        #: How many bytes the line has of what all share; how many came since its last text was complete.
+        #: How many bytes of the pool the line has; how many bytes came since its last text was complete.
         self.has = self.open = 0
 
     def look(self, held: int) -> None:
-        """Takes room for so many bytes, if the text needs some, and notes whether it is there."""
+        """Takes room for a text of which so many bytes are held, if it needs any. Calls `note` with whether there is
+        room."""
         if held > FIRST or self.has:
             has = self._pool.taken(self.has, held)
             self.has = self.has if has is None else has
             self._note(has is not None)
 
     def close(self) -> None:
-        """Gives the room back, and notes nothing more."""
+        """Gives the room back, and calls `note` no more."""
         self._pool.taken(self.has, 0)
         del self._note
 
 
 class Held:
-    """How many bytes of messages that aren't complete yet the lines of a host may hold: the first ones of each message,
-    and of longer ones up to `most` of one and `all_lines` of all."""
+    """Limits how many bytes of unfinished messages the lines of a host hold, to fix them if they end without being
+    complete. A message may have `most` bytes; all of them share `all_lines` bytes over their first ones."""
 
     def __init__(self, most: int, all_lines: int = 0) -> None:
         self.most, self._pool = most, Pool(all_lines or most)
-        #: Up to so many bytes each message may be held.
+        #: A message up to this size needs no room of the pool.
         self.first = min(FIRST, most)
 
     def takes(self, one: "_Message") -> bool:
-        """Whether a message may be held as long as it is now."""
+        """Takes room for a message. Returns whether it may be held at its present size."""
         has = self._pool.taken(one.held, len(one.body or b"")) if one.size <= self.most else None
         one.held = one.held if has is None else has
         return has is not None
 
     def drop(self, one: "_Message") -> None:
-        """A message is held no more."""
+        """Drops the bytes of a message, and gives their room back."""
         one.held, one.body = self._pool.taken(one.held, 0) or 0, None
 
 
 class _Message:
-    """A message that isn't complete yet: its digest so far, its records so far, and why it can't be read."""
+    """A message that goes on: its digest so far, the number of its records, and why it can't be read."""
 
     def __init__(self, begin: Begin, reader: Reader, body: Optional[bytearray], is_coded: bool) -> None:
         self.key, self.begin, self.reader, self.digest = begin.key, begin, reader, hashlib.sha256()
-        #: Where in what its reader has read it begins.
+        #: How many bytes its reader had read before it.
         self.start = reader.read
         #: Whether the codes of its results are looked up.
         self.is_coded = is_coded
-        #: All its bytes, as long as they aren't too many to be fixed; how many of them count.
+        #: All its bytes, unless they are too many to be fixed; how many bytes of the pool they have.
         self.body, self.held = body, 0
         self.places = self.size = self.records = 0
         #: Why it can't be read; and what its letters look like, from the first one that isn't ASCII.
@@ -105,8 +108,8 @@ class _Message:
 
 
 class Intake:
-    """What is to be kept of each text of a line. Of a message it holds what `held` allows until it ends, and the bytes
-    of one that isn't complete until they are taken out of `bodies`: how it began, and its bytes, by its key."""
+    """Turns the texts of a line into changes for the store. It holds the bytes of a message until that ends, as far as
+    `held` allows. If the message isn't complete then, `bodies` has how it began and its bytes, by its key."""
 
     def __init__(
         self,
@@ -121,23 +124,23 @@ class Intake:
         self.line, self.peer, self.encoding, self.most, self.clock = line, peer, encoding, most, clock
         #: The codes that the line's code mapping lacks.
         self.unknown = unknown or Unknown(line)
-        #: Who listens to each record that is read, and to the end of a message that can't be read or breaks off.
+        #: Called with each record; and at the end of a message that can't be read or breaks off.
         self._note: Optional[Callable[[Row], None]] = None
         self._broken: Callable[[], None] = lambda: None
         self._held, self.bodies = held, {}  # type: Optional[Held], Dict[str, Tuple[Begin, bytes]]
         self._message: Optional[_Message] = None
-        #: The reader of the last message, if it was whole and nothing follows it.
+        #: The reader of the last message, if that was complete and the reader has no bytes left.
         self._reader: Optional[Reader] = None
-        #: What the letters of complete messages look like that have ended, by their keys, if it is another encoding.
+        #: The complete messages whose letters look like those of another encoding, by their keys, and that encoding.
         self.letters: Dict[str, str] = {}
 
     def listens(self, note: Callable[[Row], None], broken: Callable[[], None]) -> None:
-        """Who listens to each record of the messages, and to the end of one that isn't complete."""
+        """Sets what is called with each record, and at the end of a message that can't be read or breaks off."""
         self._note, self._broken = note, broken
 
     def take(self, text: bytes) -> Iterator[List[Change]]:
-        """Yields the changes that store a text, step by step, each of which is short work; TooLong if a message passes
-        the limit. If they can't be stored, or not all were taken, call `drop`."""
+        """Yields the changes that store a text, in steps of short work. Raises TooLong if a message passes the limit.
+        A caller that can't store the changes, or doesn't take all of them, calls `drop`."""
         for piece in (text,) if len(text) <= PIECE and text.endswith(b"\r") else _pieces(text):
             at = 0
             while at < len(piece):
@@ -149,17 +152,18 @@ class Intake:
 
     @property
     def goes_on(self) -> bool:
-        """Whether a message began that isn't ended."""
+        """Whether a message has begun and not ended."""
         return self._message is not None
 
     def spoil(self, reason: str) -> None:
-        """The message that goes on is not to be delivered, whatever comes of it, and not to be fixed."""
+        """Makes the message that goes on invalid, for this reason. It is neither delivered nor fixed."""
         one = self._message
         if one is not None:
             one.fault, one.body = _after(one, reason) + (f"; {one.fault}" if one.fault else ""), None
 
     def drop(self, reason: str) -> List[Change]:
-        """The changes if no more comes of the message: what was acknowledged of it stays, with the reason."""
+        """Returns the changes that end the message that goes on, because no more of it comes. The records that were
+        acknowledged stay in the store, with the reason."""
         one = self._message
         if one is None:
             return []
@@ -175,7 +179,8 @@ class Intake:
         changes.append(begin)
 
     def _take_some(self, text: bytes, changes: List[Change]) -> int:
-        """Takes the bytes of a text that belong to the message: how many, perhaps none if the message ends."""
+        """Takes the bytes of a text that belong to the message. Returns how many these are; none if a header begins
+        another message."""
         one = self._message
         assert one is not None
         if one.fault:
@@ -199,7 +204,8 @@ class Intake:
         return len(text)
 
     def _reject(self, one: _Message, text: bytes, error: MessageError, changes: List[Change]) -> int:
-        """A record can't be read where it is."""
+        """A record can't be read, or isn't allowed at its place. A header begins another message; with any other record
+        the message becomes invalid."""
         self._broken()
         start = one.ended - one.size  # where it begins in the text; below 0 in an earlier one
         if start >= 0 and one.records and is_header(text, start):
@@ -210,7 +216,7 @@ class Intake:
         return self._pass_over(one, text, text.find(b"\r", max(start, 0)) + 1 or len(text), changes)
 
     def _pass_over(self, one: _Message, text: bytes, start: int, changes: List[Change]) -> int:
-        """Puts a text to a message that can't be read, up to the next header."""
+        """Adds the text up to the next header to a message that can't be read."""
         if not is_header(text, start):
             found = _NEXT_HEADER.search(text, start)
             start = found.start() + 1 if found else len(text)
@@ -255,13 +261,13 @@ class Intake:
 
 
 def is_header(text: bytes, start: int = 0) -> bool:
-    """Whether the record at this place may be a header: H, and a byte that may be a delimiter."""
+    """Returns whether the record at this place may be a header: H, and a byte that may be a delimiter."""
     first, second = text[start : start + 1], text[start + 1 : start + 2]
     return first in (b"H", b"h") and bool(second) and not second.isalnum()
 
 
 def _pieces(text: bytes) -> Iterator[bytes]:
-    """A text in pieces, each of which but the last ends with a record."""
+    """Splits a text into pieces. Each but the last ends where a record ends."""
     start = 0
     while start < len(text):
         last = text.rfind(b"\r", start, start + PIECE) + 1
@@ -271,12 +277,12 @@ def _pieces(text: bytes) -> Iterator[bytes]:
 
 
 def _after(one: _Message, reason: str) -> str:
-    """Why no more comes of a message, and where it stops."""
+    """Returns the reason why a message stops, and where it stops."""
     return f"{reason}, after record {one.records}, at byte {one.size}"
 
 
 def _fault(one: _Message, text: bytes, error: MessageError) -> str:
-    """Why a record can't be read: its number in the message, where it begins there, and the code with its byte."""
+    """Returns why a record can't be read: its number in the message, the byte at which it begins, and the code."""
     words = f"record {error.number}, from byte {one.ended}: {_WORDS.get(error.reason, error.reason.name)}"
     if error.reason is Reason.NO_PARENT:
         return f"{words}: {chr(error.detail)}"

@@ -14,7 +14,7 @@ from ..model.options import Limits
 from ..model.store import Change, StoreError
 from .asleep import Asleep
 from .commits import Committer
-from .feeds import Heard, LineFeeds
+from .feeds import LineFeeds
 from .inbox import Inbox, clock
 from .inbox import Wire as Wire
 from .intake import FIRST, Intake, Pool, TextRoom, TooLong
@@ -147,15 +147,13 @@ class Line:
 
     async def _heard(self, data: bytes, arrived: float) -> None:
         """Passes bytes to the receiver, and does what each of its steps asks for."""
-        for heard in self._feeds.take(data) if self._feeds else (Heard(data),):
-            for place, step in self._receiver.hear_placed(heard.data):
-                if self._feeds:
-                    step = self._feeds.restored(heard, step)
-                await self._step(step, arrived, place + heard.start, heard.data[place] == ENQ)
-                if place + heard.start + 1 < len(data):
-                    await self._share.take_turns()
-                if self._stopping and self._is_through():
-                    return
+        steps = self._feeds.steps(self._receiver, data) if self._feeds else self._receiver.hear_placed(data)
+        for place, step in steps:
+            await self._step(step, arrived, place, place >= 0 and data[place] == ENQ)
+            if place + 1 < len(data):
+                await self._share.take_turns()
+            if self._stopping and self._is_through():
+                return
 
     def _start_at(self) -> float:
         """Returns when a session of the host's own may start; NEVER if it has nothing to send."""

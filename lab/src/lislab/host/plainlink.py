@@ -1,5 +1,5 @@
-"""A link that isn't LIS01: records between STX and ETX, with no number and no checksum, after ENQ or not. A line asks
-for it by `link=plain`. This receiver is tested and not proved, and it can't notice damage."""
+"""A link that isn't LIS01: blocks of records between STX and ETX, without number and checksum, with or without ENQ. The
+setting `link=plain` chooses it. This receiver is tested, not proved, and it can't detect damage."""
 from typing import Any, Iterator, Tuple
 
 from lislink.codes import Note
@@ -13,11 +13,11 @@ MOST = 1 << 20
 
 
 class PlainReceiver:
-    """Hears such a link: a block is acknowledged, as ENQ is, and EOT ends a session."""
+    """Receives blocks. It acknowledges ENQ and each block, and EOT ends a session."""
 
     def __init__(self) -> None:
         self.is_open, self._block, self._is_within, self._most = False, bytearray(), False, MOST
-        #: It hears no noise.
+        #: It counts no noise.
         self.noise = 0
 
     @property
@@ -26,11 +26,11 @@ class PlainReceiver:
         return len(self._block)
 
     def set_room(self, room: bool) -> None:
-        """Says whether there is room for more of a block; without it the block is too long."""
+        """Sets whether there is room for more of a block. Without room, a block is too long and is rejected."""
         self._most = MOST if room else 0
 
     def hear_placed(self, data: bytes) -> Iterator[Tuple[int, Step]]:
-        """What bytes mean, each with its place."""
+        """Yields the steps that bytes cause, each with the place of its byte."""
         for place, byte in enumerate(data):
             for step in self._byte(byte):
                 yield place, step
@@ -53,22 +53,22 @@ class PlainReceiver:
         self._block.clear()
 
     def timer(self) -> Step:
-        """30 seconds without a block are over."""
+        """Ends the session, because no block came for 30 seconds."""
         self.restart()
         return Step(b"", None, Note.TIMED_OUT, 0, 0)
 
     def restart(self) -> None:
-        """Drops the line and what is held."""
+        """Ends the session, and drops what is held of a block."""
         self.is_open = self._is_within = False
         self._block.clear()
 
     def close(self) -> None:
-        """As of the proved receiver."""
+        """Releases nothing, because it has only memory of Python."""
 
 
 class PlainLine(Line):
-    """A line with such a link. A block that comes again within a message may be a repeat or not, and nothing says
-    which: such a message is kept, and not delivered."""
+    """A line with such a link. If the same block comes twice in a row within a message, nothing tells whether it is a
+    repeat. The host stores such a message as invalid, and doesn't deliver it."""
 
     def __init__(self, parts: Parts) -> None:
         super().__init__(parts)

@@ -12,12 +12,12 @@ from .asked import Hub
 from .line import Line
 from .tcp import TcpWire
 
-#: So many connections are accepted before other lines have their turn; so many may wait for it.
+#: The host accepts ACCEPTS connections before other lines have their turn. BACKLOG connections may wait for that.
 ACCEPTS, BACKLOG = 4, 100
 
 
 class Port:
-    """A port that is listened on, and the line of those who connect from now on."""
+    """A port on which the host listens, and the line of those who connect from now on."""
 
     server: asyncio.AbstractServer
 
@@ -25,11 +25,11 @@ class Port:
         self.place, self.is_closed = place, False
 
     def is_of(self, place: Listen) -> bool:
-        """Whether a line is at this port. One that the system chose is that of its name."""
+        """Returns whether a line uses this port. If the system chose the port's number, the line's name decides."""
         return self.place[:2] == place[:2] and (place.port > 0 or self.place.name == place.name)
 
     def lets_in(self, host: Hub, peer: str) -> bool:
-        """Whether an address may connect now. One that may not is counted."""
+        """Returns whether an address may connect now. Refused connections are counted."""
         place = self.place
         networks, is_over = [*host.asked.networks, *place.allow], host.stopping or self.is_closed
         is_known = is_allowed(peer, networks)
@@ -41,31 +41,31 @@ class Port:
         return True
 
     def close(self) -> None:
-        """Nobody can connect any more. Who is connected isn't touched."""
+        """Stops listening. Connections that are open stay open."""
         self.is_closed = True
         self.server.close()
 
 
 class LineRoom:
-    """The lines of those who connected, by their addresses. If there are too many, of one or of all, the one that is
-    silent for the longest and never had a session gives way."""
+    """Limits the lines of those who connect, per address and altogether. If there are too many, the host closes the
+    line that has been silent for the longest, among those that never had a session."""
 
     def __init__(self, host: Hub) -> None:
         self._host, self._lines = host, {}  # type: Hub, Dict[str, Dict[Line, str]]
 
     def add(self, line: Line, name: str) -> None:
-        """A line of this name is connected."""
+        """Adds a line of this name, which is connected."""
         self._lines.setdefault(line.peer, {})[line] = name
 
     def remove(self, line: Line) -> None:
-        """A line is closed, or will be before it is heard again."""
+        """Removes a line that is closed, or is closed before it is heard again."""
         same = self._lines.get(line.peer, {})
         same.pop(line, None)
         if not same:
             self._lines.pop(line.peer, None)
 
     def has_room(self, name: str, peer: str) -> bool:
-        """Whether an address may have another line of this name: if one has to give way for it, it does so now."""
+        """Returns whether an address may have another line of this name. Closes a line to make room, if it has to."""
         among, limits = self._lines.get(peer, {}), self._host.limits
         if len(among) < limits.address:
             if sum(map(len, self._lines.values())) < limits.lines:
@@ -92,7 +92,7 @@ class Ports:
         self._open: List[Port] = []
 
     async def listen(self, place: Listen) -> None:
-        """Opens a port. OSError or ValueError if it can't be had."""
+        """Opens a port. Raises OSError or ValueError if that fails."""
         port = Port(place)
         port.server = await asyncio.get_running_loop().create_server(
             functools.partial(TcpWire, self._host, port), place.host, place.port, backlog=ACCEPTS, reuse_address=True
@@ -104,7 +104,7 @@ class Ports:
             announce(f"listening {one.getsockname()[0]}:{one.getsockname()[1]} {place.name}")
 
     def change(self) -> List[Listen]:
-        """Closes the ports that no line has now, and gives all others their lines. The lines that have no port yet."""
+        """Closes the ports that no line uses now, and gives the others their lines. Returns the lines without port."""
         listens = self._host.asked.listens
         new = list(listens)
         for port in list(self._open):
@@ -118,6 +118,6 @@ class Ports:
         return new
 
     def close(self) -> None:
-        """Nobody can connect any more."""
+        """Stops listening on all ports."""
         for port in self._open:
             port.close()

@@ -1,4 +1,4 @@
-"""A line over TCP: a connection of somebody who connected, or that the host made."""
+"""A line over TCP: a connection that the host accepted or made."""
 import asyncio
 import os
 import socket
@@ -9,7 +9,7 @@ from .asked import Hub
 from .line import Line, Wire
 from .telnet import Telnet
 
-#: So many bytes of a connection are heard before it is asked whose turn it is.
+#: How many bytes of a connection the host hears before another line may have its turn.
 PIECE = 4096
 
 
@@ -18,14 +18,15 @@ class End(Protocol):
 
     @property
     def place(self) -> Union[Listen, Connect]:
-        """The line of those who connect from now on."""
+        """The settings of the line for connections from now on."""
 
     def lets_in(self, host: Hub, peer: str) -> bool:
-        """Whether an address may connect now."""
+        """Returns whether an address may connect now."""
 
 
 class TcpWire(asyncio.BufferedProtocol, Wire):
-    """A TCP connection. All read into one buffer, which is emptied at once, so that reading fragments no memory."""
+    """A TCP connection. All connections read into one buffer, which is emptied at once, so that reading doesn't
+    fragment memory."""
 
     is_tcp, _buffer = True, bytearray(1 << 16)
 
@@ -37,7 +38,7 @@ class TcpWire(asyncio.BufferedProtocol, Wire):
         self._telnet: Optional[Telnet] = None
 
     def connection_made(self, transport: asyncio.BaseTransport) -> None:
-        """An analyzer is connected, or somebody who may not be."""
+        """Begins a line, unless the address may not connect."""
         assert isinstance(transport, asyncio.Transport)
         host, name = self._host, transport.get_extra_info("peername")
         if name is None:  # it is gone already
@@ -60,11 +61,11 @@ class TcpWire(asyncio.BufferedProtocol, Wire):
         self.line = host.add(self, self._end.place, peer)
 
     def get_buffer(self, sizehint: int) -> bytearray:
-        """Where bytes are read to."""
+        """Returns the buffer into which asyncio reads bytes."""
         return self._buffer
 
     def buffer_updated(self, nbytes: int) -> None:
-        """Bytes came."""
+        """Passes bytes that came to the line, without the commands of Telnet."""
         if self.line is None:
             return
         for start in range(0, nbytes, PIECE):
@@ -77,16 +78,16 @@ class TcpWire(asyncio.BufferedProtocol, Wire):
                 self.line.data(data, self._host.ticks.before)
 
     def eof_received(self) -> bool:
-        """The peer sends no more: the connection is closed."""
+        """Lets asyncio close the connection, because the peer sends no more."""
         return False
 
     def connection_lost(self, exc: Optional[Exception]) -> None:
-        """The connection is gone, by whatever end."""
+        """Ends the line, because either end closed the connection."""
         if self.line is not None:
             self.line.lost(self._why or ("by the other end" if exc is None else f"by a fault ({why(exc)})"))
 
     def pause_writing(self) -> None:
-        """A peer that doesn't read its replies is no analyzer."""
+        """Closes the connection, because a peer that doesn't read its replies is no analyzer."""
         self._why = "since its replies aren't read"
         if self._transport is not None:
             self._transport.abort()
@@ -112,6 +113,6 @@ class TcpWire(asyncio.BufferedProtocol, Wire):
 
 
 def why(error: Exception) -> str:
-    """What is wrong, in the system's words if it has some."""
+    """Returns what is wrong, in the system's words if there are any."""
     number = getattr(error, "errno", None) or 0
     return os.strerror(number) if number > 0 else str(error)
