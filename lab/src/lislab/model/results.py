@@ -5,7 +5,7 @@ import functools
 import re
 import zoneinfo
 from collections import Counter
-from typing import Callable, Dict, Iterator, List, Mapping, NamedTuple, Optional, Tuple
+from typing import Dict, Iterator, List, Mapping, NamedTuple, Optional, Tuple
 
 from lislink.letters import UTF_8, looks_like
 from lislink.message import Entry, Message
@@ -225,15 +225,9 @@ class Told:
 
     def _result(self, entry: Entry, test: Tuple[str, str, Coding, str], turn: int) -> Result:
         (_, field, coding, name), texts = test, entry.row.texts(entry.encoding)
-
-        def read(how: Callable[[Entry, int], str], *fields: int) -> List[str]:
-            found = [texts[at - 1] if at <= len(texts) else "" for at in fields]
-            return [how(entry, at) if text is None else text for at, text in zip(fields, found)]
-
-        value, unit, usual = read(content_of, 4, 5, 6)
-        nature, status = read(field_text, 8, 9)
-        operator, started, completed, instrument = read(first_text, 11, 12, 13, 14)
-        flags = read(field_text, 7) if len(texts) < 7 or texts[6] is not None else repeated(entry, 7)
+        flags = [texts[6] or ""] if len(texts) > 6 and texts[6] is not None else repeated(entry, 7)
+        cells = [_READ[at](entry, at) if one is None and at in _READ else one or "" for at, one in enumerate(texts, 1)]
+        value, unit, usual, _, nature, status, _, operator, started, completed, last = (cells + _EMPTY)[3:14]
         return Result(
             coding.code,
             name,
@@ -247,7 +241,7 @@ class Told:
             status,
             operator,
             time_of(completed) or time_of(started),
-            instrument or first_text(self.message.header, 5),
+            last or first_text(self.message.header, 5),
             comments_of(entry),
             field,
             turn,
@@ -417,6 +411,12 @@ def content_of(entry: Entry, field: int) -> str:
         return filled[0]
     is_range = field == 6 and len(parts) == 2 and all(number_of(part) for part in parts)
     return "-".join(parts) if is_range else field_text(entry, field)
+
+
+#: How the fields of a result are read that have components; as many empty fields as a result has.
+_READ = {4: content_of, 5: content_of, 6: content_of, 8: field_text, 9: field_text}
+_READ.update(dict.fromkeys((11, 12, 13, 14), first_text))
+_EMPTY = [""] * 14
 
 
 def letters_fault(body: bytes, encoding: str) -> str:
