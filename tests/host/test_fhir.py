@@ -507,7 +507,7 @@ class Https(Certified, WithLibrary):
         for words in (["--to", "http://h/x"], ["--to", "https:///x"], ["--to", "https://u:p@h/"],
                       ["--to", "https://h/a b"], ["--to", "https://h:x/"], ["--to", "d", "--headers", path],
                       ["--to", "d", "--", "true"]):
-            done = lislab("deliver", "--store", self.store, "--cursor", self.path("words.cursor"), *words)
+            done = lislab("deliver", "--once", "--store", self.store, "--cursor", self.path("words.cursor"), *words)
             self.same(" ".join(words), done.returncode, 2)
         words = ["--to", "https://h/", "--ca", self.path("none.pem")]
         done = lislab("deliver", "--store", self.store, "--cursor", self.path("words.cursor"), *words)

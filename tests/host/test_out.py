@@ -282,11 +282,13 @@ class Files(HostTest):
 
     def test_no_library(self):
         """Without the library a host doesn't start, since it could answer nobody."""
+        nowhere = ["--listen", "203.0.113.1:1", "--allow", "203.0.113.0/24"]  # so that one that starts ends too
         done = subprocess.run(
-            [sys.executable, "-m", "lislab", "serve", "--store", self.path("none.db"), "--listen", "0"],
+            [sys.executable, "-m", "lislab", "serve", "--store", self.path("none.db"), *nowhere],
             env={**ENV, "LISLINK_LIBRARY": self.path("none.so")},
             capture_output=True,
             text=True,
             check=False,
         )
-        self.same("the status, and what is said", (done.returncode, done.stdout), (3, ""))
+        self.same("the status, and what is printed", (done.returncode, done.stdout), (3, ""))
+        self.has("what is said", done.stderr, "none.so: cannot open shared object file")
