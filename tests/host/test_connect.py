@@ -17,7 +17,7 @@ from tests.host.test_lines import TEXTS, Client
 from tests.host.test_orders import states
 
 #: Each timer of the standard is so many times as long, and so is the host's pause of a second.
-SCALE = 0.2
+SCALE = 0.6
 #: What is wrong with words of a command, and with files of lines.
 WORDS = (
     ("x", "x: expected HOST:PORT"),

@@ -8,6 +8,7 @@ import threading
 import time
 import unittest.mock
 from collections import Counter
+from concurrent.futures import ThreadPoolExecutor
 from typing import get_args
 
 from lislink import FrameFault, frame_bytes
@@ -20,8 +21,9 @@ from tests.host.hosts import NEVER, Found, Host, HostTest, lislab, sending, wait
 
 #: The timers of tests in which they run out while a frame is answered in time: 15 seconds are 0.75.
 LATE = 0.05
-#: The same where a host is stopped: a busy machine that stalls it for two seconds makes its replies late too.
-STALLED = 0.2
+#: The same where a host is silent, and where it is stopped: a busy machine that stalls one for six seconds makes its
+#: replies late too.
+SILENT, STALLED = 0.2, 0.6
 ENQ, ACK, NAK, EOT = b"\x05", b"\x06", b"\x15", b"\x04"
 TEXTS = [b"H|\\^&|||A\r", b"P|1\r", b"O|1|S7\r", b"R|1|^^^GLU|5.4\r", b"L|1|N\r"]
 
@@ -226,38 +228,36 @@ class Lines(HostTest):
 
     def test_late(self):
         """A host that was stopped for longer than the sender's timer sends no reply to what came before."""
-        for fault in (None, "late"):
-            host, replies, good = Host(self.path(f"late{fault}.db"), fault=fault, scale=STALLED), [], True
-            for place in range(1, 4):
-                texts = [b"H|\\^&|||A%d\r" % place, *TEXTS[1:]]
-                with Client(host.port) as client:
-                    good = (
-                        client.asks(ENQ) == ACK
-                        and all(client.asks(frame) == ACK for frame in frames(texts)[:2])
-                        and good
-                    )
-                    replies.append(late_reply(host, client, frames(texts)[2], place))
-                    good = bool(fault) or (client.whole(texts) and good)
-            host.stop()
-            said = host.errors[-1].count("a reply is late and isn't sent: byte ")
-            self.same(f"{fault}: late replies that are said", said, 0 if fault else 3)
-            if fault:
-                self.true("a host that replies late is noticed", ACK in replies, repr(replies))
-                continue
-            self.same("no reply", replies, [b""] * 3)
-            self.true("the lines go on", good)
-            found = Found(host.store)
-            self.same("each message is kept once, whole", (len(found.whole), found.again()), (3, 0))
-            front = [b"".join([b"H|\\^&|||A%d\r" % place, *TEXTS[1:]]) for place in range(1, 4)]
-            self.true(
-                "what was acknowledged before is kept",
-                len(found.others) == 3
-                and all(
-                    whole.startswith(one.body) and one.body.count(b"\r") >= 2
-                    for whole, one in zip(front, found.others)
-                ),
-                repr(found.others),
-            )
+        with ThreadPoolExecutor() as threads:
+            late, (said, replies, good, store) = threads.map(self.stopped, ("late", None))
+        self.true("a host that replies late is noticed", late[0] == 0 and ACK in late[1], repr(late))
+        self.same("late replies that are said", said, 3)
+        self.same("no reply", replies, [b""] * 3)
+        self.true("the lines go on", good)
+        found = Found(store)
+        self.same("each message is kept once, whole", (len(found.whole), found.again()), (3, 0))
+        front = [b"".join([b"H|\\^&|||A%d\r" % place, *TEXTS[1:]]) for place in range(1, 4)]
+        self.true(
+            "what was acknowledged before is kept",
+            len(found.others) == 3
+            and all(
+                whole.startswith(one.body) and one.body.count(b"\r") >= 2 for whole, one in zip(front, found.others)
+            ),
+            repr(found.others),
+        )
+
+    def stopped(self, fault):
+        """A host that is stopped three times within a session: how many late replies it reports, what it replies after
+        each stop, whether its lines go on, and its store."""
+        host, replies, good = Host(self.path(f"late{fault}.db"), fault=fault, scale=STALLED), [], True
+        for place in range(1, 4):
+            texts = [b"H|\\^&|||A%d\r" % place, *TEXTS[1:]]
+            with Client(host.port) as client:
+                good = client.asks(ENQ) == ACK and all(client.asks(one) == ACK for one in frames(texts)[:2]) and good
+                replies.append(late_reply(host, client, frames(texts)[2], place))
+                good = bool(fault) or (client.whole(texts) and good)
+        host.stop()
+        return host.errors[-1].count("a reply is late and isn't sent: byte "), replies, good, host.store
 
     def test_slow_lines(self):
         """Lines that stall, or read no reply, delay no other: no timer of theirs runs out meanwhile."""
@@ -301,7 +301,7 @@ class Lines(HostTest):
     def test_limits(self):
         """Limits on lines, on the size of a message, on silence and on the receiver's timer."""
         words = ["--max-lines", "2", "--message-bytes", "1000", "--idle", "9"]
-        host = Host(self.path("limits.db"), *words, scale=STALLED)
+        host = Host(self.path("limits.db"), *words, scale=SILENT)
         with Client(host.port) as one, Client(host.port) as two:
             self.same("two are heard", (one.asks(ENQ), two.asks(ENQ)), (ACK, ACK))
             with Client(host.port) as three:
@@ -310,7 +310,7 @@ class Lines(HostTest):
             replies = [one.asks(frame, 1, 2.0) for frame in frames(long)]
             self.same("a message too long gets no reply", replies, [ACK] * 6 + [b""])
             self.true("its line goes on", one.whole(TEXTS))
-            time.sleep(30 * STALLED + 0.2)
+            time.sleep(30 * SILENT + 0.2)
             self.same("the receiver's timer", two.asks(frames(TEXTS)[0], 1, 0.2), b"")
             self.true("a silent line is closed", two.is_closed(30))
         host.stop()

@@ -30,7 +30,7 @@ from tests.host.test_lines import ACK, ENQ, EOT, NAK, TEXTS, Chained, Client, fr
 #: What is said after the file was read again, and after one that has a fault.
 TAKEN, LEFT = "the lines are read again: ", "the lines file has faults"
 #: Timers that don't run out on a busy machine.
-SLOW = 0.3
+SLOW = 1.0
 GOOD = """\
 # Lines of a laboratory.
 [chemistry]
