@@ -32,8 +32,10 @@ static inline int accept_one(uint16_t port) {
         || bind(server, (struct sockaddr *)&at, size) != 0 || listen(server, 1) != 0
         || getsockname(server, (struct sockaddr *)&at, &size) != 0)
         return -1;
-    printf("port %d\n", ntohs(at.sin_port));
-    fflush(stdout);
+    if (port == 0) {
+        printf("port %d\n", ntohs(at.sin_port));
+        fflush(stdout);
+    }
     line = accept(server, NULL, NULL);
     close(server);    /* the next program may have the port */
     return line;

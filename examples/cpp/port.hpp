@@ -46,8 +46,10 @@ inline int accept_one(unsigned short port) {
         || bind(server, reinterpret_cast<sockaddr *>(&at), sizeof at) != 0 || listen(server, 1) != 0
         || getsockname(server, reinterpret_cast<sockaddr *>(&at), &size) != 0)
         return -1;
-    std::printf("port %d\n", ntohs(at.sin_port));
-    std::fflush(stdout);
+    if (port == 0) {
+        std::printf("port %d\n", ntohs(at.sin_port));
+        std::fflush(stdout);
+    }
     int line = accept(server, nullptr, nullptr);
     close(server);    // the next program may have the port
     return line;

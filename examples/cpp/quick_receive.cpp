@@ -9,7 +9,8 @@
 #include <cstdlib>
 #include <iostream>
 
-// Prints the patient, the sample, the test and the value of each result. A message that broke off is dropped.
+// Prints the patient, the sample, the test and the value of each result, each as one component with its escapes decoded.
+// Fields have the standard's numbers; repeats and components count from 0. A message that broke off is dropped.
 static void print(std::string_view texts) {
     for (lislink::message message; !texts.empty();)
         if (message.try_read(texts))

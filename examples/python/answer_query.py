@@ -113,7 +113,8 @@ class Computer:
 
 def main() -> None:
     server = socket.create_server(("127.0.0.1", int(sys.argv[1])))
-    print("port", server.getsockname()[1], flush=True)
+    if sys.argv[1] == "0":
+        print("port", server.getsockname()[1], flush=True)
     with contextlib.closing(TextFile(sys.argv[2])) as store:
         line, _ = server.accept()
         with line:

@@ -60,7 +60,8 @@ async def main() -> None:
                 done.set()
 
         server = await asyncio.start_server(serve, "127.0.0.1", int(sys.argv[1]))
-        print("port", server.sockets[0].getsockname()[1], flush=True)
+        if sys.argv[1] == "0":
+            print("port", server.sockets[0].getsockname()[1], flush=True)
         await done.wait()                       # a sample serves one connection to its end; a host goes on
         server.close()
 

@@ -8,7 +8,8 @@ use lislink::{Heard, Message, Receiver};
 use std::io::{self, Write};
 use std::time::Instant;
 
-/// Prints the patient, the sample, the test and the value of each result. A message that broke off is dropped.
+/// Prints the patient, the sample, the test and the value of each result, each as one component with its escapes decoded.
+/// Fields have the standard's numbers; repeats and components count from 0. A message that broke off is dropped.
 fn print(mut texts: &[u8]) {
     let words =
         |part: Option<Vec<u8>>| String::from_utf8_lossy(&part.unwrap_or_default()).into_owned();

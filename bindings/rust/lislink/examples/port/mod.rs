@@ -108,7 +108,9 @@ pub fn line_and_store(name: &str) -> io::Result<(TcpStream, TextFile)> {
     let port: u16 = port.parse().map_err(io::Error::other)?;
     let store = TextFile::open(path)?;
     let server = TcpListener::bind(("127.0.0.1", port))?;
-    println!("port {}", server.local_addr()?.port());
+    if port == 0 {
+        println!("port {}", server.local_addr()?.port());
+    }
     let (line, _) = server.accept()?;
     line.set_read_timeout(Some(PAUSE))?;
     Ok((line, store))
