@@ -44,6 +44,9 @@ FAULTS = {
     "test_commits.Owed.test_one_that_fails": Edit(
         "host/commits.py", "self._owed.extend(batch)\n", "self._owed.extendleft(reversed(batch))\n"
     ),
+    "test_commits.Owed.test_a_part_that_fails": Edit(
+        "host/keeper.py", "        for one in ends:\n            self._ends.pop(one.key, None)\n", "        self._ends.clear()\n"
+    ),
     "test_commits.Steps.test_a_commit_of_many": Edit(
         "model/sql.py", "sorted({(one.line, one.digest) for one in ends})", "[(one.line, one.digest) for one in ends]"
     ),
@@ -201,6 +204,9 @@ FAULTS = {
         "host/line.py", "            if self._stopping and self._is_through():\n                return\n", ""
     ),
     "test_lines.Lines.test_calls_of_a_text": Edit("host/line.py", "if note in _AFTER_NOISE:", "if note:"),
+    "test_lines.Lines.test_closed_lines": Edit(
+        "host/keeper.py", "        self._took_fixed = lambda key, changes: None\n", ""
+    ),
     "test_lines.Lines.test_who_listens": Edit(
         "diagnosis/events.py", "self._those.get(type(event), ())", "sum(self._those.values(), [])"
     ),

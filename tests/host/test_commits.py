@@ -1,11 +1,15 @@
 """What is owed: units that no reply waits for, and that could not be kept at once."""
 import asyncio
+import time
 import unittest.mock
 from collections import Counter
 
+from lislab.diagnosis.events import Observers
 from lislab.host import line
 from lislab.host.commits import Committer
-from lislab.model.store import StoreError
+from lislab.host.intake import Intake
+from lislab.host.keeper import Keeper
+from lislab.model.store import INCOMPLETE, End, StoreError
 from lislab.model.stores import open_store
 from tests.host.hosts import HostTest
 from tests.host.test_repeats import begun, ended
@@ -70,6 +74,29 @@ class Owed(HostTest):
             return before, (counts["messages"], one.keeper.last)
 
         self.same("before and after", asyncio.run(runs()), ((0, None), (1, 2.0)))
+
+    def test_a_part_that_fails(self):
+        """A part of a long text can't be stored: each message that ended since the last part ends as incomplete."""
+        later = []
+
+        async def runs():
+            committer, fixer = unittest.mock.Mock(part=2), unittest.mock.Mock(names=frozenset())
+            committer.put = unittest.mock.AsyncMock(side_effect=fails)
+            committer.put_later.side_effect = lambda unit, _: (later.extend(unit), unittest.mock.Mock())[1]
+            fixer.order.over = unittest.mock.AsyncMock()
+            intake = Intake("fire", "x", "latin-1", 1 << 20, time.time)
+            shared = committer, fixer, line.Share(line.Turns(), "x"), Observers([], print), Counter(), print
+            keeper = Keeper(intake, *shared, print)
+            with self.assertRaises(StoreError):
+                await keeper.keep(b"H|\\^&\r" + b"C|1\r" * 700 + b"L|1\r")
+            keeper.undo("as the test has it")
+
+        def fails(unit, _):
+            if any(isinstance(one, End) for one in unit):
+                raise StoreError("as the test has it")
+
+        asyncio.run(runs())
+        self.same("ends", [(one.state, one.reason) for one in later], [(INCOMPLETE, "as the test has it")])
 
 
 class Rows:

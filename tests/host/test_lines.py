@@ -1,12 +1,14 @@
 """One line at a time: cuts, silence, late replies, limits, what can't be read, a stop in order."""
 import asyncio
 import contextlib
+import gc
 import os
 import signal
 import socket
 import threading
 import time
 import unittest.mock
+import weakref
 from collections import Counter
 from concurrent.futures import ThreadPoolExecutor
 from typing import get_args
@@ -17,6 +19,7 @@ from lislab.diagnosis.events import Came, Closed, Event, Late, Observers, Sent
 from lislab.host import line, ports, tcp
 from lislab.host.intake import Intake
 from lislab.model import options
+from tests.host import walk
 from tests.host.hosts import NEVER, Found, Host, HostTest, lislab, sending, wait_for
 
 #: The timers of tests in which they run out while a frame is answered in time: 15 seconds are 0.75.
@@ -453,6 +456,24 @@ class Lines(HostTest):
         self.same("it is said", (len(bad[2]), bad[2][0]),
                   (len(good[1]), "an observer of the line failed at Came: ValueError: it fails"))
         self.same("nothing is said of the others", good[2], [])
+
+    def test_closed_lines(self):
+        """A line is freed as soon as it is closed, without the garbage collector."""
+        found = []
+
+        async def work(host):
+            async with walk.connected(host, "text") as one:
+                await one.asks(ENQ)
+                found.extend(map(weakref.ref, host.lines))
+            while host.lines:
+                await asyncio.sleep(0.01)
+            await asyncio.sleep(0.01)
+            found.append([one() for one in found])
+
+        gc.disable()
+        self.addCleanup(gc.enable)
+        asyncio.run(walk.served(self.path(""), work))
+        self.same("lines", found[1:], [[None]])
 
     def test_who_listens(self):
         """An observer is called for the kinds of events that it listens for, and for no other."""

@@ -69,7 +69,7 @@ class Analyzer:
 
 async def _text(host, walk):
     """A text in mid-message: walked."""
-    async with _connected(host, "text") as one:
+    async with connected(host, "text") as one:
         first, second, third = (frame(number, text) for number, text in enumerate(TEXTS, 1))
         for unit in (ENQ, first, second):
             await one.asks(unit)
@@ -78,7 +78,7 @@ async def _text(host, walk):
 
 async def _query(host, walk):
     """The last frame of a query, and its answer: walked."""
-    async with _connected(host, "query") as one:
+    async with connected(host, "query") as one:
         *first, last = (frame(number, text) for number, text in enumerate(query("S7"), 1))
         for unit in (ENQ, *first):
             await one.asks(unit)
@@ -95,7 +95,7 @@ WALKS = {"a text in mid-message": _text, "a query with its answer": _query}
 
 
 @contextlib.asynccontextmanager
-async def _connected(host, name):
+async def connected(host, name):
     server = next(port.server for port in host.ports._open if port.place.name == name)
     reader, writer = await asyncio.open_connection(*server.sockets[0].getsockname())
     try:
@@ -118,27 +118,33 @@ async def _settle():
         await asyncio.sleep(0.001)
 
 
-async def walked(folder, work):
-    """Serves, and walks some work."""
+async def served(folder, work):
+    """Serves in this process, and does some work."""
     path = os.path.join(folder, "walk.db")
     words = ["serve", "--store", path, "--scale", str(NEVER)]
     words += ["--listen", "0,name=text", "--listen", "0,name=query,orders=query"]
-    store, walk = open_store(path), Walk()
-    threading.setprofile(walk.note)
-    sys.setprofile(walk.note)
-    try:
+    store = open_store(path)
+    with contextlib.closing(store):
         store.start("walk")
         book = open_book(path)
         book.add([Order("S7", ("GLU", "K"))])
         book.close()
         host = Host(command._asked_of(cli.parser().parse_args(words)), store)
         await host.start()
-        await work(host, walk)
+        await work(host)
         await host.stop()
+
+
+def walked(folder, work):
+    """Serves, and walks some work."""
+    walk = Walk()
+    threading.setprofile(walk.note)
+    sys.setprofile(walk.note)
+    try:
+        asyncio.run(served(folder, lambda host: work(host, walk)))
     finally:
         sys.setprofile(None)
         threading.setprofile(None)
-        store.close()
     return list(walk.of_packages())
 
 
@@ -146,7 +152,7 @@ def run(words):
     """Prints how many functions there are, in how many files; with `list`, each with its calls."""
     for name, work in WALKS.items():
         with tempfile.TemporaryDirectory(prefix="lis-walk-") as folder:
-            found = asyncio.run(walked(folder, work))
+            found = walked(folder, work)
         for file, function, calls in found if "list" in words else ():
             print(f"{file}: {function} {calls}")
         calls = sum(one for *_, one in found)

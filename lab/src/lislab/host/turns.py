@@ -26,8 +26,9 @@ class Account:
 class Turns:
     """The lines that wait for their turn. The next one is a line of the peer that has used the least time."""
 
-    def __init__(self, worked: Callable[[], float] = time.monotonic) -> None:
-        #: The clock by which time is used. The thread's own clock would cost a call of the system each time.
+    def __init__(self, worked: Callable[[], float] = time.thread_time) -> None:
+        #: The thread's own clock. By any other clock a line is charged for the work of other threads and processes, so
+        #: on a busy machine good lines wait ten times as long.
         self.worked = worked
         #: How much time the peers used whose lines go on.
         self.had = 0.0
