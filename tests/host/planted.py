@@ -553,7 +553,7 @@ FAULTS = {
         "diagnosis/ring.py", "if len(self._held) > self._most:", "if len(self._held) > 2 * self._most:"
     ),
     "test_watch.Watch.test_rows": Edit(
-        "cli/watch.py", "return WRONG if client.is_bad(data) else GOOD", "return GOOD"
+        "cli/watch.py", "return LOOKS_WRONG if client.is_bad(data) else GOOD", "return GOOD"
     ),
     "test_watch.Watch.test_socket": Edit("model/unix.py", "os.umask(0o177)", "os.umask(0o022)"),
     "test_watch_postgres.WatchPostgres.test_the_database_is_gone": Edit(

@@ -90,9 +90,7 @@ def _form_of(ask: argparse.Namespace) -> export.Form:
     return form_asked(ask, form, say)
 
 
-def _target_of(
-    ask: argparse.Namespace, form: export.Form, store: Store, lock: int, ahead: Ahead
-) -> deliver.Target:
+def _target_of(ask: argparse.Namespace, form: export.Form, store: Store, lock: int, ahead: Ahead) -> deliver.Target:
     """A function that delivers a message, by the options."""
     target = _receiver_of(ask, form, lock, ahead)
     if form.form in ("records", "json"):

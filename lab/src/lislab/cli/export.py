@@ -20,7 +20,7 @@ from ..outbound.oru import wishes_of
 from ..outbound.tables import tables_of
 from ..watch import status
 from .common import GOOD, LOOKS_WRONG
-from .words import PLACE, add_store
+from .words import PLACE, add_each, add_store
 
 
 def add_command(commands: Any) -> None:
@@ -61,7 +61,7 @@ def add_forms(one: argparse.ArgumentParser) -> None:
     one.add_argument("--fields", metavar="NAMES", help="columns of csv and tsv, as in lislab table")
     one.add_argument("--safe-cells", action="store_true", help="put an apostrophe before cells that look like formulas")
     names = "set what the receiver needs, for example MSH-5=LIS or obr=test; may be repeated"
-    one.add_argument("--set", action="append", default=[], metavar="NAME=VALUE", help=names)
+    add_each(one, "--set", "NAME=VALUE", names)
 
 
 def form_asked(ask: argparse.Namespace, form: str, said: Optional[Callable[[str], None]] = None) -> export.Form:

@@ -9,9 +9,9 @@ from ..model.book import FAILED, SENT, STATES, OrderBook, Placed
 from ..model.books import open_book
 from ..model.options import OptionError
 from ..model.said import say, shown
+from .common import GOOD, LOOKS_WRONG
+from .words import add_store
 
-#: Exit statuses, as those of the other commands.
-GOOD, WRONG = 0, 1
 _STATES = (
     "An order is waiting until it is sent, also after a try that failed. It is sent when the analyzer has acknowledged "
     "every frame of it, and done when a result of each of its tests has come. It is failed, with the reason, after the "
@@ -24,55 +24,36 @@ def add_command(commands: Any) -> None:
     """Adds the command to those of lislab."""
     top = commands.add_parser("order", "add, list, cancel or resend orders")
     whats = top.add_subparsers(dest="what", required=True, metavar="COMMAND")
-    _add_add(whats.add_parser("add", help="add the orders of a file", description="Add the orders of a file."))
-    _add_list(
-        whats.add_parser(
-            "list", help="list orders with their states", description="List orders with their states.", epilog=_STATES
-        )
-    )
-    _add_change(
-        whats.add_parser(
-            "cancel", help="cancel orders that are not sent", description="Cancel orders that are not sent."
-        ),
-        run_cancel,
-    )
-    _add_change(
-        whats.add_parser("again", help="let orders wait again", description="Let orders wait again."), run_again
-    )
-
-
-def _store(parser: argparse.ArgumentParser) -> None:
-    parser.add_argument(
-        "--store",
-        required=True,
-        metavar="STORE",
-        help="use this store: an SQLite file, postgresql://.., or spool:DIRECTORY",
-    )
+    for name, add, run, what in (
+        ("add", _add_add, run_add, "add the orders of a file"),
+        ("list", _add_list, run_list, "list orders with their states"),
+        ("cancel", _add_change, run_cancel, "cancel orders that are not sent"),
+        ("again", _add_change, run_again, "let orders wait again"),
+    ):
+        more = {"epilog": _STATES} if name == "list" else {}
+        one = whats.add_parser(name, help=what, description=f"{what[0].upper()}{what[1:]}.", **more)
+        add_store(one)
+        add(one)
+        one.set_defaults(run=run)
 
 
 def _add_add(one: argparse.ArgumentParser) -> None:
-    _store(one)
     one.add_argument("orders", nargs="?", default="-", help="CSV, JSON lines or records (standard input)")
     one.add_argument("--line", default="", metavar="NAME", help="the line of rows that name none")
     one.add_argument("--some", action="store_true", help="add the valid orders of a file that has faults")
     one.add_argument("--encoding", default="utf-8", help="encoding of the file (utf-8)")
-    one.set_defaults(run=run_add)
 
 
 def _add_list(one: argparse.ArgumentParser) -> None:
-    _store(one)
     one.add_argument("--sample", metavar="SAMPLE", help="only orders of this sample")
     one.add_argument("--state", choices=STATES, help="only orders in this state")
     one.add_argument("--owed", action="store_true", help="only sent orders that lack a result, with the missing tests")
-    one.set_defaults(run=run_list)
 
 
-def _add_change(one: argparse.ArgumentParser, run: Any) -> None:
-    _store(one)
+def _add_change(one: argparse.ArgumentParser) -> None:
     one.add_argument(
         "numbers", nargs="+", type=int, metavar="NUMBER", help="number of an order, from lislab order list"
     )
-    one.set_defaults(run=run)
 
 
 def _words(placed: Placed) -> str:
@@ -120,7 +101,7 @@ def run_add(ask: argparse.Namespace) -> int:
     else:
         good = []
     print(f"orders {len(good)} rejected {rejected}", flush=True)
-    return WRONG if rejected or not good else GOOD
+    return LOOKS_WRONG if rejected or not good else GOOD
 
 
 def run_list(ask: argparse.Namespace) -> int:
@@ -143,7 +124,7 @@ def _change(ask: argparse.Namespace, change: Any, state: str, why_not: str) -> i
                 print(f"order {number} {state}", flush=True)
             else:
                 say(f"order {number}: {why_not}")
-                status = WRONG
+                status = LOOKS_WRONG
     finally:
         book.close()
     return status

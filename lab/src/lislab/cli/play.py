@@ -18,7 +18,7 @@ from ..play.script import BYTES, Script, ScriptError, Step, read_script, steps_o
 from ..play.wanted import is_field
 from ..play.wire import End, LineFailed, On, Place, To
 from .common import say, write_output
-from .words import FACTOR, add_scale
+from .words import FACTOR, add_allow, add_scale
 
 #: Exit statuses, as those of the other commands.
 GOOD, DIFFERS, USAGE, STOPPED = 0, 1, 2, 3
@@ -62,13 +62,7 @@ def _add_line(one: argparse.ArgumentParser) -> None:
         "--listen", metavar="[HOST:]PORT", help="wait for a connection; without HOST, only from this machine"
     )
     one.add_argument("--serial", metavar="DEVICE:SPEED[,mode=8N1][,flow=..]", help="open a serial port")
-    one.add_argument(
-        "--allow",
-        action="append",
-        default=[],
-        metavar="NETWORK",
-        help="with --listen: let this network connect too; may be repeated",
-    )
+    add_allow(one, "with --listen: let this network connect too")
     one.add_argument(
         "--as", dest="end", choices=("analyzer", "computer"), help="play this end (the one that the script names)"
     )

@@ -9,7 +9,7 @@ from ..model import options
 from ..model.options import OptionError
 from ..model.said import many, say
 from .common import GOOD, LOOKS_WRONG, add_renamed
-from .words import COUNT, FACTOR, PLACE, SECONDS, add_scale
+from .words import COUNT, FACTOR, PLACE, SECONDS, add_each, add_scale
 
 
 def add_command(commands: Any) -> None:
@@ -36,13 +36,7 @@ def _add_send(one: argparse.ArgumentParser) -> None:
     )
     one.add_argument("--made", type=COUNT, metavar="N", help="send N generated messages per analyzer, and no file")
     one.add_argument("--seconds", type=FACTOR, metavar="S", help="stop after S seconds")
-    one.add_argument(
-        "--query",
-        action="append",
-        default=[],
-        metavar="SAMPLE",
-        help="query the orders of a sample, or of ALL; may be repeated",
-    )
+    add_each(one, "--query", "SAMPLE", "query the orders of a sample, or of ALL; may be repeated")
     add_renamed(one, "send", "--ask", metavar="SAMPLE")
     one.add_argument("--results", metavar="FILE", help="with --query: send results, from rows TEST,VALUE,UNIT")
     one.add_argument("--log", metavar="FILE", help="write a JSON line for every message that is done")

@@ -20,7 +20,7 @@ from ..model.stores import open_store
 from ..model.unix import socket_of
 from .common import GOOD, add_renamed
 from .lines import lines_of
-from .words import COUNT, FACTOR, PLACE, SECONDS, add_allow, add_scale, add_store
+from .words import COUNT, FACTOR, PLACE, SECONDS, add_allow, add_each, add_scale, add_store
 
 #: The end of `serve --help`.
 _SETTINGS = (
@@ -47,7 +47,7 @@ def _add_serve(one: argparse.ArgumentParser) -> None:
         ("--connect", "HOST:PORT[,KEY=VALUE ..]", "connect to an analyzer or terminal server that listens"),
         ("--serial", "DEVICE:SPEED[,KEY=VALUE ..]", "open a serial port"),
     ):
-        one.add_argument(name, action="append", default=[], metavar=where, help=what)
+        add_each(one, name, where, what)
     add_allow(one)
     one.add_argument(
         "--lines",

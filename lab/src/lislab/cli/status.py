@@ -8,7 +8,7 @@ from ..model.stores import open_store
 from ..watch import status
 from .common import GOOD, LOOKS_WRONG
 from .serve import state_file
-from .words import add_store
+from .words import add_each, add_store
 
 
 def add_command(commands: Any) -> None:
@@ -19,9 +19,7 @@ def add_command(commands: Any) -> None:
 def _add_status(one: argparse.ArgumentParser) -> None:
     add_store(one)
     one.add_argument("--status", metavar="FILE", help="read the host's state from FILE (STORE.status)")
-    one.add_argument(
-        "--cursor", action="append", default=[], metavar="FILE", help="also show the delivery with this cursor"
-    )
+    add_each(one, "--cursor", "FILE", "also show the delivery with this cursor")
     one.add_argument("--json", action="store_true", help="print JSON")
     one.set_defaults(run=run_status)
 

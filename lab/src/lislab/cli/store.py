@@ -14,6 +14,7 @@ from ..model.sql import SqlStore
 from ..model.store import StoreError
 from ..model.stores import open_store
 from ..outbound.quarantine import EARLIER, QUARANTINE
+from .words import add_each
 
 #: The table of a copy that has its cursors, and the ends of the names of a cursor's files.
 _FILES, _ENDS = "backup_file", ("", QUARANTINE, EARLIER)
@@ -31,9 +32,7 @@ def add_command(commands: Any) -> None:
     ):
         one = deeds.add_parser(name, help=what, description=f"{what[0].upper()}{what[1:]}.")
         one.add_argument("--store", required=True, metavar="FILE", help="an SQLite file")
-        one.add_argument(
-            "--cursor", action="append", default=[], metavar="FILE", help="the cursor of a delivery; may be repeated"
-        )
+        add_each(one, "--cursor", "FILE", "the cursor of a delivery; may be repeated")
         one.add_argument("copy", metavar="COPY", help="the file of the copy")
         one.set_defaults(run=run)
     for name, run, what in (

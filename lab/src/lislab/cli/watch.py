@@ -23,10 +23,10 @@ from ..watch.client import Host
 from ..watch.live import LiveLadder
 from ..watch.notify import Notifier
 from ..watch.web import Asked, Pages, Server, token_of
+from .common import GOOD, LOOKS_WRONG
 from .serve import state_file
+from .words import add_allow, add_each
 
-#: Exit statuses, as those of the other commands.
-GOOD, WRONG = 0, 1
 #: The fewest characters of a token.
 SHORTEST = 16
 #: Terminal codes: before a screen is painted again, before a bad line, before a quiet one, and after each.
@@ -44,23 +44,11 @@ def add_command(commands: Any) -> None:
     one.add_argument("--save", metavar="FILE", help="with --line: write its last bytes as a capture, then exit")
     one.add_argument("--notify", metavar="COMMAND", help="run this when a line turns bad, and when it is good again")
     one.add_argument("--http", metavar="HOST:PORT", help="serve status pages and /metrics")
-    one.add_argument(
-        "--allow",
-        action="append",
-        default=[],
-        metavar="NETWORK",
-        help="with --http: let this network connect too; may be repeated",
-    )
+    add_allow(one, "with --http: let this network connect too")
     one.add_argument(
         "--token", metavar="FILE", help="with --http: the file of the token (password) for pages with records"
     )
-    one.add_argument(
-        "--cursor",
-        action="append",
-        default=[],
-        metavar="FILE",
-        help="also show the delivery with this cursor; may be repeated",
-    )
+    add_each(one, "--cursor", "FILE", "also show the delivery with this cursor; may be repeated")
     one.set_defaults(run=run_watch)
 
 
@@ -81,7 +69,7 @@ def run_watch(ask: argparse.Namespace) -> int:
     if ask.once:
         data = host.look()
         _print(client.rows_of(data))
-        return WRONG if client.is_bad(data) else GOOD
+        return LOOKS_WRONG if client.is_bad(data) else GOOD
     return _stay(host, every, _notifier(ask))
 
 
@@ -197,7 +185,7 @@ def _ladder_once(host: Host, line: str) -> int:
     ladder = Ladder(capture, frame_limit=frame)
     sys.stdout.buffer.write(text_of(ladder).encode("utf-8"))
     sys.stdout.buffer.flush()
-    return WRONG if any(look.level == "bad" for look in looks_of(ladder)) else GOOD
+    return LOOKS_WRONG if any(look.level == "bad" for look in looks_of(ladder)) else GOOD
 
 
 def rows_as_they_come(host: Host, line: str, every: float) -> Iterator[str]:

@@ -34,15 +34,16 @@ COUNT, PLACE = number_from(int, 1), number_from(int, 0)
 SECONDS, FACTOR = number_from(float, 0), number_from(float, 0.001)
 
 
-def add_allow(parser: argparse.ArgumentParser) -> None:
+def add_each(parser: argparse.ArgumentParser, name: str, metavar: str, what: str) -> None:
+    """Adds an option that may be given several times."""
+    parser.add_argument(name, action="append", default=[], metavar=metavar, help=what)
+
+
+def add_allow(
+    parser: argparse.ArgumentParser, what: str = "let this network connect too, for example 10.0.5.0/24"
+) -> None:
     """Adds `--allow`."""
-    parser.add_argument(
-        "--allow",
-        action="append",
-        default=[],
-        metavar="NETWORK",
-        help="let this network connect too, for example 10.0.5.0/24; may be repeated",
-    )
+    add_each(parser, "--allow", "NETWORK", f"{what}; may be repeated")
 
 
 def add_scale(parser: argparse.ArgumentParser) -> None:
