@@ -511,6 +511,9 @@ FAULTS = {
     "test_turns.Turns.test_who_works_now_and_then": Edit(
         "host/turns.py", "min(now - self._since, MOST)", "now - self._since"
     ),
+    "test_turns.Turns.test_work_of_others": Edit(
+        "host/turns.py", "= time.thread_time) -> None", "= time.monotonic) -> None"
+    ),
     "test_turns.Turns.test_many_connections_of_a_peer": Edit(
         "host/turns.py", "turns.account(peer), turns", "Account(turns.had), turns"
     ),

@@ -216,6 +216,15 @@ class Turns(HostTest):
         self.same("it waits for", set(waits), {0})
         self.true("each as much", max(done.values()) - min(done.values()) <= 20, done)
 
+    def test_work_of_others(self):
+        """A line isn't charged for the time in which other threads and processes work."""
+        turns = turn.Turns()
+        share = turn.Share(turns, "x")
+        share.goes_on()
+        time.sleep(10 * turn.HEARS)
+        share.rests()
+        self.true("charged", turns.account("x").had < turn.HEARS, turns.account("x").had)
+
     def test_connections_of_a_line(self):
         """A session takes no more work on a line with many connections than on one with few."""
         step = lambda note: Step(b"", None, note, 0, 0)  # noqa: E731

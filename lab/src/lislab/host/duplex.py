@@ -262,16 +262,13 @@ class TwoWayLine(Line):
             return
         async with self._look_ups:
             answer = await self._outbox.answer(self._site, queries, b"".join(row.text + b"\r" for row in rows))
-        self._found(answer.is_any)
+        # `lislab watch` so notices a LIS that hands over no orders.
+        self._counts["found_nothing"] += not answer.is_any
+        self._tell(Looked(answer.is_any))
         if answer.batch is not None:
             self._ready.append(answer.batch)
         self._has_work = True
         self._inbox.wake()
-
-    def _found(self, is_any: bool) -> None:
-        """Notes whether there was an order for a query. So `lislab watch` notices a LIS that hands over no orders."""
-        self._counts["found_nothing"] += not is_any
-        self._tell(Looked(is_any))
 
     async def _take_back(self) -> None:
         """The analyzer cancels its query. Answers that haven't begun are not sent."""

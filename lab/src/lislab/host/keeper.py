@@ -1,4 +1,4 @@
-"""How the texts of a line are kept, and what becomes of its messages: the reply to a text waits for this."""
+"""Stores the texts of a line, and reports what becomes of its messages. The reply to a text waits for its storage."""
 import asyncio
 import functools
 from collections import Counter
@@ -13,12 +13,12 @@ from .fix import Ended
 from .fixer import Bodies, Fixer, fixed_ends
 from .turns import Share
 
-#: How many bytes of a long text are kept in one row.
+#: How many bytes of a long text one row has.
 TOGETHER = 1 << 14
 
 
 def _join(part: List[Change], changes: List[Change]) -> None:
-    """Puts changes after some others. Bytes of one message that follow each other are kept together."""
+    """Adds changes to a part. Bytes of one message that follow each other become one row."""
     if changes:
         last, first = part[-1], changes[0]
         if isinstance(last, Add) and isinstance(first, Add) and last.key == first.key and len(last.body) < TOGETHER:
@@ -48,13 +48,13 @@ class Keeper:
     ) -> None:
         self.intake, self._committer, self._fixer, self._share = intake, committer, fixer, share
         self._tell, self._counts, self._say, self._took_fixed = observers.tell, counts, say, took_fixed
-        #: Messages that ended, of which it is to be tried which setting would deliver them.
+        #: Messages that ended. For each, the host tries which setting would deliver it.
         self._tries: List[Ended] = []
         #: The ends of messages in the text that aren't stored yet, by the messages' keys.
         self._ends: Dict[str, End] = {}
-        #: Whether a text is kept in parts.
+        #: Whether the text is stored in parts.
         self._is_long = False
-        #: When the last message was kept, by the clock on the wall.
+        #: When the last complete message was stored, in seconds since 1970.
         self.last: Optional[float] = None
 
     async def keep(self, text: bytes) -> None:
@@ -120,31 +120,28 @@ class Keeper:
             self._note_ends(part)
 
     def _note_ends(self, changes: Sequence[Change]) -> None:
-        """Counts the messages that ended, and says which are not complete."""
-        for change in changes:
-            if not isinstance(change, End):
+        """Counts the messages that ended in these changes, and logs what is wrong with them."""
+        for end in changes:
+            if not isinstance(end, End):
                 continue
-            self._tell(MessageEnded(change))
-            self._note_letters(change)
-            self._counts["messages" if change.state == COMPLETE else "not_complete"] += 1
-            if change.state == COMPLETE:
-                self.last = change.at
-                if change.reason:
+            self._tell(MessageEnded(end))
+            self._counts["messages" if end.state == COMPLETE else "not_complete"] += 1
+            look = self.intake.letters.pop(end.key, "")
+            if end.state == COMPLETE:
+                self.last = end.at
+                if look:
+                    about = f"message {end.key}: its letters are {look}"
+                    self._say(f"{about}, and the line's encoding is {self.intake.encoding}", LETTERS)
+                if end.reason:
                     self._counts["fixed"] += 1
-                    self._took_fixed(change.key, changes)
-            elif change.size:
-                state = "" if change.reason.startswith(FIXED) else f"{change.state}: "
-                self._say(f"message {change.key} is {state}{change.reason}", MESSAGE)
-
-    def _note_letters(self, end: End) -> None:
-        """Says of a complete message that its letters look like those of another encoding."""
-        look = self.intake.letters.pop(end.key, "")
-        if look and end.state == COMPLETE:
-            about = f"message {end.key}: its letters are {look}"
-            self._say(f"{about}, and the line's encoding is {self.intake.encoding}", LETTERS)
+                    self._took_fixed(end.key, changes)
+            elif end.size:
+                state = "" if end.reason.startswith(FIXED) else f"{end.state}: "
+                self._say(f"message {end.key} is {state}{end.reason}", MESSAGE)
 
     def drop(self, reason: str, is_over: bool = False) -> None:
-        """No more comes of the message that goes on; whether the analyzer ended it so."""
+        """Ends the message that goes on, because no more of it comes. `is_over` says whether the analyzer had sent all
+        of it."""
         changes = self.intake.drop(reason)
         if self.intake.bodies:
             bodies, self.intake.bodies = self.intake.bodies, {}
@@ -158,7 +155,7 @@ class Keeper:
         self._took_fixed = lambda key, changes: None
 
     async def _end_later(self, changes: List[Change], bodies: Bodies, is_over: bool) -> None:
-        """Ends a message for which no reply waits, with what is made of it."""
+        """Stores the end of a message for which no reply waits, and the messages that are made of it."""
         tries: List[Ended] = []
         made = await self._fixer.of_all(changes, bodies, is_over, tries)
         if made:
@@ -166,7 +163,7 @@ class Keeper:
         self._fixer.begin_tries(tries, self.put_later)
 
     def put_later(self, changes: Sequence[Change]) -> "asyncio.Future[None]":
-        """Keeps changes for which no reply waits. What they end is counted and said once it is kept."""
+        """Stores changes for which no reply waits. The messages that end in them are counted once they are stored."""
         kept = self._committer.put_later(changes, self._is_long)
         kept.add_done_callback(lambda done: None if done.cancelled() else self._note_ends(changes))
         return kept
