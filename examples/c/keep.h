@@ -3,6 +3,7 @@
 #ifndef KEEP_H
 #define KEEP_H
 
+#include <errno.h>
 #include <fcntl.h>
 #include <stdbool.h>
 #include <stdint.h>
@@ -33,6 +34,7 @@ static bool open_texts(text_file *its, const char *path) {
     while (its->end > 0) {
         if (pread(its->file, &last, 1, its->end - 1) != 1 || last == '\n' || size - its->end == LONGEST) {
             fprintf(stderr, "%s is no file of texts\n", path);
+            errno = EINVAL;
             return false;
         }
         if (last == '\r')

@@ -7,7 +7,8 @@
 #include <stdlib.h>
 #include <unistd.h>
 
-/* A component of the record at a place, printed with what comes after it. */
+/* A component of the record at a place, printed with what comes after it; nothing if it isn't there. Fields have the
+ * standard's numbers, and components count from 0. */
 static inline void print_part(const lis_message *message, const uint8_t *text, const lis_record_place *place,
                               size_t field, size_t component, const char *after) {
     uint8_t *room = malloc(place->len + 1);

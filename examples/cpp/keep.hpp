@@ -2,6 +2,7 @@
 #ifndef KEEP_HPP
 #define KEEP_HPP
 
+#include <cerrno>
 #include <cstdio>
 #include <fcntl.h>
 #include <string>
@@ -49,6 +50,7 @@ public:
             return;
         if (!find_end()) {
             std::fprintf(stderr, "%s is no file of texts\n", path);
+            errno = EINVAL;
             return;
         }
         if (auto half = static_cast<long long>(lseek(file_, 0, SEEK_END) - end_); half > 0)
