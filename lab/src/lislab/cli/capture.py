@@ -13,10 +13,7 @@ from .inputs import add_import_options, imported
 
 def add_command(commands: Any) -> None:
     """Adds the command to those of `lislab`."""
-    _add_capture(commands.add_parser("capture", "convert the log of a sniffer to a capture"))
-
-
-def _add_capture(one: argparse.ArgumentParser) -> None:
+    one: argparse.ArgumentParser = commands.add_parser("capture", "convert the log of a sniffer to a capture")
     one.add_argument("log", nargs="?", default="-", help="the log (standard input)")
     one.add_argument("-o", "--output", metavar="FILE", help="write the capture to FILE and its times to FILE.times")
     one.add_argument("--times", metavar="FILE", help="write the times to FILE")

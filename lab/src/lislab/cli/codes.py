@@ -10,10 +10,9 @@ from .common import GOOD, LOOKS_WRONG
 
 def add_command(commands: Any) -> None:
     """Adds the command to those of `lislab`."""
-    _add_codes(commands.add_parser("codes", "check a test code mapping, and list the codes of a store that it lacks"))
-
-
-def _add_codes(one: argparse.ArgumentParser) -> None:
+    one: argparse.ArgumentParser = commands.add_parser(
+        "codes", "check a test code mapping, and list the codes of a store that it lacks"
+    )
     one.add_argument("--store", metavar="STORE", help="list the codes of this store that the mapping lacks")
     one.add_argument("--line", metavar="NAME", help="only results of this line")
     one.add_argument("--lines", metavar="FILE", help="a lines file, for each line's setting `test`")

@@ -28,10 +28,9 @@ _SCHEMES = {"mllp": "oru", "mllps": "oru", "https": "fhir", "http": "fhir"}
 
 def add_command(commands: Any) -> None:
     """Adds the command to those of `lislab`."""
-    _add_deliver(commands.add_parser("deliver", "send every complete message to a command, a directory, MLLP or HTTPS"))
-
-
-def _add_deliver(one: argparse.ArgumentParser) -> None:
+    one: argparse.ArgumentParser = commands.add_parser(
+        "deliver", "send every complete message to a command, a directory, MLLP or HTTPS"
+    )
     add_store(one)
     one.add_argument("--cursor", required=True, metavar="FILE", help="remember here which message was delivered last")
     one.add_argument(

@@ -25,10 +25,9 @@ from .words import PLACE, add_each, add_store
 
 def add_command(commands: Any) -> None:
     """Adds the command to those of `lislab`."""
-    _add_export(commands.add_parser("export", "write stored messages as JSON, CSV, records, HL7 or FHIR"))
-
-
-def _add_export(one: argparse.ArgumentParser) -> None:
+    one: argparse.ArgumentParser = commands.add_parser(
+        "export", "write stored messages as JSON, CSV, records, HL7 or FHIR"
+    )
     add_store(one)
     one.add_argument(
         "--format", type=form_of, choices=export.FORMATS, default="json", help="write this format (%(default)s)"

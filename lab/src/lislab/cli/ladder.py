@@ -14,10 +14,9 @@ from .table import _say_letters
 
 def add_command(commands: Any) -> None:
     """Adds the command to those of `lislab`."""
-    _add_ladder(commands.add_parser("ladder", "show a recorded session step by step, and what looks wrong"))
-
-
-def _add_ladder(one: argparse.ArgumentParser) -> None:
+    one: argparse.ArgumentParser = commands.add_parser(
+        "ladder", "show a recorded session step by step, and what looks wrong"
+    )
     one.add_argument("capture", help="a capture or a log (pcap, socat, ..); - is standard input")
     one.add_argument("--html", metavar="FILE", help="write a page for a browser")
     add_long(one)

@@ -10,10 +10,9 @@ from .words import add_allow
 
 def add_command(commands: Any) -> None:
     """Adds the command to those of `lislab`."""
-    _add_lines(commands.add_parser("lines", "check a lines file: print every line, its settings and its faults"))
-
-
-def _add_lines(one: argparse.ArgumentParser) -> None:
+    one: argparse.ArgumentParser = commands.add_parser(
+        "lines", "check a lines file: print every line, its settings and its faults"
+    )
     one.add_argument("file", metavar="FILE", help="a lines file: [NAME], then listen, connect or serial, and settings")
     add_allow(one)
     one.set_defaults(run=run_lines)

@@ -9,10 +9,7 @@ from .common import GOOD, LOOKS_WRONG, read_input, say, write_output
 
 def add_command(commands: Any) -> None:
     """Adds the command to those of `lislab`."""
-    _add_normalize(commands.add_parser("normalize", "fix files of records that break the standard"))
-
-
-def _add_normalize(one: argparse.ArgumentParser) -> None:
+    one: argparse.ArgumentParser = commands.add_parser("normalize", "fix files of records that break the standard")
     one.add_argument("records", nargs="?", default="-", help="a file of records (standard input)")
     one.add_argument("-o", "--output", metavar="FILE", help="write to FILE, readable only by its owner")
     one.add_argument(

@@ -12,11 +12,13 @@ from ..model.said import say, shown
 from .common import GOOD, LOOKS_WRONG
 from .words import add_store
 
+#: The end of `order list --help`.
 _STATES = (
-    "An order is waiting until it is sent, also after a try that failed. It is sent when the analyzer has acknowledged "
-    "every frame of it, and done when a result of each of its tests has come. It is failed, with the reason, after the "
-    "last try of `serve --tries`, or if it can't be written in the line's encoding. `lislab order again NUMBER` sends a "
-    "failed order again, `lislab order cancel NUMBER` gives it up: it is then cancelled and not sent."
+    "An order is waiting until it is sent, also after a try that failed. It is sent when the analyzer has "
+    "acknowledged every frame of it, and done when a result of each of its tests has come. It is failed, with the "
+    "reason, after the last try of `serve --tries`, or if it can't be written in the line's encoding. `lislab "
+    "order again NUMBER` sends a failed order again, `lislab order cancel NUMBER` gives it up: it is then "
+    "cancelled and not sent."
 )
 
 

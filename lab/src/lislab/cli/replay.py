@@ -9,10 +9,9 @@ from .inputs import add_import_options, add_long, frame_limit, load
 
 def add_command(commands: Any) -> None:
     """Adds the command to those of `lislab`."""
-    _add_replay(commands.add_parser("replay", "compare the computer's replies in a capture with the standard's"))
-
-
-def _add_replay(one: argparse.ArgumentParser) -> None:
+    one: argparse.ArgumentParser = commands.add_parser(
+        "replay", "compare the computer's replies in a capture with the standard's"
+    )
     one.add_argument("capture", help="a capture or a log (pcap, socat, ..); - is standard input")
     add_long(one)
     add_import_options(one)

@@ -14,10 +14,9 @@ from .words import COUNT, FACTOR, PLACE, SECONDS, add_each, add_scale
 
 def add_command(commands: Any) -> None:
     """Adds the command to those of `lislab`."""
-    _add_send(commands.add_parser("send", "simulate an analyzer: send records to a host, or query it"))
-
-
-def _add_send(one: argparse.ArgumentParser) -> None:
+    one: argparse.ArgumentParser = commands.add_parser(
+        "send", "simulate an analyzer: send records to a host, or query it"
+    )
     one.add_argument("records", nargs="?", default="-", help="a file of records (standard input)")
     one.add_argument("--to", metavar="HOST:PORT", help="connect to a host's TCP port")
     one.add_argument("--serial", metavar="DEVICE:SPEED[,mode=8N1][,flow=..]", help="open a serial port")

@@ -13,10 +13,7 @@ from .words import add_each, add_store
 
 def add_command(commands: Any) -> None:
     """Adds the command to those of `lislab`."""
-    _add_status(commands.add_parser("status", "show the lines of a host and what its store holds"))
-
-
-def _add_status(one: argparse.ArgumentParser) -> None:
+    one: argparse.ArgumentParser = commands.add_parser("status", "show the lines of a host and what its store holds")
     add_store(one)
     one.add_argument("--status", metavar="FILE", help="read the host's state from FILE (STORE.status)")
     add_each(one, "--cursor", "FILE", "also show the delivery with this cursor")

@@ -11,10 +11,7 @@ from .inputs import add_encoding, add_import_options, add_long, records_of
 
 def add_command(commands: Any) -> None:
     """Adds the command to those of `lislab`."""
-    _add_table(commands.add_parser("table", "write results as CSV, TSV or JSON lines"))
-
-
-def _add_table(one: argparse.ArgumentParser) -> None:
+    one: argparse.ArgumentParser = commands.add_parser("table", "write results as CSV, TSV or JSON lines")
     one.add_argument("records", nargs="*", help="files of records, captures or logs (standard input)")
     one.add_argument("-o", "--output", metavar="FILE", help="write to FILE, readable only by its owner")
     one.add_argument(
