@@ -5,7 +5,7 @@ import ctypes
 from tests import kit
 
 kit.library()
-from lislink import MessageError, MessagePlaces, Reason, Status, _library, message_places  # noqa: E402
+from lislink import MessageError, MessagePlaces, Reason, Status, _library, message_places, messages  # noqa: E402
 
 TEXT = b"H|\\^&\rP|1||X\rC|1\rO|1|A^B\rR|1|^^^GLU|5&F&\rM|1\rC|2\rR|2|K\rQ|1\rL|1\r"
 LETTERS, PARENTS = "HPCORMCRQL", [0, 0, 1, 1, 3, 4, 4, 3, 0, 0]
@@ -44,6 +44,15 @@ class Places(kit.Test):
                     for at, parent, last in zip(out[0::3], out[1::3], out[2::3])]
             self.same(f"places, room {room}", seen[:len(wanted)], wanted)
             self.same(f"past them, room {room}", set(out[PLACE * len(wanted):]), {GUARD})
+
+    def test_rows(self):
+        """The records as rows, which the reader of streams gives too, and the texts of their fields."""
+        rows = MessagePlaces(b"C" + TEXT, 1).rows
+        self.same("as the reader's", rows, next(messages(TEXT)))
+        self.same("how many fields", [row.count for row in rows], [row.count for row in next(messages(TEXT))])
+        self.same("texts", [rows[3].texts("latin-1"), rows[4].texts("latin-1")[2:], rows[0].texts("latin-1")[:1]],
+                  [["O", "1", None], [None, None], [""]])
+        self.same("without blanks", MessagePlaces(TEXT.replace(b"X", b" \xe4 ")).rows[1].texts("latin-1")[-1], "\xe4")
 
     def test_faults(self):
         header = b"H|\\^&\r"

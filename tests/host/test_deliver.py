@@ -183,7 +183,7 @@ class Deliver(HostTest):
             said = [row for row in done.stderr.splitlines() if " is left out: it repeats 1, which message " in row]
             self.same(f"{name}: each is named", len(said), len(bodies) - wanted)
             if name == "corrected":
-                self.has("which message corrects it", said[0], "message 3 3 is left out: it repeats 1, which message 2 ")
+                self.has("which message corrects it", said[0], "message 3 3 is left out: it repeats 1, which message 2")
                 self.has("the correction is the last one", files[-1], "|6.4|mmol/L|||||C|")
 
     def test_ends_the_process(self):
