@@ -130,7 +130,7 @@ class PostgresBooks(Books, HostTest):
             host.start()
             if number % 50 == 49:
                 hosts.say(f"{number + 1} of {kills} kills, {book.counts()}")
-        done = wait_for(lambda: set(book.counts()) == {"sent"} and not any(one.samples for one in work), 60 + 4 * kills)
+        done = wait_for(lambda: set(book.counts()) == {"sent"} and not any(one.samples for one in work), 600 + 4 * kills)
         over.set()
         for one in work:
             one.join()

@@ -96,7 +96,7 @@ def waiting(parts):
     async def run():
         await asyncio.sleep(10)
 
-    return unittest.mock.Mock(run=run, last=None, stop=lambda _: parts.wire.close())
+    return unittest.mock.Mock(run=run, keeper=unittest.mock.Mock(last=None), stop=lambda _: parts.wire.close())
 
 
 class Serial(HostTest):
