@@ -11,6 +11,8 @@ from tests.field.lab import lislab
 from tests.host.hosts import Found, Host, HostTest, lislab as run_lislab, process
 from tests.play.hosts import PATIENT, PLAYS, Restarts, SCALE, SHORT, UNASKED, play, read, scripts, short
 
+#: The scale of the timers where they run out: 15 seconds are 7.5.
+SILENT = 0.5
 #: Logs of ten tools, whose captures are played.
 LOGS = ("docklight.txt", "pcap.pcap", "socat-x.txt", "strace.txt", "portmon.txt", "tshark-x.txt", "words-page.htm",
         "serialport-monitor.txt", "moxa.txt", "ngrep.txt")
@@ -36,8 +38,8 @@ class Serve(HostTest):
 
     def test_silence(self):
         """The play that is silent for 30 seconds."""
-        _, words = self.host(self.path("silence.db"), scale=2 * SHORT)
-        ran = play(os.path.join(PLAYS, "results", "silent-analyzer.play"), *words, scale=2 * SHORT)
+        _, words = self.host(self.path("silence.db"), scale=SILENT)
+        ran = play(os.path.join(PLAYS, "results", "silent-analyzer.play"), *words, scale=SILENT)
         self.check(ran.status == 0, "the play", ran.text + ran.error)
 
     def test_faults(self):
