@@ -20,6 +20,8 @@ WRONG = [
     ("docs/proof.md", "`failed`; `split`, `next_place`", "`failed`; `cut`, `next_place`",
      "cut, which is no public function"),
     ("docs/proof.md", "`read_sent`: `sent`", "`read_sent`: `empty`", "empty, which is no clause"),
+    ("docs/proof.md", "always answers ENQ with ACK.\n", "always answers ENQ with ACK\n",
+     "promises without a contract: - Two timers, or a restart"),
     ("docs/proof.md", "### `Steps`:", "### `LeadsTo`:", "LeadsTo, which no public contract cites"),
     ("crates/lis_engine/src/print.rt", "use Rattle.lis_engine.specs.Output.{IsPut, IsWorking};",
      "use Rattle.lis_engine.specs.Output.{IsPut, IsWorking};\nghost use Rattle.lis_run.specs.inside.Show.{heard_line};",
@@ -82,7 +84,7 @@ class Tools(kit.Test):
             for *_, new, said in WRONG:
                 self.check(any(said in line for line in told), f"{new}: {told}")
             told = self.said_of(folder, HARMLESS)
-            wrong = ("cites", "is cited", "pins", "is taken from")
+            wrong = ("without a contract", "cites", "is cited", "pins", "is taken from")
             self.check(not any(word in line for line in told for word in wrong), told)
 
     def said_of(self, folder, changes, tool="tools/trust"):
@@ -154,7 +156,8 @@ class Tools(kit.Test):
             ran = subprocess.run([sys.executable, "tools/crates"], cwd=folder, capture_output=True, text=True)
             with open(f"{folder}/build/proofs.table", encoding="utf-8") as file:
                 rows = {name: list(map(int, rest)) for name, *rest in map(str.split, file) if name != "#"}
-            self.check(min(rows["lis_port"]) >= 1, "the seconds of a proof and of its mutants", rows)
+            proof, edits = rows["lis_port"]
+            self.check(1 <= proof < edits, "the seconds of a proof and, twice as many, of its mutants", rows)
             self.same("a crate that was not looked at", rows["lis_text"], [6000, 0])
             said = [line.split(", ")[-1] for line in ran.stdout.splitlines()[1:3]]
             self.same("minutes of a crate and all above it", said, ["200 minutes", "100 minutes"])
@@ -195,9 +198,10 @@ class Tools(kit.Test):
         self.counts("tools/version")
 
 
-# A process that takes two seconds of a processor, as a proof, as the edits of a crate, and as something else.
+# A process that takes two seconds of a processor, as a proof, as two edits of a crate, and as something else.
 BUSY = "import time\nwhile time.process_time() < 2:\n    pass\n"
-BUSY_WORDS = ("python3 busy build --crate-name lis_port", "(cd rt-edit-1; python3 ../busy check --crate-name lis_port)",
+BUSY_EDIT = "python3 ../busy check --crate-name lis_port"
+BUSY_WORDS = ("python3 busy build --crate-name lis_port", f"(cd rt-edit-1; {BUSY_EDIT}; {BUSY_EDIT})",
               "python3 busy check lis_text")
 # A kit whose `rt ci` proves one crate and tries an edit of it; another one is kept, and the third fails.
 GATE = f"""#!/bin/sh
