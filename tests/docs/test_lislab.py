@@ -112,7 +112,7 @@ def faults(pages):
     """What is wrong with the pages."""
     known = parsers(main.parser())
     page = pages["lislab"]
-    names = [name for _, group in main.GROUPS for name in group]
+    names = [name for group in main.GROUPS.values() for name in group]
     keys = PLACES | set(options.READS) | set(asks.READS)
     yield from compared("commands", heads(page), names)
     yield from compared("commands in the groups of --help", names, {name for name in known if name and " " not in name})

@@ -28,7 +28,7 @@ FAULTS = {
     "test_failed.Ways.test_pages": (
         "watch/page.py", "<td>{one.tries}</td><td>{safe(one.reason)}", "<td>{one.tries}</td><td>{one.reason}"
     ),
-    "test_failed.Ways.test_help": ("cli/order.py", '{"epilog": _STATES} if', "{} if"),
+    "test_failed.Ways.test_help": ("cli/order.py", "epilog = _STATES if", "epilog = None if"),
     "test_failed.Ways.test_queries": (
         "watch/status.py", 'for one in ("connected", "queries",', 'for one in ("connected", "complete",'
     ),

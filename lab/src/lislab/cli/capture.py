@@ -1,29 +1,25 @@
 """The command `lislab capture`."""
 import argparse
-from typing import Any
 
 from lislink.capture import Capture, looks_like_capture, read_capture, write_lines
 from ..diagnosis.log import LogError, time_text
 from ..field import sniffers
-from ..model import lines
 from ..model.files import write_whole
 from .common import GOOD, USAGE, read_input, say, write_output
 from .inputs import add_import_options, imported
 
 
-def add_command(commands: Any) -> None:
-    """Adds the command to those of `lislab`."""
-    one: argparse.ArgumentParser = commands.add_parser("capture", "convert the log of a sniffer to a capture")
+def add_options(one: argparse.ArgumentParser) -> None:
+    """Adds the options of `lislab capture`."""
     one.add_argument("log", nargs="?", default="-", help="the log (standard input)")
     one.add_argument("-o", "--output", metavar="FILE", help="write the capture to FILE and its times to FILE.times")
     one.add_argument("--times", metavar="FILE", help="write the times to FILE")
     one.add_argument("--analyzer", metavar="FILE", help="a dump of the analyzer's bytes")
     one.add_argument("--computer", metavar="FILE", help="a dump of the computer's bytes")
     add_import_options(one)
-    one.set_defaults(run=run_capture)
 
 
-def run_capture(ask: argparse.Namespace) -> int:
+def run(ask: argparse.Namespace) -> int:
     """Makes a capture of a log, or of two dumps."""
     if bool(ask.analyzer) != bool(ask.computer) or (ask.analyzer and ask.log != "-"):
         say("--analyzer FILE and --computer FILE belong together, without a log")

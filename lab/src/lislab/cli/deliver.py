@@ -3,7 +3,7 @@ import argparse
 import os
 import signal
 from types import FrameType
-from typing import Any, List, Optional
+from typing import List, Optional
 
 from lislink._library import calls
 from ..field.table import form_of
@@ -26,11 +26,8 @@ from .words import COUNT, FACTOR, add_store
 _SCHEMES = {"mllp": "oru", "mllps": "oru", "https": "fhir", "http": "fhir"}
 
 
-def add_command(commands: Any) -> None:
-    """Adds the command to those of `lislab`."""
-    one: argparse.ArgumentParser = commands.add_parser(
-        "deliver", "send every complete message to a command, a directory, MLLP or HTTPS"
-    )
+def add_options(one: argparse.ArgumentParser) -> None:
+    """Adds the options of `lislab deliver`."""
     add_store(one)
     one.add_argument("--cursor", required=True, metavar="FILE", help="remember here which message was delivered last")
     one.add_argument(
@@ -69,7 +66,6 @@ def add_command(commands: Any) -> None:
     one.add_argument(
         "words", nargs="*", metavar="COMMAND", help="after --: a command that reads one message from standard input"
     )
-    one.set_defaults(run=run_deliver)
 
 
 def _form_of(ask: argparse.Namespace) -> export.Form:
@@ -119,7 +115,7 @@ def _receiver_of(ask: argparse.Namespace, form: export.Form, lock: int, ahead: A
     return deliver.to_command(words, write, ask.seconds, lock)
 
 
-def run_deliver(ask: argparse.Namespace) -> int:
+def run(ask: argparse.Namespace) -> int:
     """Delivers until it is stopped, or what there is, or what is in quarantine."""
     if ask.resend is not None:
         return _run_again(ask)
@@ -143,8 +139,8 @@ def run_deliver(ask: argparse.Namespace) -> int:
         signal.signal(signal.SIGTERM, _stop)
         count = deliver.run(one, ask.once)
         say(f"{many(count.delivered, 'message')} delivered")
-        for text in [f"{many(count.empty, 'message')} had nothing to deliver"] if count.empty else []:
-            say(text)
+        if count.empty:
+            say(f"{many(count.empty, 'message')} had nothing to deliver")
         for text in export.counted_texts(form):
             say(text)
         if kept.held:

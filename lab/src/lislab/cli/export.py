@@ -3,7 +3,7 @@ import argparse
 import contextlib
 import sys
 from collections import Counter
-from typing import Any, Callable, ContextManager, Optional
+from typing import Callable, ContextManager, Optional
 
 from ..field import table
 from ..field.table import form_of
@@ -18,16 +18,12 @@ from ..model.unix import shown
 from ..outbound import export
 from ..outbound.oru import wishes_of
 from ..outbound.tables import tables_of
-from ..watch import status
 from .common import GOOD, LOOKS_WRONG
 from .words import PLACE, add_each, add_store
 
 
-def add_command(commands: Any) -> None:
-    """Adds the command to those of `lislab`."""
-    one: argparse.ArgumentParser = commands.add_parser(
-        "export", "write stored messages as JSON, CSV, records, HL7 or FHIR"
-    )
+def add_options(one: argparse.ArgumentParser) -> None:
+    """Adds the options of `lislab export`."""
     add_store(one)
     one.add_argument(
         "--format", type=form_of, choices=export.FORMATS, default="json", help="write this format (%(default)s)"
@@ -40,7 +36,6 @@ def add_command(commands: Any) -> None:
     one.add_argument("--state", type=renamed.state_of, choices=states, default=COMPLETE, help=only)
     add_forms(one)
     one.add_argument("-o", "--output", metavar="FILE", help="write to FILE, readable only by its owner")
-    one.set_defaults(run=run_export)
 
 
 def add_forms(one: argparse.ArgumentParser) -> None:
@@ -76,7 +71,7 @@ def form_asked(ask: argparse.Namespace, form: str, said: Optional[Callable[[str]
     return export.Form(form, tables, fields, ask.safe_cells, ask.controls, wishes_of(ask.set), counts=Counter())
 
 
-def run_export(ask: argparse.Namespace) -> int:
+def run(ask: argparse.Namespace) -> int:
     """Writes messages from a store. It reports and leaves out a message that can't be written with certainty."""
     try:
         since = None if ask.since is None else export.time_of(ask.since)
@@ -86,9 +81,8 @@ def run_export(ask: argparse.Namespace) -> int:
     wanted = export.Wanted(states, ask.after, since, ask.line, not ask.without_repeats)
     form = form_asked(ask, ask.format)._replace(is_strict=False)
     write = export.writer_of(form)
-    store = open_store(ask.store)
     status = GOOD
-    try:
+    with contextlib.closing(open_store(ask.store)) as store:
         with output_to(ask.output) as out:
             out.write(write(None))
             is_named = ask.line is None
@@ -100,8 +94,6 @@ def run_export(ask: argparse.Namespace) -> int:
                     say(f"message {one.number} {one.key} is left out: {error}")
                     status = LOOKS_WRONG
         names = [] if is_named else [one.line for one in store.counts()]
-    finally:
-        store.close()
     for text in export.counted_texts(form):
         say(text)
     if is_named or ask.line in names:

@@ -33,39 +33,31 @@ def add_import_options(parser: argparse.ArgumentParser) -> None:
     parser.add_argument("--units", action="store_true", help="write one line per ENQ, frame, reply or EOT")
 
 
-def import_options(ask: argparse.Namespace) -> sniffers.Options:
-    """How a log is read."""
-    return sniffers.Options(
-        ask.form,
-        ask.analyzer_side,
-        ask.swap,
-        ask.port,
-        ask.stream,
-        ask.fd,
-        ask.timer,
-        ask.mixed,
-        ask.units,
-        ask.skip_missing,
-    )
-
-
 def imported(data: bytes, ask: argparse.Namespace) -> Tuple[Capture, List[str]]:
     """The capture of a log, and remarks about it."""
-    return sniffers.capture_of(sniffers.read_log(data, import_options(ask)), import_options(ask))
+    options = sniffers.Options(**{name: getattr(ask, name) for name in sniffers.Options._fields})
+    return sniffers.capture_of(sniffers.read_log(data, options), options)
 
 
-def load(path: str, ask: argparse.Namespace) -> Tuple[Capture, List[str]]:
-    """A capture with the times in the file next to it, or the capture of a log."""
+def load(path: str, ask: argparse.Namespace) -> Capture:
+    """A capture with the times in the file next to it, or the capture of a log, on which remarks are printed."""
     data = read_input(path)
     if ask.form is None and looks_like_capture(data):
         capture = read_capture(data)
         beside = getattr(ask, "times", None) or (path + ".times" if path != "-" else "")
         if beside and os.path.exists(beside):
             capture = capture._replace(times=times_beside([number for number, _ in capture.lines], beside))
-        return (sniffers.swapped(capture) if ask.swap else capture), []
+        return sniffers.swapped(capture) if ask.swap else capture
     if ask.form is None and looks_like_records(data):
         raise LogError("these are records, and no line: see lislab normalize --explain, and lislab table")
-    return imported(data, ask)
+    return _remarked(data, ask)
+
+
+def _remarked(data: bytes, ask: argparse.Namespace) -> Capture:
+    capture, remarks = imported(data, ask)
+    for remark in remarks:
+        say(remark)
+    return capture
 
 
 def looks_like_records(data: bytes) -> bool:
@@ -88,9 +80,7 @@ def records_of(path: str, ask: argparse.Namespace) -> bytes:
     data = read_input(path)
     if ask.form is None and (looks_like_records(data) or not data.strip()):
         return data
-    capture, remarks = (read_capture(data), []) if looks_like_capture(data) else imported(data, ask)
-    for remark in remarks:
-        say(remark)
+    capture = read_capture(data) if looks_like_capture(data) else _remarked(data, ask)
     return Ladder(capture, frame_limit=frame_limit(ask)).stream
 
 

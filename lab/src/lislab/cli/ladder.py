@@ -1,7 +1,6 @@
 """The command `lislab ladder`."""
 import argparse
 import os
-from typing import Any
 
 from ..field.ladder import Ladder
 from ..field.looks import looks_of
@@ -12,11 +11,8 @@ from .inputs import add_encoding, add_import_options, add_long, frame_limit, loa
 from .table import _say_letters
 
 
-def add_command(commands: Any) -> None:
-    """Adds the command to those of `lislab`."""
-    one: argparse.ArgumentParser = commands.add_parser(
-        "ladder", "show a recorded session step by step, and what looks wrong"
-    )
+def add_options(one: argparse.ArgumentParser) -> None:
+    """Adds the options of `lislab ladder`."""
     one.add_argument("capture", help="a capture or a log (pcap, socat, ..); - is standard input")
     one.add_argument("--html", metavar="FILE", help="write a page for a browser")
     add_long(one)
@@ -24,14 +20,11 @@ def add_command(commands: Any) -> None:
     one.add_argument("--times", metavar="FILE", help="times of the capture's lines (CAPTURE.times)")
     add_encoding(one)
     add_import_options(one)
-    one.set_defaults(run=run_ladder)
 
 
-def run_ladder(ask: argparse.Namespace) -> int:
+def run(ask: argparse.Namespace) -> int:
     """Shows a capture or a log as a ladder."""
-    capture, remarks = load(ask.capture, ask)
-    for remark in remarks:
-        say(remark)
+    capture = load(ask.capture, ask)
     ladder = Ladder(capture, ask.encoding, frame_limit(ask))
     _say_letters("", ladder.stream, ask)
     if ask.html:

@@ -1,6 +1,6 @@
 """The command `lislab lines`."""
 import argparse
-from typing import Any, List, Sequence
+from typing import List, Sequence
 
 from ..model import lines, options
 from ..model.options import Network, OptionError, Place
@@ -8,17 +8,13 @@ from .common import GOOD, LOOKS_WRONG
 from .words import add_allow
 
 
-def add_command(commands: Any) -> None:
-    """Adds the command to those of `lislab`."""
-    one: argparse.ArgumentParser = commands.add_parser(
-        "lines", "check a lines file: print every line, its settings and its faults"
-    )
+def add_options(one: argparse.ArgumentParser) -> None:
+    """Adds the options of `lislab lines`."""
     one.add_argument("file", metavar="FILE", help="a lines file: [NAME], then listen, connect or serial, and settings")
     add_allow(one)
-    one.set_defaults(run=run_lines)
 
 
-def run_lines(ask: argparse.Namespace) -> int:
+def run(ask: argparse.Namespace) -> int:
     """Prints the lines of a file and its faults; status 1 if it has some."""
     found = lines.read_lines(ask.file, options.networks_of(ask.allow))
     for row in [*map(lines.text_of, found.places), *found.faults]:

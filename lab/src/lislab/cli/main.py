@@ -2,7 +2,7 @@
 import argparse
 import os
 import sys
-from typing import Any, Dict, List, Optional
+from typing import List, Optional
 
 from lislink import LibraryMissing, __version__
 from lislink.capture import CaptureError
@@ -17,35 +17,34 @@ from . import capture, codes, deliver, export, ladder, lines, normalize, order, 
 from . import store, table, watch
 from .common import STOPPED, USAGE, say
 
-
-#: The commands by their purpose, in the order of `lislab --help`.
-GROUPS = (
-    ("Look at a connection", ("ladder", "capture", "replay", "normalize", "table")),
-    ("Run a host", ("serve", "lines", "status", "watch", "order", "store")),
-    ("Forward results", ("deliver", "export", "codes")),
-    ("Validate an interface", ("play", "send")),
-)
-
-
-class Commands:
-    """The commands as they are added, each with what it does."""
-
-    def __init__(self, parsers: Any) -> None:
-        self._parsers = parsers
-        self.lines: Dict[str, str] = {}
-
-    def add_parser(self, name: str, does: str) -> argparse.ArgumentParser:
-        """A command: what it does is a sentence in the imperative, without its full stop."""
-        self.lines[name] = does
-        made: argparse.ArgumentParser = self._parsers.add_parser(name, description=f"{does[0].upper()}{does[1:]}.")
-        return made
-
-    def text(self) -> str:
-        """The commands in their groups, for the help of `lislab`."""
-        rows = []
-        for title, names in GROUPS:
-            rows += ["", f"{title}:", *(f"  {name:11}{self.lines[name]}" for name in names)]
-        return "\n".join([*rows, "", "`lislab COMMAND --help` lists the options of a command."]).lstrip("\n")
+#: The commands by their purpose, in the order of `lislab --help`: the module of each, and what it does, in the
+#: imperative and without a full stop.
+GROUPS = {
+    "Look at a connection": {
+        "ladder": (ladder, "show a recorded session step by step, and what looks wrong"),
+        "capture": (capture, "convert the log of a sniffer to a capture"),
+        "replay": (replay, "compare the computer's replies in a capture with the standard's"),
+        "normalize": (normalize, "fix files of records that break the standard"),
+        "table": (table, "write results as CSV, TSV or JSON lines"),
+    },
+    "Run a host": {
+        "serve": (serve, "run a host: store what analyzers send, then acknowledge it"),
+        "lines": (lines, "check a lines file: print every line, its settings and its faults"),
+        "status": (status, "show the lines of a host and what its store holds"),
+        "watch": (watch, "show whether every line is good, quiet or bad, and why"),
+        "order": (order, "add, list, cancel or resend orders"),
+        "store": (store, "back up, restore, check or upgrade a store"),
+    },
+    "Forward results": {
+        "deliver": (deliver, "send every complete message to a command, a directory, MLLP or HTTPS"),
+        "export": (export, "write stored messages as JSON, CSV, records, HL7 or FHIR"),
+        "codes": (codes, "check a test code mapping, and list the codes of a store that it lacks"),
+    },
+    "Validate an interface": {
+        "play": (play, "run test scripts against a host or an analyzer"),
+        "send": (send, "simulate an analyzer: send records to a host, or query it"),
+    },
+}
 
 
 def parser() -> argparse.ArgumentParser:
@@ -60,13 +59,16 @@ def parser() -> argparse.ArgumentParser:
     parsers = top.add_subparsers(
         dest="command", required=True, metavar="COMMAND", prog="lislab", help=argparse.SUPPRESS
     )
-    commands = Commands(parsers)
-    for command in (
-        *(ladder, capture, replay, normalize, table, serve, lines, send, status, export),
-        *(store, codes, deliver, order, play, watch),
-    ):
-        command.add_command(commands)
-    top.epilog = commands.text()
+    rows = []
+    for title, commands in GROUPS.items():
+        rows += [f"{title}:"]
+        for name, (module, does) in commands.items():
+            one = parsers.add_parser(name, description=f"{does[0].upper()}{does[1:]}.")
+            module.add_options(one)
+            one.set_defaults(run=getattr(module, "run", None))  # the commands of `order` and `store` have their own
+            rows += [f"  {name:11}{does}"]
+        rows += [""]
+    top.epilog = "\n".join([*rows, "`lislab COMMAND --help` lists the options of a command."])
     return top
 
 

@@ -1,15 +1,14 @@
 """The command `lislab normalize`."""
 import argparse
-from typing import Any, Set
+from typing import Set
 
 from ..field import normalize
 from ..model.changes import CHANGES
 from .common import GOOD, LOOKS_WRONG, read_input, say, write_output
 
 
-def add_command(commands: Any) -> None:
-    """Adds the command to those of `lislab`."""
-    one: argparse.ArgumentParser = commands.add_parser("normalize", "fix files of records that break the standard")
+def add_options(one: argparse.ArgumentParser) -> None:
+    """Adds the options of `lislab normalize`."""
     one.add_argument("records", nargs="?", default="-", help="a file of records (standard input)")
     one.add_argument("-o", "--output", metavar="FILE", help="write to FILE, readable only by its owner")
     one.add_argument(
@@ -19,10 +18,9 @@ def add_command(commands: Any) -> None:
     for name, what in CHANGES.items():
         flags = [f"--{name}", *(["--escape"] if name == "bytes" else [])]  # as it was called first
         one.add_argument(*flags, action="store_true", help=what)
-    one.set_defaults(run=run_normalize)
 
 
-def run_normalize(ask: argparse.Namespace) -> int:
+def run(ask: argparse.Namespace) -> int:
     """Makes record files of dialects readable, by the changes that are asked for."""
     data = read_input(ask.records)
     if ask.explain:

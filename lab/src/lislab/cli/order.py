@@ -1,6 +1,6 @@
 """`lislab order`: the orders of a store are added, listed, cancelled, and sent again."""
 import argparse
-import sys
+import contextlib
 import time
 from typing import Any, List
 
@@ -9,7 +9,7 @@ from ..model.book import FAILED, SENT, STATES, OrderBook, Placed
 from ..model.books import open_book
 from ..model.options import OptionError
 from ..model.said import say, shown
-from .common import GOOD, LOOKS_WRONG
+from .common import GOOD, LOOKS_WRONG, read_input
 from .words import add_store
 
 #: The end of `order list --help`.
@@ -22,9 +22,8 @@ _STATES = (
 )
 
 
-def add_command(commands: Any) -> None:
-    """Adds the command to those of lislab."""
-    top = commands.add_parser("order", "add, list, cancel or resend orders")
+def add_options(top: argparse.ArgumentParser) -> None:
+    """Adds the commands of `lislab order`."""
     whats = top.add_subparsers(dest="what", required=True, metavar="COMMAND")
     for name, add, run, what in (
         ("add", _add_add, run_add, "add the orders of a file"),
@@ -32,8 +31,8 @@ def add_command(commands: Any) -> None:
         ("cancel", _add_change, run_cancel, "cancel orders that are not sent"),
         ("again", _add_change, run_again, "let orders wait again"),
     ):
-        more = {"epilog": _STATES} if name == "list" else {}
-        one = whats.add_parser(name, help=what, description=f"{what[0].upper()}{what[1:]}.", **more)
+        epilog = _STATES if name == "list" else None
+        one = whats.add_parser(name, help=what, description=f"{what[0].upper()}{what[1:]}.", epilog=epilog)
         add_store(one)
         add(one)
         one.set_defaults(run=run)
@@ -73,19 +72,12 @@ def told(placed: Placed) -> str:
     return f"{words} {placed.state} {at}{why}" + (f", tried {placed.tries}" if placed.tries else "")
 
 
-def _data_of(path: str) -> bytes:
-    if path == "-":
-        return sys.stdin.buffer.read()
-    with open(path, "rb") as file:
-        return file.read()
-
-
 def run_add(ask: argparse.Namespace) -> int:
     """Adds the orders of a file. If one of its rows is no order, nothing is added, unless `--some` is given."""
     good: List[Order] = []
     rejected = 0
     try:
-        for number, found in orders_of(_data_of(ask.orders), ask.encoding):
+        for number, found in orders_of(read_input(ask.orders), ask.encoding):
             if isinstance(found, str):
                 rejected += 1
                 say(f"line {number}: {found}")
@@ -94,12 +86,9 @@ def run_add(ask: argparse.Namespace) -> int:
     except LookupError:
         raise OptionError(f"there is no encoding {ask.encoding}") from None
     if good and (ask.some or not rejected):
-        book = open_book(ask.store)
-        try:
+        with contextlib.closing(open_book(ask.store)) as book:
             for placed in book.add(good):
                 print(shown(_words(placed)))
-        finally:
-            book.close()
     else:
         good = []
     print(f"orders {len(good)} rejected {rejected}", flush=True)
@@ -108,27 +97,22 @@ def run_add(ask: argparse.Namespace) -> int:
 
 def run_list(ask: argparse.Namespace) -> int:
     """Lists orders."""
-    book = open_book(ask.store, reading=True)
-    try:
+    with contextlib.closing(open_book(ask.store, reading=True)) as book:
         for placed in book.listed(ask.sample, SENT if ask.owed else ask.state):
             lacks = [test for test in placed.order.tests if test not in placed.came]
             print(shown(told(placed) + (f", no result of {','.join(lacks)}" if ask.owed else "")))
-    finally:
-        book.close()
     return GOOD
 
 
 def _change(ask: argparse.Namespace, change: Any, state: str, why_not: str) -> int:
-    book, status = open_book(ask.store), GOOD
-    try:
+    status = GOOD
+    with contextlib.closing(open_book(ask.store)) as book:
         for number in ask.numbers:
             if change(book, number):
                 print(f"order {number} {state}", flush=True)
             else:
                 say(f"order {number}: {why_not}")
                 status = LOOKS_WRONG
-    finally:
-        book.close()
     return status
 
 

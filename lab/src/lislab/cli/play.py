@@ -5,7 +5,7 @@ import shlex
 import subprocess
 import sys
 import time
-from typing import Any, Callable, Dict, List, NamedTuple, Optional, Tuple, TypeVar
+from typing import Callable, List, NamedTuple, Optional, Tuple, TypeVar
 
 from ..diagnosis.log import LogError, times_beside
 from ..model import options
@@ -17,28 +17,24 @@ from ..play.report import junit_of, page_of
 from ..play.script import BYTES, Script, ScriptError, Step, read_script, steps_of
 from ..play.wanted import is_field
 from ..play.wire import End, LineFailed, On, Place, To
-from .common import say, write_output
+from .common import GOOD, LOOKS_WRONG, STOPPED, say, write_output
 from .words import FACTOR, add_allow, add_scale
 
-#: Exit statuses, as those of the other commands.
-GOOD, DIFFERS, USAGE, STOPPED = 0, 1, 2, 3
 #: The ends of the names of a folder's scripts.
 _ENDINGS = (".play", ".capture")
 _T = TypeVar("_T")
 
 
 class Play(NamedTuple):
-    """A script that is to be played: its name, its path, itself, and its steps."""
+    """A script that is to be played: its name, itself, and its steps."""
 
     name: str
-    path: str
     script: Script
     steps: List[Step]
 
 
-def add_command(commands: Any) -> None:
-    """Adds the command to those of lislab."""
-    one = commands.add_parser("play", "run test scripts against a host or an analyzer")
+def add_options(one: argparse.ArgumentParser) -> None:
+    """Adds the options of `lislab play`."""
     one.add_argument("script", help="a script, a capture, or a folder of them; - is standard input")
     _add_line(one)
     one.add_argument("--fast", action="store_true", help="ignore the times of a capture: send as soon as a reply comes")
@@ -53,7 +49,6 @@ def add_command(commands: Any) -> None:
     one.add_argument("--report", metavar="FILE", help="write an HTML report with a place for signatures")
     one.add_argument("--junit", metavar="FILE", help="write the results as JUnit XML")
     add_scale(one)
-    one.set_defaults(run=run_play)
 
 
 def _add_line(one: argparse.ArgumentParser) -> None:
@@ -97,13 +92,11 @@ def _read(path: str) -> bytes:
 
 
 def _script(path: str) -> Script:
+    """A script, with the times in the file next to it."""
     script = read_script(_read(path))
-    times = path + ".times"
-    return _timed(script, times) if path != "-" and os.path.exists(times) else script
-
-
-def _timed(script: Script, path: str) -> Script:
-    times = times_beside([step.line for step in script.steps], path)
+    if path == "-" or not os.path.exists(path + ".times"):
+        return script
+    times = times_beside([step.line for step in script.steps], path + ".times")
     return script._replace(steps=[step._replace(time=at) for step, at in zip(script.steps, times)])
 
 
@@ -137,7 +130,7 @@ def _plays(ask: argparse.Namespace) -> Tuple[List[Play], str]:
     for (name, path), script in zip(paths, scripts):
         if not is_folder or script.is_computer == is_computer:
             steps = _named(name, path, lambda: steps_of(script, own, but))
-            found.append(Play(name, path, script, steps))
+            found.append(Play(name, script, steps))
     if not found:
         raise OptionError(f"{ask.script}: no script in it is for the {ask.end}")
     return found, own
@@ -171,7 +164,7 @@ def _source_of(ask: argparse.Namespace) -> Optional[kept.Source]:
     return kept.from_command(ask.kept) if ask.kept else None
 
 
-def run_play(ask: argparse.Namespace) -> int:
+def run(ask: argparse.Namespace) -> int:
     """Plays a script, or all of a folder."""
     place, source = _place(ask), _source_of(ask)
     plays, own = _plays(ask)
@@ -187,7 +180,10 @@ def run_play(ask: argparse.Namespace) -> int:
         played = [_play(play, own, end, pace, source, _restart_of(ask.restart), is_one) for play in plays]
     finally:
         end.end()
-    _write(ask, played)
+    if ask.report:
+        write_output(ask.report, page_of(played).encode("utf-8", "replace"))
+    if ask.junit:
+        write_output(ask.junit, junit_of(played).encode("utf-8", "replace"))
     outcomes = [one.outcome for one in played]
     wrong = [one for one in outcomes if one.differences or one.failed]
     if not is_one:
@@ -195,7 +191,7 @@ def run_play(ask: argparse.Namespace) -> int:
         print(f"plays {len(played)} failed {len(wrong)} steps {steps} differences {count}", flush=True)
     if any(one.failed for one in outcomes):
         return STOPPED
-    return DIFFERS if wrong else GOOD
+    return LOOKS_WRONG if wrong else GOOD
 
 
 def _play(
@@ -233,11 +229,3 @@ def _print(name: str, outcome: Outcome, is_one: bool) -> None:
     head = "" if is_one else f"{name} "
     stopped = ", and the play stopped" if outcome.failed else ""
     print(f"{head}steps {outcome.steps} differences {len(outcome.differences)}{stopped}", flush=True)
-
-
-def _write(ask: argparse.Namespace, played: List[Played]) -> None:
-    made: Dict[str, Callable[[], str]] = {"report": lambda: page_of(played), "junit": lambda: junit_of(played)}
-    for name, text in made.items():
-        path = getattr(ask, name)
-        if path:
-            write_output(path, text().encode("utf-8", "replace"))

@@ -1,22 +1,18 @@
 """The command `lislab send`."""
 import argparse
 import asyncio
-import sys
-from typing import Any, Callable, Iterator, List
+from typing import Callable, Iterator, List
 
 from ..analyzer import asker, send
 from ..model import options
 from ..model.options import OptionError
 from ..model.said import many, say
-from .common import GOOD, LOOKS_WRONG, add_renamed
+from .common import GOOD, LOOKS_WRONG, add_renamed, read_input, write_output
 from .words import COUNT, FACTOR, PLACE, SECONDS, add_each, add_scale
 
 
-def add_command(commands: Any) -> None:
-    """Adds the command to those of `lislab`."""
-    one: argparse.ArgumentParser = commands.add_parser(
-        "send", "simulate an analyzer: send records to a host, or query it"
-    )
+def add_options(one: argparse.ArgumentParser) -> None:
+    """Adds the options of `lislab send`."""
     one.add_argument("records", nargs="?", default="-", help="a file of records (standard input)")
     one.add_argument("--to", metavar="HOST:PORT", help="connect to a host's TCP port")
     one.add_argument("--serial", metavar="DEVICE:SPEED[,mode=8N1][,flow=..]", help="open a serial port")
@@ -41,23 +37,17 @@ def add_command(commands: Any) -> None:
     one.add_argument("--log", metavar="FILE", help="write a JSON line for every message that is done")
     one.add_argument("--quiet", action="store_true", help="print no line per message")
     add_scale(one)
-    one.set_defaults(run=run_send)
 
 
 def _texts_of(ask: argparse.Namespace, bad: List[str]) -> Callable[[str], Iterator[send.Texts]]:
     if ask.made is not None:
         return lambda name: (send.made_message(name, number) for number in range(1, ask.made + 1))
-    if ask.records == "-":
-        data = sys.stdin.buffer.read()
-    else:
-        with open(ask.records, "rb") as file:
-            data = file.read()
-    found = list(send.messages_of(data))
+    found = list(send.messages_of(read_input(ask.records)))
     bad.extend(one for one in found if isinstance(one, str))
     return lambda name: (one for one in found if not isinstance(one, str))
 
 
-def run_send(ask: argparse.Namespace) -> int:
+def run(ask: argparse.Namespace) -> int:
     """Sends messages, and reports how each one went."""
     if bool(ask.to) == bool(ask.serial):
         raise OptionError("name the host by --to or the line by --serial")
@@ -87,8 +77,7 @@ def _run_query(ask: argparse.Namespace, target: send.Target) -> int:
     """Queries orders, prints the records that came, and sends results for them."""
     values = None
     if ask.results:
-        with open(ask.results, "rb") as file:
-            values = asker.values_of(file.read())
+        values = asker.values_of(read_input(ask.results))
     samples = [] if ask.query == ["ALL"] else ask.query
 
     async def run() -> asker.Round:
@@ -101,8 +90,7 @@ def _run_query(ask: argparse.Namespace, target: send.Target) -> int:
             channel.close()
 
     told = asyncio.run(run())
-    sys.stdout.buffer.write(b"".join(told.texts).replace(b"\r", b"\n"))
-    sys.stdout.buffer.flush()
+    write_output(None, b"".join(told.texts).replace(b"\r", b"\n"))
     if told.why:
         say(told.why)
     return LOOKS_WRONG if told.why else GOOD

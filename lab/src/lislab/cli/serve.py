@@ -1,12 +1,13 @@
 """The command `lislab serve`."""
 import argparse
 import asyncio
+import contextlib
 import functools
 import os
 import re
 import shlex
 import socket
-from typing import Any, Callable, Optional, Sequence, Union
+from typing import Callable, Optional, Sequence, Union
 
 from lislink._library import calls
 from ..host import serve
@@ -29,17 +30,13 @@ _SETTINGS = (
 )
 
 
-def add_command(commands: Any) -> None:
-    """Adds the command to those of `lislab`."""
-    _add_serve(commands.add_parser("serve", "run a host: store what analyzers send, then acknowledge it"))
-
-
 def _limit_or_file(word: str) -> Union[float, str]:
     """The value of `--lines`: a number is the most lines at once, any other word a file of lines."""
     return COUNT(word) if re.match(r"[-+]?\d+$", word) else word
 
 
-def _add_serve(one: argparse.ArgumentParser) -> None:
+def add_options(one: argparse.ArgumentParser) -> None:
+    """Adds the options of `lislab serve`."""
     one.epilog = _SETTINGS
     add_store(one)
     for name, where, what in (
@@ -75,7 +72,6 @@ def _add_serve(one: argparse.ArgumentParser) -> None:
     )
     one.add_argument("--status", metavar="FILE", help="write the state for lislab status to FILE (STORE.status)")
     add_scale(one)
-    one.set_defaults(run=run_serve)
 
 
 def _add_limits(one: argparse.ArgumentParser, usual: Limits) -> None:
@@ -97,22 +93,19 @@ def state_file(store: str, named: Optional[str]) -> Optional[str]:
     return (store[len("spool:") :].rstrip("/") if store.startswith("spool:") else store) + ".status"
 
 
-def run_serve(ask: argparse.Namespace) -> int:
+def run(ask: argparse.Namespace) -> int:
     """Serves until it is stopped."""
     asked = _asked_of(ask)
     if ask.reply_within >= 15:
         raise OptionError("--reply-within is below the analyzer's timer of 15 seconds")
     calls()  # without the library no line could be answered
     os.umask(0o077)
-    store = open_store(ask.store)
-    try:
+    with contextlib.closing(open_store(ask.store)) as store:
         left = store.start(ask.host_name)
         if left:
             say(f"{many(len(left), 'message was', 'messages were')} open when the host stopped: incomplete")
         ends = left_of(store, left, {place.name: place.fix for place in asked.places})
         asyncio.run(serve.serve(asked, store, ends))
-    finally:
-        store.close()
     return GOOD
 
 

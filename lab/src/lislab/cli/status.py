@@ -1,8 +1,8 @@
 """The command `lislab status`."""
 import argparse
+import contextlib
 import json
 import sys
-from typing import Any
 
 from ..model.stores import open_store
 from ..watch import status
@@ -11,24 +11,19 @@ from .serve import state_file
 from .words import add_each, add_store
 
 
-def add_command(commands: Any) -> None:
-    """Adds the command to those of `lislab`."""
-    one: argparse.ArgumentParser = commands.add_parser("status", "show the lines of a host and what its store holds")
+def add_options(one: argparse.ArgumentParser) -> None:
+    """Adds the options of `lislab status`."""
     add_store(one)
     one.add_argument("--status", metavar="FILE", help="read the host's state from FILE (STORE.status)")
     add_each(one, "--cursor", "FILE", "also show the delivery with this cursor")
     one.add_argument("--json", action="store_true", help="print JSON")
-    one.set_defaults(run=run_status)
 
 
-def run_status(ask: argparse.Namespace) -> int:
+def run(ask: argparse.Namespace) -> int:
     """Shows a host and its store; status 1 if the host isn't running, its state is old, or a cursor is of another
     store."""
-    store = open_store(ask.store)
-    try:
+    with contextlib.closing(open_store(ask.store)) as store:
         data = status.data_of(store, status.read_state(state_file(ask.store, ask.status)), ask.cursor)
-    finally:
-        store.close()
     sys.stdout.write(json.dumps(data) + "\n" if ask.json else status.text_of(data))
     is_wrong = any(one["why"] for one in data["undelivered"])
     return GOOD if data["running"] and status.is_fresh(data["state_age"]) and not is_wrong else LOOKS_WRONG

@@ -22,35 +22,29 @@ _FILES, _ENDS = "backup_file", ("", QUARANTINE, EARLIER)
 _BESIDE = ("", "-wal", "-shm")
 
 
-def add_command(commands: Any) -> None:
-    """Adds the command to those of lislab."""
-    store = commands.add_parser("store", "back up, restore, check or upgrade a store")
-    deeds = store.add_subparsers(dest="deed", metavar="COMMAND", required=True)
+def add_options(top: argparse.ArgumentParser) -> None:
+    """Adds the commands of `lislab store`."""
+    deeds = top.add_subparsers(dest="deed", metavar="COMMAND", required=True)
     for name, run, what in (
         ("backup", run_backup, "copy a store while its host runs, with the cursors and quarantine of its deliveries"),
         ("restore", run_restore, "make a store from a copy; no file of a store may exist there"),
-    ):
-        one = deeds.add_parser(name, help=what, description=f"{what[0].upper()}{what[1:]}.")
-        one.add_argument("--store", required=True, metavar="FILE", help="an SQLite file")
-        add_each(one, "--cursor", "FILE", "the cursor of a delivery; may be repeated")
-        one.add_argument("copy", metavar="COPY", help="the file of the copy")
-        one.set_defaults(run=run)
-    for name, run, what in (
         ("check", run_check, "print the version of the tables and every fault of the database"),
         ("upgrade", run_upgrade, "upgrade the tables to this version; back up first, and stop the host"),
     ):
         one = deeds.add_parser(name, help=what, description=f"{what[0].upper()}{what[1:]}.")
-        one.add_argument("--store", required=True, metavar="STORE", help="an SQLite file or postgresql://..")
         one.set_defaults(run=run)
+        if run in (run_check, run_upgrade):
+            one.add_argument("--store", required=True, metavar="STORE", help="an SQLite file or postgresql://..")
+            continue
+        one.add_argument("--store", required=True, metavar="FILE", help="an SQLite file")
+        add_each(one, "--cursor", "FILE", "the cursor of a delivery; may be repeated")
+        one.add_argument("copy", metavar="COPY", help="the file of the copy")
 
 
 def run_check(ask: argparse.Namespace) -> int:
     """Prints what there is to say of the tables."""
-    store = _tables_of(ask.store)
-    try:
+    with contextlib.closing(_tables_of(ask.store)) as store:
         version, faults = store.version(), store.faults()
-    finally:
-        store.close()
     print(f"version {version} of {SCHEMA}")
     for fault in faults:
         print(fault)
@@ -61,8 +55,7 @@ def run_check(ask: argparse.Namespace) -> int:
 
 def run_upgrade(ask: argparse.Namespace) -> int:
     """Takes the tables to this program's version."""
-    store = _tables_of(ask.store)
-    try:
+    with contextlib.closing(_tables_of(ask.store)) as store:
         before = store.version()
         if not before:
             raise StoreError(f"{ask.store}: there are no tables")
@@ -71,8 +64,6 @@ def run_upgrade(ask: argparse.Namespace) -> int:
         store.close()
         store.join()
         say(f"{ask.store}: version {store.version()} of the tables; it was version {before}")
-    finally:
-        store.close()
     return 0
 
 

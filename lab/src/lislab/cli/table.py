@@ -1,17 +1,15 @@
 """The command `lislab table`."""
 import argparse
-from typing import Any, List
+from typing import List
 
 from lislink.letters import UTF_8, looks_like
 from ..field import table
-from ..watch import status
 from .common import GOOD, LOOKS_WRONG, say, write_output
 from .inputs import add_encoding, add_import_options, add_long, records_of
 
 
-def add_command(commands: Any) -> None:
-    """Adds the command to those of `lislab`."""
-    one: argparse.ArgumentParser = commands.add_parser("table", "write results as CSV, TSV or JSON lines")
+def add_options(one: argparse.ArgumentParser) -> None:
+    """Adds the options of `lislab table`."""
     one.add_argument("records", nargs="*", help="files of records, captures or logs (standard input)")
     one.add_argument("-o", "--output", metavar="FILE", help="write to FILE, readable only by its owner")
     one.add_argument(
@@ -32,10 +30,9 @@ def add_command(commands: Any) -> None:
     one.add_argument("--nested", action="store_true", help=nested)
     add_long(one)
     add_import_options(one)
-    one.set_defaults(run=run_table)
 
 
-def run_table(ask: argparse.Namespace) -> int:
+def run(ask: argparse.Namespace) -> int:
     """Writes results as a table."""
     usual = table.OF_ORDERS if ask.orders else table.USUAL
     names = [name.strip() for name in ask.fields.split(",")] if ask.fields else list(usual)

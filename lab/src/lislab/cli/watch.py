@@ -5,10 +5,9 @@ import shlex
 import sys
 import threading
 import time
-from typing import Any, Iterator, List, Optional, Tuple
+from typing import Iterator, List, Optional, Tuple
 
 from lislink.capture import Capture, write_lines
-from ..diagnosis.log import time_text
 from ..diagnosis.ring import capture_of
 from ..field.ladder import Ladder
 from ..field.looks import looks_of
@@ -23,7 +22,8 @@ from ..watch.client import Host
 from ..watch.live import LiveLadder
 from ..watch.notify import Notifier
 from ..watch.web import Asked, Pages, Server, token_of
-from .common import GOOD, LOOKS_WRONG
+from .capture import times_text
+from .common import GOOD, LOOKS_WRONG, write_output
 from .serve import state_file
 from .words import add_allow, add_each
 
@@ -33,9 +33,8 @@ SHORTEST = 16
 CLEAR, COLOURS, PLAIN = "\x1b[H\x1b[J", {"bad": "\x1b[1;31m", "quiet": "\x1b[2m", "good": "\x1b[32m"}, "\x1b[0m"
 
 
-def add_command(commands: Any) -> None:
-    """Adds the command to those of lislab."""
-    one = commands.add_parser("watch", "show whether every line is good, quiet or bad, and why")
+def add_options(one: argparse.ArgumentParser) -> None:
+    """Adds the options of `lislab watch`."""
     one.add_argument("--store", required=True, metavar="STORE", help="the store of the host")
     one.add_argument("--status", metavar="FILE", help="the host's state file; its socket is next to it (STORE.status)")
     one.add_argument("--once", action="store_true", help="print once; exit with 1 if a line is bad")
@@ -49,10 +48,9 @@ def add_command(commands: Any) -> None:
         "--token", metavar="FILE", help="with --http: the file of the token (password) for pages with records"
     )
     add_each(one, "--cursor", "FILE", "also show the delivery with this cursor; may be repeated")
-    one.set_defaults(run=run_watch)
 
 
-def run_watch(ask: argparse.Namespace) -> int:
+def run(ask: argparse.Namespace) -> int:
     """Shows the lines, or one of them."""
     if ask.save and not ask.line:
         raise OptionError("--save writes the last bytes of a line: name it by --line")
@@ -171,10 +169,8 @@ def _captured(host: Host, line: str) -> "tuple[Capture, int]":
 def _save(host: Host, line: str, path: str) -> int:
     """Writes a capture of a line's last bytes, and their times next to it."""
     capture, _ = _captured(host, line)
-    head = ["" for _ in range(capture.lines[0][0] - 1)] if capture.lines else []
-    rows = [*head, *(time_text(at) for at in capture.times)]
     write_whole(path, write_lines(row for _, row in capture.lines).encode())
-    write_whole(path + ".times", "".join(row + "\n" for row in rows).encode())
+    write_whole(path + ".times", times_text(capture).encode())
     say(f"capture: {path}, {many(len(capture.lines), 'line')}; times: {path}.times")
     return GOOD
 
@@ -183,8 +179,7 @@ def _ladder_once(host: Host, line: str) -> int:
     """The ladder of what the host holds of a line."""
     capture, frame = _captured(host, line)
     ladder = Ladder(capture, frame_limit=frame)
-    sys.stdout.buffer.write(text_of(ladder).encode("utf-8"))
-    sys.stdout.buffer.flush()
+    write_output(None, text_of(ladder).encode("utf-8"))
     return LOOKS_WRONG if any(look.level == "bad" for look in looks_of(ladder)) else GOOD
 
 

@@ -19,7 +19,7 @@ class Options(NamedTuple):
     """The options of a user for a log."""
 
     form: Optional[str] = None
-    analyzer: Optional[str] = None
+    analyzer_side: Optional[str] = None
     swap: bool = False
     port: Optional[int] = None
     stream: Optional[int] = None
@@ -266,11 +266,11 @@ def swapped(capture: Capture) -> Capture:
 def _analyzer(pieces: List[Piece], sides: List[str], ask: Options, remarks: List[str]) -> str:
     """The side that is the analyzer: the one that is named; the only one that sends ENQ, or frames; the one that sends
     results or queries; the first that sends ENQ."""
-    if ask.analyzer is not None:
-        name = ask.analyzer.lower()
-        wanted = [one for one in sides if ask.analyzer == one] or [one for one in sides if name in one.lower()]
+    if ask.analyzer_side is not None:
+        name = ask.analyzer_side.lower()
+        wanted = [one for one in sides if ask.analyzer_side == one] or [one for one in sides if name in one.lower()]
         if len(wanted) != 1:
-            raise LogError(f"{ask.analyzer} isn't one of the two sides: " + ", ".join(sides))
+            raise LogError(f"{ask.analyzer_side} isn't one of the two sides: " + ", ".join(sides))
         return wanted[0]
     joined = {one: b"".join(piece.data for piece in pieces if piece.side == one) for one in sides}
     for byte, name in ((ENQ, "ENQ"), (STX, "frames")):

@@ -1,4 +1,5 @@
 """The records that were acknowledged in a script, and whether the other end has stored each of them once."""
+import contextlib
 import shlex
 import subprocess
 from collections import Counter
@@ -38,11 +39,8 @@ def from_store(name: str) -> Source:
 
     def read() -> bytes:
         try:
-            store = open_store(name)
-            try:
+            with contextlib.closing(open_store(name)) as store:
                 return b"".join(one.body for some in (store.messages(), store.others()) for one in some)
-            finally:
-                store.close()
         except StoreError as error:
             raise NotKept(f"--store: {error}") from None
 

@@ -43,13 +43,10 @@ class Host:
         return self._of_store(why)
 
     def _of_store(self, why: str) -> Dict[str, Any]:
-        store = open_store(self.store)
-        try:
+        with contextlib.closing(open_store(self.store)) as store:
             counts, held = {one.line: one for one in store.counts()}, store.is_held()
             with reading_book(store) as book:
                 failed = book.failed(1)
-        finally:
-            store.close()
         lines = {}
         for name in sorted({*counts, *failed}):
             lines[name] = self._of_line(counts.get(name), f"the host doesn't answer: {why}" if held else "")

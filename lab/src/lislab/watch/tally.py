@@ -1,5 +1,6 @@
 """What a store has, for a page: messages an hour of each line, how long they took, and single messages. A thread counts
 each message once, from its number on, so that no page waits for a store that is large."""
+import contextlib
 import threading
 import time
 from collections import Counter, deque
@@ -53,8 +54,7 @@ class Tally:
 
     def count(self) -> None:
         """Counts what is new in the store."""
-        store = open_store(self._where)
-        try:
+        with contextlib.closing(open_store(self._where)) as store:
             if self._number < 0:
                 self._number = store.number_at(time.time() - DAYS * DAY)
             while not self._stop.is_set():
@@ -62,8 +62,6 @@ class Tally:
                 if not found:
                     break
                 self._take(found)
-        finally:
-            store.close()
         self._forget(time.time() - DAYS * DAY)
 
     def _take(self, found: Sequence[Head]) -> None:
@@ -106,8 +104,5 @@ def share(found: Sequence[float], part: float) -> Optional[float]:
 
 def each(where: str, work: Callable[[Store], Any]) -> Any:
     """Does some work with a store that is opened for it."""
-    store = open_store(where)
-    try:
+    with contextlib.closing(open_store(where)) as store:
         return work(store)
-    finally:
-        store.close()
