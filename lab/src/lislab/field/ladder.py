@@ -96,16 +96,20 @@ class Ladder:
         self._carry, self._due = b"", b""
         self._begun: Tuple[int, Optional[int], int] = (0, None, 0)  # where the open frame began: line, time, row
         self._last_text: Optional[bytes] = None
-        self._busy = Readiness.READY
         self._heard: Optional[int] = None
         self._computer_sends = False
         # Whether an echo is on the line, what it may still send back, and the answer that is due after it.
         self._echoes, self._sent, self._echoed = _has_echo(capture), b"", b""
         self.frame_limit = frame_limit
-        with Receiver(frame_limit=frame_limit) as receiver, Scanner(frame_limit=frame_limit) as scanner:
+        # The line that is taken now, and its time.
+        self._at: Tuple[int, Optional[int]] = (0, None)
+        self._begin()
+        try:
             for (number, line), time in zip(capture.lines, capture.times):
-                self._take(receiver, scanner, number, line, time)
-            self._end(receiver, capture)
+                self._take(number, line, time)
+            self._end(capture)
+        finally:
+            self.close()
         stream = b"".join(text.data for text in self.texts)
         self.stream = stream
         self._ends = list(itertools.accumulate(len(text.data) for text in self.texts))
@@ -117,161 +121,132 @@ class Ladder:
         number = min(bisect.bisect_right(self._ends, place), len(self.texts) - 1)
         return self.texts[number].line if self.texts else 0
 
-    def _take(self, receiver: Receiver, scanner: Scanner, number: int, line: Line, time: Optional[int]) -> None:
+    def _begin(self) -> None:
+        self._receiver, self._scanner = Receiver(frame_limit=self.frame_limit), Scanner(frame_limit=self.frame_limit)
+
+    def close(self) -> None:
+        """Gives the library's handles back."""
+        self._receiver.close()
+        self._scanner.close()
+
+    def _take(self, number: int, line: Line, time: Optional[int]) -> None:
+        self._at = number, time
         if line.mark == ">":
-            self._silence(receiver, number, time)
+            self._silence(time)
             self._sent += line.data
-            self._units(receiver, scanner, number, line.data, time)
+            self._units(line.data)
         elif line.mark == "<":
-            self._reply(number, line.data, time)
+            self._reply(line.data)
         elif line.mark == "T":
-            self._note_dropped(receiver, number)
-            step = receiver.timer()
+            self._note_dropped()
+            step = self._receiver.timer()
             self._due += step.reply
             self.notes[step.note] = self.notes.get(step.note, 0) + 1
-            self._event(number, time, Meaning.TIMED_OUT if step.note is Note.TIMED_OUT else Meaning.TIMER)
+            self._event(Meaning.TIMED_OUT if step.note is Note.TIMED_OUT else Meaning.TIMER)
         elif line.mark == "R":
-            self._note_dropped(receiver, number)
-            receiver.restart()
-            self._busy = Readiness.READY
-            self._event(number, time, Meaning.RESTARTED)
+            self._note_dropped()
+            self._receiver.restart()
+            self._event(Meaning.RESTARTED)
         elif line.mark == "S":
-            self._busy = Readiness[line.ready.upper()]
-            receiver.set_ready(self._busy)
-            self._event(number, time, _READY[line.ready])
-
-    def _event(self, number: int, time: Optional[int], meaning: Meaning) -> None:
-        self.rows.append(Row(number, time, "-", "event", meaning.says(), "", meaning.level, meaning=meaning))
-
-    def _silence(self, receiver: Receiver, number: int, time: Optional[int]) -> None:
-        if time is not None and self._heard is not None and time - self._heard > 30 * SECOND and receiver.is_open:
-            title = f"{(time - self._heard) / SECOND:.1f} seconds of silence"
-            self._row(number, time, "-", "silence", title, Meaning.SILENCE)
-        self._heard = time if time is not None else self._heard
+            self._receiver.set_ready(Readiness[line.ready.upper()])
+            self._event(_READY[line.ready])
 
     def _row(
-        self, number: int, time: Optional[int], side: str, kind: str, title: str, meaning: Meaning, raw: bytes = b""
-    ) -> None:
-        """A row at the end to which no answer is due."""
-        self.rows.append(Row(number, time, side, kind, title, meaning.says(), meaning.level, raw, meaning=meaning))
+        self, side: str, kind: str, title: str, meaning: Meaning, raw: bytes = b"", note: Optional[str] = None
+    ) -> Row:
+        """A row of the line that is taken now. Its note is the meaning's sentence, or this one."""
+        said = meaning.says() if note is None else note
+        return Row(*self._at, side, kind, title, said, meaning.level, raw, meaning=meaning)
+
+    def _event(self, meaning: Meaning) -> None:
+        self.rows.append(self._row("-", "event", meaning.says(), meaning, note=""))
+
+    def _silence(self, time: Optional[int]) -> None:
+        if time is None:
+            return
+        if self._heard is not None and time - self._heard > 30 * SECOND and self._receiver.is_open:
+            title = f"{(time - self._heard) / SECOND:.1f} seconds of silence"
+            self.rows.append(self._row("-", "silence", title, Meaning.SILENCE))
+        self._heard = time
 
     def _insert_dropped(self, begun: Tuple[int, Optional[int], int], piece: bytes, meaning: Meaning) -> None:
         """A frame that no LF ends, at the row where it began."""
         line, since, place = begun
-        row = Row(line, since, ">", "dropped", words(piece), meaning.says(), BAD, piece, meaning=meaning)
-        self.rows.insert(place, row)
+        self.rows.insert(place, self._row(">", "dropped", words(piece), meaning, piece)._replace(line=line, time=since))
 
-    def _note_dropped(self, receiver: Receiver, number: int) -> None:
-        if receiver.held:
-            self.dropped.append((number, receiver.held))
+    def _note_dropped(self) -> None:
+        if self._receiver.held:
+            self.dropped.append((self._at[0], self._receiver.held))
 
-    def _units(self, receiver: Receiver, scanner: Scanner, number: int, data: bytes, time: Optional[int]) -> None:
+    def _units(self, data: bytes) -> None:
         """The units that a line completes: each signal of the scanner, with the receiver's step at the same byte."""
         start, was_open = 0, bool(self._carry)
-        for place, signal in scanner.feed_placed(data):
+        for place, signal in self._scanner.feed_placed(data):
             raw, self._carry = self._carry + data[start : place + 1], b""
-            held = receiver.held
-            step = next((step for _, step in receiver.hear_placed(data[start : place + 1])), None)
+            held = self._receiver.held
+            step = next((step for _, step in self._receiver.hear_placed(data[start : place + 1])), None)
             start = place + 1
             cut = raw.rfind(2) if signal.kind in (Kind.FRAME, Kind.BAD_FRAME) else len(raw) - 1
-            self._outside(number, time, raw[:cut], was_open)
+            self._outside(raw[:cut], was_open)
             was_open = False
             if held and step is not None and step.note in (Note.OPENED, Note.ENDED, Note.NOT_READY):
-                self.dropped.append((number, held))
-            self._unit(receiver, number, time, signal, step, raw[cut:])
+                self.dropped.append((self._at[0], held))
+            self._unit(signal, step, raw[cut:])
         rest = data[start:]
         if rest:
-            for _ in receiver.hear_placed(rest):
+            for _ in self._receiver.hear_placed(rest):
                 raise AssertionError("the receiver answers where the scanner tells no signal")
             self._carry += rest
         # What is no part of a frame that is still open is shown at its own line.
         cut = self._carry.rfind(2)
-        self._outside(number, time, self._carry if cut < 0 else self._carry[:cut], was_open and cut != 0)
+        self._outside(self._carry if cut < 0 else self._carry[:cut], was_open and cut != 0)
         self._carry = b"" if cut < 0 else self._carry[cut:]
         if self._carry and not (was_open and cut == 0):
-            self._begun = (number, time, len(self.rows))
+            self._begun = (*self._at, len(self.rows))
 
-    def _outside(self, number: int, time: Optional[int], data: bytes, was_open: bool = False) -> None:
+    def _outside(self, data: bytes, was_open: bool = False) -> None:
         """Bytes before a unit: a frame that is dropped, since something else came before its LF, or bytes of no
         frame. A frame that was open before this line is shown where it began."""
         while data:
             cut = data.find(2, 1)
             piece, data = (data, b"") if cut < 0 else (data[:cut], data[cut:])
             if piece[0] == STX:
-                begun = self._begun if was_open else (number, time, len(self.rows))
+                begun = self._begun if was_open else (*self._at, len(self.rows))
                 self._insert_dropped(begun, piece, Meaning.DROPPED)
                 was_open = False
             elif self._computer_sends and set(piece) <= {ACK, NAK, EOT}:
-                self._row(number, time, ">", "answer", words(piece), Meaning.ANSWERS, piece)
+                self.rows.append(self._row(">", "answer", words(piece), Meaning.ANSWERS, piece))
             else:
-                self._row(number, time, ">", "outside", words(piece), Meaning.OUTSIDE, piece)
+                self.rows.append(self._row(">", "outside", words(piece), Meaning.OUTSIDE, piece))
 
-    def _unit(
-        self,
-        receiver: Receiver,
-        number: int,
-        time: Optional[int],
-        signal: Signal,
-        step: Optional[Step],
-        raw: bytes,
-    ) -> None:
+    def _unit(self, signal: Signal, step: Optional[Step], raw: bytes) -> None:
         note = step.note if step else Note.QUIET
         self.notes[note] = self.notes.get(note, 0) + 1
+        if step and step.text is not None:
+            self.texts.append(Text(self._at[0], step.text))
+        row = self._signal(signal, note) if signal.kind in (Kind.ENQ, Kind.EOT) else self._frame(signal, step, raw)
         reply = step.reply if step else b""
         self._due += reply
-        if step and step.text is not None:
-            self.texts.append(Text(number, step.text))
-        if signal.kind in (Kind.ENQ, Kind.EOT):
-            self._signal(number, time, signal, note, raw, reply, receiver)
-        else:
-            why = self._why(receiver, signal, step, raw[1:-1], note)
-            self._frame(number, time, signal, raw, note, reply, why)
+        self.rows.append(row._replace(raw=raw, reply=reply, heard=note))
 
-    def _frame(
-        self,
-        number: int,
-        time: Optional[int],
-        signal: Signal,
-        raw: bytes,
-        note: Note,
-        reply: bytes,
-        said: Tuple[Meaning, str, Optional[Cause]],
-    ) -> None:
+    def _frame(self, signal: Signal, step: Optional[Step], raw: bytes) -> Row:
         """The row of a frame, or of what should be one."""
-        meaning, why, cause = said
+        note = step.note if step else Note.QUIET
+        meaning, why, cause = self._why(signal, step, raw[1:-1], note)
         if signal.kind is Kind.FRAME:
             end = "" if signal.last else " intermediate (ETB)"
             title = f"frame {signal.number}{end} {len(signal.text)} bytes '{words(signal.text)}'"
-            kind = "frame"
+            row = self._row(">", "frame", title, meaning, note=why)._replace(number=signal.number)
             if note is Note.ACCEPTED:
                 self._last_text = signal.text
         else:
-            title, kind = f"no frame: {words(raw)}", "bad"
-        self.rows.append(
-            Row(
-                number,
-                time,
-                ">",
-                kind,
-                title,
-                why,
-                meaning.level,
-                raw,
-                signal.text,
-                reply,
-                checksum_of(raw[1:-1]),
-                cause,
-                signal.number if signal.kind is Kind.FRAME else -1,
-                signal.last,
-                note,
-                meaning,
-            )
-        )
+            row = self._row(">", "bad", f"no frame: {words(raw)}", meaning, note=why)
+        return row._replace(text=signal.text, checksum=checksum_of(raw[1:-1]), cause=cause, last=signal.last)
 
     def _why(
-        self, receiver: Receiver, signal: Signal, step: Optional[Step], body: bytes, note: Note
+        self, signal: Signal, step: Optional[Step], body: bytes, note: Note
     ) -> Tuple[Meaning, str, Optional[Cause]]:
-        due = (receiver.accepted + 1) % 8
+        due = (self._receiver.accepted + 1) % 8
         bad = signal.kind is Kind.BAD_FRAME
         cause = cause_of_frame(body, signal.fault, signal.place, self.frame_limit) if bad else None
         if cause is None and note in _REJECTED:
@@ -282,7 +257,7 @@ class Ladder:
         if note is Note.ACCEPTED:
             if step is not None and step.text is not None:
                 return Meaning.DELIVERED, Meaning.DELIVERED.says(size=len(step.text)), None
-            return Meaning.HELD, Meaning.HELD.says(size=receiver.held), None
+            return Meaning.HELD, Meaning.HELD.says(size=self._receiver.held), None
         if note is Note.DUPLICATE:
             is_lost = self._last_text is not None and signal.text != self._last_text
             meaning = Meaning.LOST if is_lost else Meaning.DUPLICATE
@@ -290,34 +265,23 @@ class Ladder:
             return meaning, meaning.says(number=signal.number, due=due), lost
         return Meaning.NOT_OPEN, Meaning.NOT_OPEN.says(), None
 
-    def _signal(
-        self,
-        number: int,
-        time: Optional[int],
-        signal: Signal,
-        note: Note,
-        raw: bytes,
-        reply: bytes,
-        receiver: Receiver,
-    ) -> None:
+    def _signal(self, signal: Signal, note: Note) -> Row:
         if signal.kind is Kind.ENQ:
             meaning = Meaning.OPENED if note is Note.OPENED else Meaning.NOT_READY
             self._last_text = None
         else:
             meaning = Meaning.ENDED if note is Note.ENDED else Meaning.EOT_IGNORED
-        name, said = signal.kind.name, (meaning.says(), meaning.level)
-        self.rows.append(Row(number, time, ">", name, name, *said, raw, b"", reply, heard=note, meaning=meaning))
+        return self._row(">", signal.kind.name, signal.kind.name, meaning)
 
-    def _reply(self, number: int, data: bytes, time: Optional[int]) -> None:
+    def _reply(self, data: bytes) -> None:
         wanted, self._due = self._due, b""
         if wanted != data:
-            self.differences.append((number, data, wanted))
+            self.differences.append((self._at[0], data, wanted))
         kind, meaning = self._answer(data, wanted)
         if meaning is Meaning.AFTER_ECHO:
             wanted = b""
         note = meaning.says(wanted=words(wanted) or "nothing")
-        said = (words(data), note, meaning.level, data, b"", wanted)
-        self.rows.append(Row(number, time, "<", kind, *said, meaning=meaning))
+        self.rows.append(self._row("<", kind, words(data), meaning, data, note)._replace(reply=wanted))
 
     def _answer(self, data: bytes, wanted: bytes) -> Tuple[str, Meaning]:
         """What bytes of the computer mean where these are due."""
@@ -347,18 +311,18 @@ class Ladder:
         self._sent = self._sent[len(data) :] if is_same else b""
         return is_same and self._echoes
 
-    def _end(self, receiver: Receiver, capture: Capture) -> None:
-        number = capture.lines[-1][0] if capture.lines else 0
+    def _end(self, capture: Capture) -> None:
+        self._at = capture.lines[-1][0] if capture.lines else 0, None
         if self._carry:
             self._insert_dropped(self._begun, self._carry, Meaning.CUT_OFF)
-        self._note_dropped(receiver, number)
-        self.is_open = receiver.is_open
+        self._note_dropped()
+        self.is_open = self._receiver.is_open
         if self._due:
             self.differences.append((0, b"", self._due))
             if self.has_replies:
                 note = Meaning.OTHER.says(wanted=words(self._due))
-                said = ("no answer", note, Meaning.OTHER.level, b"", b"", self._due)
-                self.rows.append(Row(number, None, "-", "silence", *said, meaning=Meaning.OTHER))
+                row = self._row("-", "silence", "no answer", Meaning.OTHER, note=note)
+                self.rows.append(row._replace(reply=self._due))
 
     def units(self) -> Iterator[Row]:
         """The rows of units that the analyzer sent."""
@@ -373,17 +337,7 @@ class Ladder:
             "frames": kinds.count("frame") + kinds.count("bad"),
             "accepted": self.notes.get(Note.ACCEPTED, 0),
             "duplicates": self.notes.get(Note.DUPLICATE, 0),
-            "rejected": sum(
-                self.notes.get(one, 0)
-                for one in (
-                    Note.REFUSED,
-                    Note.OUT_OF_TURN,
-                    Note.NO_ROOM,
-                    Note.TEXT_TOO_LONG,
-                    Note.TOO_MANY,
-                    Note.OUT_OF_MEMORY,
-                )
-            ),
+            "rejected": sum(self.notes.get(one, 0) for one in (Note.REFUSED, *_REJECTED)),
             "texts": len(self.texts),
             "differences": len(self.differences),
             "messages": len(found),

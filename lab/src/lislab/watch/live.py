@@ -2,7 +2,6 @@
 from typing import Iterator, List
 
 from lislink.capture import Capture, Line
-from lislink.link import Receiver, Scanner
 from ..diagnosis.ring import ENQ, Piece
 from ..field.ladder import Ladder, Row
 
@@ -18,19 +17,11 @@ class LiveLadder(Ladder):
         self._count, self._given, self._connection, self._has_begun = 0, 0, 0, False
         self._begin()
 
-    def _begin(self) -> None:
-        self._receiver, self._scanner = Receiver(frame_limit=self.frame_limit), Scanner(frame_limit=self.frame_limit)
-
-    def close(self) -> None:
-        """Gives the library's handles back."""
-        self._receiver.close()
-        self._scanner.close()
-
     def grow(self, pieces: List[Piece]) -> Iterator[Row]:
         """The rows that are complete with these pieces, the next ones of the line."""
         for piece in pieces:
             if piece.connection != self._connection and self._has_begun:
-                self._take(self._receiver, self._scanner, self._count, Line("R"), piece.at)
+                self._take(self._count, Line("R"), piece.at)
                 self.close()
                 self._carry = b""
                 self._begin()
@@ -41,7 +32,7 @@ class LiveLadder(Ladder):
                     continue
                 self._has_begun, data = True, data[place:]
             self._count += 1
-            self._take(self._receiver, self._scanner, self._count, Line(piece.mark, data), piece.at)
+            self._take(self._count, Line(piece.mark, data), piece.at)
         over = self._begun[2] if self._carry else len(self.rows)
         rows, self._given = self.rows[self._given : over], max(self._given, over)
         yield from rows
