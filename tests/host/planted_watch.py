@@ -26,7 +26,7 @@ FAULTS = {
         "watch/notify.py", "                self._bad[name] = one", "                self._bad[name] = before or one"
     ),
     "test_failed.Ways.test_pages": (
-        "watch/page.py", "<td>{one.tries}</td><td>{safe(one.reason)}", "<td>{one.tries}</td><td>{one.reason}"
+        "watch/page.py", "one.tries, safe(one.reason)", "one.tries, one.reason"
     ),
     "test_failed.Ways.test_help": ("cli/order.py", "epilog = _STATES if", "epilog = None if"),
     "test_failed.Ways.test_queries": (

@@ -1,22 +1,17 @@
 """What a laboratory keeps and signs: one page of HTML with each play as a ladder; and JUnit's XML for machines."""
 import datetime
 import re
+from html import escape
 from typing import Iterator, List, Sequence
-from xml.sax.saxutils import escape, quoteattr
+from xml.sax.saxutils import quoteattr
 
 from ..diagnosis.faults import words
 from ..field.ladder import Row
-from ..field.page import STYLE, escaped, rows_of
+from ..field.page import alone, rows_of
 from .frames import NAMES, read_frame
 from .player import Event, Played, ranges
 
 _NAMES = {number: name for name, number in NAMES.items()}
-_PRINT = """
-.about{color:#445}col.p{width:36%}col.q{width:30%}.sign{margin:2.5rem 0 1rem;width:100%;table-layout:fixed}
-.sign td{padding:2.2rem 1rem .2rem 0;border-bottom:1px solid #445}.sign tr.under td{padding:.1rem 0;border:0;color:#445}
-section{break-after:page}section:last-of-type{break-after:auto}
-"""
-_POLICY = "default-src 'none'; style-src 'unsafe-inline'; img-src data:"
 _BAD = re.compile(r"[^\t\n\r\x20-\ud7ff\ue000-\ufffd]")
 
 
@@ -36,18 +31,18 @@ def _row(event: Event, own: str) -> Row:
 
 def _section(one: Played, anchors: str) -> Iterator[str]:
     found, outcome = one.outcome.differences, one.outcome
-    yield f'<section><h2 id="{escaped(one.name)}">{escaped(one.name)}</h2>'
-    yield "".join(f'<p class="about">{escaped(line)}</p>' for line in one.about)
+    yield f'<section><h2 id="{escape(one.name)}">{escape(one.name)}</h2>'
+    yield "".join(f'<p class="about">{escape(line)}</p>' for line in one.about)
     yield f'<div class="counts"><span><b>{outcome.steps}</b> steps</span><span data-count="differences">'
     end = "analyzer" if one.mark == ">" else "computer"
-    yield f"<b>{len(found)}</b> differences</span><span>played as the {end} from {escaped(one.own or '-')}</span>"
-    yield f"<span>at the other end {escaped(one.other or '-')}</span><span>{_clock(one.begun)}</span></div>"
+    yield f"<b>{len(found)}</b> differences</span><span>played as the {end} from {escape(one.own or '-')}</span>"
+    yield f"<span>at the other end {escape(one.other or '-')}</span><span>{_clock(one.begun)}</span></div>"
     if outcome.failed:
-        yield f'<p class="look bad">The play stopped: {escaped(outcome.failed)}</p>'
+        yield f'<p class="look bad">The play stopped: {escape(outcome.failed)}</p>'
     for line, (wanted, got) in found:
         where = f'<a href="#{anchors}{line}">line {line}</a>' if line else "the end"
-        yield f'<div class="look bad" data-difference="{line}">At {where}: wanted <code>{escaped(wanted)}</code>, '
-        yield f"got <code>{escaped(got)}</code></div>"
+        yield f'<div class="look bad" data-difference="{line}">At {where}: wanted <code>{escape(wanted)}</code>, '
+        yield f"got <code>{escape(got)}</code></div>"
     if outcome.skipped:
         yield f'<p class="look">Not played: line {ranges(outcome.skipped)}.</p>'
     if not found and not outcome.failed:
@@ -70,7 +65,7 @@ def _sums(plays: Sequence[Played]) -> Iterator[str]:
         count = len(one.outcome.differences)
         level = "bad" if count or one.outcome.failed else ""
         end = ", and the play stopped" if one.outcome.failed else ""
-        yield f'<tr class="{level}"><td><a href="#{escaped(one.name)}">{escaped(one.name)}</a></td>'
+        yield f'<tr class="{level}"><td><a href="#{escape(one.name)}">{escape(one.name)}</a></td>'
         yield f"<td>{one.outcome.steps}</td><td>{count}{end}</td></tr>"
     yield "</tbody></table>"
 
@@ -79,22 +74,15 @@ def page_of(plays: Sequence[Played]) -> str:
     """The page, with a place for two signatures."""
     title = plays[0].name if len(plays) == 1 else f"{len(plays)} plays"
     wrong = sum(bool(one.outcome.differences or one.outcome.failed) for one in plays)
-    date = _clock(plays[0].begun)
     sums = "".join(_sums(plays)) if len(plays) > 1 else ""
     sections = "".join("".join(_section(one, f"p{place}l")) for place, one in enumerate(plays, 1))
-    return f"""<!doctype html>
-<html lang="en"><head><meta charset="utf-8"><meta name="viewport" content="width=device-width">
-<meta http-equiv="Content-Security-Policy" content="{_POLICY}">
-<link rel="icon" href="data:,"><title>{escaped(title)}: play</title><style>{STYLE}{_PRINT}</style></head><body>
-<header><h1>Acceptance test of a line: {escaped(title)}</h1><div class="counts"><span>{date}</span>
-<span><b>{len(plays)}</b> played</span><span><b>{wrong}</b> with differences</span></div></header><main>
-{sums}{sections}
-<table class="sign"><tr><td></td><td></td></tr><tr class="under"><td>for the laboratory: name, date, signature</td>
-<td>for the maker: name, date, signature</td></tr></table></main>
-<footer>Made by lislab play, which is tested, and not proved. This page holds what was sent: keep it as patients' data.
-</footer>
-</body></html>
-"""
+    top = f"""<div class="counts"><span>{_clock(plays[0].begun)}</span><span><b>{len(plays)}</b> played</span>
+<span><b>{wrong}</b> with differences</span></div>"""
+    sign = """<table class="sign"><tr><td></td><td></td></tr>
+<tr class="under"><td>for the laboratory: name, date, signature</td><td>for the maker: name, date, signature</td></tr>
+</table>"""
+    foot = "Made by lislab play, which is tested, and not proved. This page holds what was sent: keep it as patients' data."
+    return alone(f"{title}: play", f"Acceptance test of a line: {title}", top, f"{sums}{sections}{sign}", foot)
 
 
 def junit_of(plays: Sequence[Played]) -> str:
@@ -109,7 +97,7 @@ def junit_of(plays: Sequence[Played]) -> str:
         name = quoteattr(_clean(one.name))
         rows.append(f'<testcase classname="lislab.play" name={name} time="{one.seconds:.3f}">')
         found = [f"difference {line or 'end'} {wanted} {got}" for line, (wanted, got) in one.outcome.differences]
-        text = escape(_clean("\n".join(found)))
+        text = escape(_clean("\n".join(found)), quote=False)
         if one.outcome.failed:
             rows.append(f"<error message={quoteattr(_clean(one.outcome.failed))}>{text}</error>")
         elif found:
