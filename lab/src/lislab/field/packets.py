@@ -321,7 +321,11 @@ def read_packets(
     if packets and all(one.link == 250 for one in packets):
         return _serial(packets, form)
     segments = [one for one in map(segment_of, packets) if one is not None]
-    every = connections_of(segments, skip_missing)
+    return joined(connections_of(segments, skip_missing), form, stream, port)
+
+
+def joined(every: List[Connection], form: str, stream: Optional[int], port: Optional[int]) -> Log:
+    """The bytes of the connections that are chosen, or look most like this link."""
     if port is not None:
         every = [one for one in every if port in one.ports]
     found = linked(every)
@@ -333,7 +337,7 @@ def read_packets(
         found = [every[stream - 1]]
     if not found:
         raise LogError(f"no ENQ and no STX is in any of the {len(every)} TCP connections")
-    return joined(found, every, form)
+    return _one_log(found, every, form)
 
 
 def linked(every: List[Connection]) -> List[Connection]:
@@ -358,7 +362,7 @@ def _is_behind(after: Connection, before: Connection) -> bool:
     return last is None or first is None or last <= first
 
 
-def joined(found: List[Connection], every: List[Connection], form: str) -> Log:
+def _one_log(found: List[Connection], every: List[Connection], form: str) -> Log:
     """The bytes of connections that follow one another, of which one is to be chosen if they don't. A remark says how
     many bytes the other ones have."""
     if len(found) > 1 and not _one_after_another(found):
@@ -398,6 +402,16 @@ def joined(found: List[Connection], every: List[Connection], form: str) -> Log:
     return Log(form, pieces, remarks)
 
 
+def packet_text(text: str, stream: Optional[int] = None, port: Optional[int] = None) -> Log:
+    """The bytes of the TCP line in dumps of packets."""
+    return read_packets(dumped_packets(text), "packet-text", stream, port)
+
+
+def k12(text: str, stream: Optional[int] = None, port: Optional[int] = None) -> Log:
+    """The same of a K12 text file."""
+    return read_packets(k12_packets(text), "k12", stream, port)
+
+
 _DUMP = re.compile(r"^\s*(?:0x)?([0-9a-fA-F]{4,8}):? +((?:[0-9a-fA-F]{2,4} ?)+)(?:  .*)?$")
 
 
@@ -429,7 +443,7 @@ def dumped_packets(text: str) -> Iterator[Packet]:
             continue
         else:
             continue
-        data += bytes.fromhex("".join(_pairs(found[2])))
+        data += bytes.fromhex("".join(found[2].split()[:16]))
     if data:
         yield Packet(time, link or _link_of(data), data, 0)
 
@@ -446,10 +460,6 @@ def k12_packets(text: str) -> Iterator[Packet]:
             yield Packet(time, 1, bytes.fromhex(found[1].replace("|", "")), 0)
         elif row.startswith("|"):
             raise LogError(f"no row of K12: {row[:60]!r}")
-
-
-def _pairs(text: str) -> List[str]:
-    return text.split()[:16]
 
 
 def _link_of(data: bytes) -> int:

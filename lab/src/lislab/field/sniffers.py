@@ -4,7 +4,7 @@ import re
 import shlex
 import struct
 import zlib
-from typing import Callable, Dict, List, NamedTuple, Optional, Tuple
+from typing import Callable, Dict, List, NamedTuple, Optional, Sequence, Tuple
 
 from lislink.capture import Capture, Line, LINE_BYTES
 from lislink.codes import Kind
@@ -30,66 +30,67 @@ class Options(NamedTuple):
     skip_missing: bool = False
 
 
+class Form(NamedTuple):
+    """A form: what a text of it has, its reader, and the options that this reader takes."""
+
+    pattern: str
+    reader: Callable[..., Log]
+    takes: Sequence[str] = ()
+
+    def read(self, text: str, ask: Options) -> Log:
+        """The pieces of a text."""
+        return self.reader(text, **{name: getattr(ask, name) for name in self.takes})
+
+
+_CHOICE = ("port", "stream")
 #: The forms by their names: whether a text looks so, and its reader.
-FORMS: Dict[str, Tuple[str, Callable[[str, Options], Log]]] = {
-    "socat": (r"^[<>] \d+/\d+/\d+ \S+ +length=\d+ from=", lambda text, ask: serial_tools.socat(text)),
-    "strace": (
+FORMS: Dict[str, Form] = {
+    "socat": Form(r"^[<>] \d+/\d+/\d+ \S+ +length=\d+ from=", serial_tools.socat),
+    "strace": Form(
         r"\b(?:read|write|recv\w*|send\w*|readv|writev)\(\d+(?:<.*?>)?,\s+[\"\[{<]?",
-        lambda text, ask: serial_tools.strace(text, ask.fd),
+        serial_tools.strace, ("fd",),
     ),
-    "json-lines": (
+    "json-lines": Form(
         r"\A\s*\{(?![^\n]*\"(?:_index|index|layers)\")[^\n]*\"(?:data|bytes|payload|hex|raw|message|msg)\"[^\n]*\}\s*$",
-        lambda text, ask: traces.json_lines(text),
+        traces.json_lines,
     ),
-    "tshark-json": (
-        r"\A\s*(?:\[\s*)?\{[^{]*\"(?:_index|index|timestamp)\"",
-        lambda text, ask: wireshark.tshark_json(text, ask.port, ask.stream),
-    ),
-    "tshark-pdml": (r"<pdml\b", lambda text, ask: wireshark.tshark_pdml(text, ask.port, ask.stream)),
-    "wireshark-yaml": (r"!!binary", lambda text, ask: wireshark.follow_yaml(text)),
-    "wireshark-c": (r"\bpeer\d+_\d+\s*\[\]\s*=", lambda text, ask: wireshark.follow_c(text)),
-    "tshark-raw": (r"^Follow: tcp,raw", lambda text, ask: wireshark.follow_raw(text)),
-    "packet-text": (
-        r"^\s*(?:0x)?0000:?  ?(?:[0-9a-f]{2} ?){15}[0-9a-f]{2}\b",
-        lambda text, ask: packets.read_packets(packets.dumped_packets(text), "packet-text", ask.stream, ask.port),
-    ),
-    "wireshark-text": (
+    "tshark-json": Form(r"\A\s*(?:\[\s*)?\{[^{]*\"(?:_index|index|timestamp)\"", wireshark.tshark_json, _CHOICE),
+    "tshark-pdml": Form(r"<pdml\b", wireshark.tshark_pdml, _CHOICE),
+    "wireshark-yaml": Form(r"!!binary", wireshark.follow_yaml),
+    "wireshark-c": Form(r"\bpeer\d+_\d+\s*\[\]\s*=", wireshark.follow_c),
+    "tshark-raw": Form(r"^Follow: tcp,raw", wireshark.follow_raw),
+    "packet-text": Form(r"^\s*(?:0x)?0000:?  ?(?:[0-9a-f]{2} ?){15}[0-9a-f]{2}\b", packets.packet_text, _CHOICE),
+    "wireshark-text": Form(
         r"^Transmission Control Protocol, Src Port:(?s:.*)^\s*(?:\[truncated\])?Data(?: \[truncated\])?: ?[0-9a-f]{2}",
-        lambda text, ask: wireshark.wireshark_text(text, ask.port, ask.stream),
+        wireshark.wireshark_text, _CHOICE,
     ),
-    "wireshark-hex": (
+    "wireshark-hex": Form(
         r"^(?:\t| {2,})[0-9A-Fa-f]{8}  ?(?:[0-9a-f]{2} ){1,}|^Follow: tcp,hex|"
         r"\A[0-9A-F]{8}  [0-9a-f]{2}(?: +\S+)? *\n(?s:.*)^[0-9A-F]{6}[1-9A-F][0-9A-F]  |"
         r"\A[0-9A-F]{8}  [0-9a-f]{2}(?: +\S+)? *\n(?s:.*)^0000000[1-9A-F]  ",
-        lambda text, ask: wireshark.follow_hex(text),
+        wireshark.follow_hex,
     ),
-    "portmon": (r"\bIRP_MJ_(?:READ|WRITE)\b.*\bLength:? \d+", lambda text, ask: serial_tools.portmon(text)),
-    "csv-table": (
+    "portmon": Form(r"\bIRP_MJ_(?:READ|WRITE)\b.*\bLength:? \d+", serial_tools.portmon),
+    "csv-table": Form(
         r"\A(?!\"?[a-z]+\.[a-z_.]+)[^\n]*\b(?:data|value|payload|hex|bytes)\b[^\n]*\n(?:[^\n]*[,;\t])?\"?(?:0x)?[0-9a-fA-F]{2}[0-9a-fA-Fx ]*\"?[,;\t\n]",
-        lambda text, ask: traces.csv_table(text),
+        traces.csv_table,
     ),
-    "irp-table": (
+    "irp-table": Form(
         r"\bIRP_MJ_(?:READ|WRITE)\b.*[\t,; ]\"?[0-9a-fA-F]{2}(?: [0-9a-fA-F]{2})*\"?\s*(?:[\t,;]| {2}|$)",
-        lambda text, ask: serial_tools.irp_table(text),
+        serial_tools.irp_table,
     ),
-    "interceptty": (
-        r"^(?:[\d.:/\- ]*)[<>]\s+0x[0-9a-fA-F]{2}\b(?!,? ?0x)",
-        lambda text, ask: serial_tools.interceptty(text),
-    ),
-    "slsnif": (r"\b(?:Host|Device)\s*-->.*\((?:\d{3}|[0-9a-f]{2})\)", lambda text, ask: serial_tools.slsnif(text)),
-    "blocks": (
+    "interceptty": Form(r"^(?:[\d.:/\- ]*)[<>]\s+0x[0-9a-fA-F]{2}\b(?!,? ?0x)", serial_tools.interceptty),
+    "slsnif": Form(r"\b(?:Host|Device)\s*-->.*\((?:\d{3}|[0-9a-f]{2})\)", serial_tools.slsnif),
+    "blocks": Form(
         r"^\[.*?\]\s*(?:Read|Written|Received|Sent) data\b|^(?:Request|Answer):\s*\d|(?:Read|Write) (?:Request )?"
         r"\((?:UP|DOWN)\)|^\d{4}-\d\d-\d\d \d\d:\d\d:\d\d(?:\.\d+)?: \S+\s*\n|^T .*\S+:\d+ -> \S+:\d+ \[|"
         r"^<?\d{14}\.\d{3} (?:TX|RX)>?\s*$",
-        lambda text, ask: serial_tools.blocks(text),
+        serial_tools.blocks,
     ),
-    "k12": (
-        r"^\|0\s*\|(?:[0-9a-f]{2}\|){20}",
-        lambda text, ask: packets.read_packets(packets.k12_packets(text), "k12", ask.stream, ask.port),
-    ),
-    "tshark-fields": (r"[\t,;|]", lambda text, ask: wireshark.tshark_fields(text, ask.port, ask.stream)),
-    "hex": ("", lambda text, ask: serial_tools.hex_dump(text)),
-    "trace": ("", lambda text, ask: traces.traces(text)),
+    "k12": Form(r"^\|0\s*\|(?:[0-9a-f]{2}\|){20}", packets.k12, _CHOICE),
+    "tshark-fields": Form(r"[\t,;|]", wireshark.tshark_fields, _CHOICE),
+    "hex": Form("", serial_tools.hex_dump),
+    "trace": Form("", traces.traces),
 }
 LOSSY = [
     (
@@ -108,9 +109,9 @@ def form_of(text: str) -> str:
     for pattern, why in LOSSY:
         if re.search(pattern, text, re.M):
             raise LogError(why)
-    if serial_tools.is_hex_dump(text) and not re.search(FORMS["wireshark-hex"][0], text, re.M):
-        return "hex" if not re.search(FORMS["packet-text"][0], text, re.M) or not _is_ethernet(text) else "packet-text"
-    for name, (pattern, _) in FORMS.items():
+    if serial_tools.is_hex_dump(text) and not re.search(FORMS["wireshark-hex"].pattern, text, re.M):
+        return "hex" if not re.search(FORMS["packet-text"].pattern, text, re.M) or not _is_ethernet(text) else "packet-text"
+    for name, (pattern, *_) in FORMS.items():
         if name == "tshark-fields" and serial_tools.is_blocks(text):
             return "blocks"
         if pattern and re.search(pattern, text, re.M | (re.I if name in ("blocks", "csv-table") else 0)):
@@ -165,19 +166,19 @@ def _read_log(data: bytes, ask: Options) -> Log:
     if form == "pcap" or form not in FORMS:
         raise LogError("the file is neither pcap nor pcapng" if form == "pcap" else f"there is no form {form}")
     try:
-        return FORMS[form][1](text, ask)
+        return FORMS[form].read(text, ask)
     except LogError:
         if ask.form is not None or form not in ("tshark-fields", "csv-table", "hex", "blocks"):
             raise
-        found = _trace(text, ask)  # a table or blocks may be a trace with directions in words
+        found = _trace(text)  # a table or blocks may be a trace with directions in words
         if found is None:
             raise
         return found
 
 
-def _trace(text: str, ask: Options) -> Optional[Log]:
+def _trace(text: str) -> Optional[Log]:
     try:
-        log = FORMS["trace"][1](text, ask)
+        log = traces.traces(text)
     except LogError:
         return None
     return log if log.pieces and not any("no line has a direction" in one for one in log.remarks) else None
@@ -360,29 +361,24 @@ def _lines(pieces: List[Piece], analyzer: str, timer: Optional[float]) -> Captur
 def of_two_dumps(analyzer: bytes, computer: bytes) -> Tuple[Capture, List[str]]:
     """A capture of the bytes of each direction: a reply of the computer is put after each ENQ and each frame. The
     order is a guess by the rules of the link, and a remark reports that."""
-    lines: List[Line] = []
+    pieces: List[Piece] = []
     at = used = 0
     with Scanner() as scanner:
         for place, signal in scanner.feed_placed(analyzer):
             if signal.kind in (Kind.ENQ, Kind.FRAME, Kind.BAD_FRAME, Kind.EOT):
-                lines.append(Line(">", analyzer[at : place + 1]))
+                pieces.append(Piece(None, "analyzer", analyzer[at : place + 1]))
                 at = place + 1
                 if signal.kind is not Kind.EOT and used < len(computer):
-                    lines.append(Line("<", computer[used : used + 1]))
+                    pieces.append(Piece(None, "computer", computer[used : used + 1]))
                     used += 1
     if at < len(analyzer):
-        lines.append(Line(">", analyzer[at:]))
+        pieces.append(Piece(None, "analyzer", analyzer[at:]))
     remarks = ["two dumps: their order isn't known; a reply is put after each ENQ and each frame"]
     if used < len(computer):
-        lines.append(Line("<", computer[used:]))
+        pieces.append(Piece(None, "computer", computer[used:]))
         remarks.append(
             f"{len(computer) - used} bytes of the computer are left over: they are the last line, and answer nothing"
         )
-    if not any(line.data for line in lines):
+    if not pieces:
         raise LogError("both dumps are empty")
-    split = [
-        Line(line.mark, line.data[start : start + LINE_BYTES])
-        for line in lines
-        for start in range(0, len(line.data), LINE_BYTES)
-    ]
-    return Capture(1, list(enumerate(split, 1)), [None] * len(split)), remarks
+    return _lines(pieces, "analyzer", None), remarks

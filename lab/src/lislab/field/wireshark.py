@@ -8,7 +8,7 @@ import re
 from typing import Any, Dict, Iterator, List, Optional, Tuple
 
 from ..diagnosis.log import SECOND, Log, LogError, Piece, find_time, hex_row, holds_bytes, left_out
-from .packets import Packet, Segment, connections_of, linked, read_packets, joined
+from .packets import Packet, Segment, connections_of, joined, read_packets
 
 _HEX = re.compile(r"^(?:[0-9A-Fa-f]{2})(?:[:\- ]?[0-9A-Fa-f]{2})*$")
 
@@ -131,14 +131,8 @@ def tshark_fields(text: str, port: Optional[int] = None, stream: Optional[int] =
         if not _HEX.match(row[payload].strip().split(",")[0]):
             raise LogError(f"no bytes in column {payload + 1}: {row[payload][:40]!r}", number)
     if names and {"tcp.seq", "tcp.srcport", "tcp.dstport"} <= set(names):
-        return _segments(
-            [{name: row[place] if place < len(row) else "" for place, name in enumerate(names)} for _, row in kept],
-            names[payload],
-            "tshark-fields",
-            port,
-            stream,
-            left_out(sorted(left)),
-        )
+        told = [{name: row[place] if place < len(row) else "" for place, name in enumerate(names)} for _, row in kept]
+        return _segments(told, "tshark-fields", port, stream, left_out(sorted(left)), names[payload])
     side = _side_columns(kept, payload, names, port)
     time = _time_column(kept, payload, names)
     pieces = [
@@ -242,19 +236,13 @@ def _segment_of(one: Dict[str, str], payload: str) -> Segment:
     )
 
 
-def _lacking(count: int) -> List[str]:
-    """A remark on packets with bytes that aren't TCP, or aren't in the text, if there are some. A connection in which
-    bytes are missing before others is an error."""
-    return [f"packets whose TCP bytes aren't in the text were left out, {count} of them"] if count else []
-
-
 def _segments(
     told: List[Dict[str, str]],
-    payload: str,
     form: str,
     port: Optional[int],
     stream: Optional[int],
     remarks: List[str],
+    payload: str = "tcp.payload",
 ) -> Log:
     """Packets that have their TCP numbers are put together as those of a pcap."""
     segments, groups = [], {}  # type: List[Segment], Dict[str, List[Segment]]
@@ -264,16 +252,19 @@ def _segments(
         groups.setdefault(one.get("tcp.stream", ""), []).append(segment)
     if all(len({one.source_port for one in group}) == 1 for group in groups.values()):
         groups = {"": segments}  # each direction was taken for a stream of its own
-    every = [one for group in groups.values() for one in connections_of(group)]
-    if port is not None:
-        every = [one for one in every if port in one.ports]
-    found = linked(every)
-    if stream is not None and 1 <= stream <= len(every):
-        found = [every[stream - 1]]
-    if not found:
-        raise LogError("no ENQ and no STX is in the packets")
-    log = joined(found, every, form)
+    log = joined([one for group in groups.values() for one in connections_of(group)], form, stream, port)
     return log._replace(remarks=log.remarks + remarks)
+
+
+def _whole(
+    told: List[Dict[str, str]], form: str, port: Optional[int], stream: Optional[int], lacking: int, name: str
+) -> Log:
+    """The same of packets with details, of which some lack bytes: a remark on packets with bytes that aren't TCP, or
+    aren't in the text. A connection in which bytes are missing before others is an error."""
+    if not told:
+        raise LogError(f"no packet has {name}")
+    remark = f"packets whose TCP bytes aren't in the text were left out, {lacking} of them"
+    return _segments(told, form, port, stream, [remark] if lacking else [])
 
 
 def tshark_json(text: str, port: Optional[int] = None, stream: Optional[int] = None) -> Log:
@@ -298,9 +289,7 @@ def tshark_json(text: str, port: Optional[int] = None, stream: Optional[int] = N
             lacking += flat.get("tcp.len", "0") != "0"
     if raw and not told:
         return read_packets(iter(raw), "tshark-jsonraw", stream, port)
-    if not told:
-        raise LogError("no packet has tcp.payload")
-    return _segments(told, "tcp.payload", "tshark-json", port, stream, _lacking(lacking))
+    return _whole(told, "tshark-json", port, stream, lacking, "tcp.payload")
 
 
 def wireshark_text(text: str, port: Optional[int] = None, stream: Optional[int] = None) -> Log:
@@ -333,9 +322,7 @@ def wireshark_text(text: str, port: Optional[int] = None, stream: Optional[int] 
                 "ip.dst": ends[2] if ends else "b",
             }
         )
-    if not told:
-        raise LogError("no packet has a line Data")
-    return _segments(told, "tcp.payload", "wireshark-text", port, stream, _lacking(lacking))
+    return _whole(told, "wireshark-text", port, stream, lacking, "a line Data")
 
 
 def _flat(node: Any, name: str = "") -> Iterator[Tuple[str, str]]:
@@ -371,6 +358,4 @@ def tshark_pdml(text: str, port: Optional[int] = None, stream: Optional[int] = N
             lacking += one.get("tcp.len", "0") != "0"
     if text.count("<packet>") != text.count("</packet>"):
         raise LogError("the file ends within a packet")
-    if not told:
-        raise LogError("no packet has tcp.payload")
-    return _segments(told, "tcp.payload", "tshark-pdml", port, stream, _lacking(lacking))
+    return _whole(told, "tshark-pdml", port, stream, lacking, "tcp.payload")

@@ -1,11 +1,12 @@
 """The metrics of a host, in Prometheus' text format (version 0.0.4)."""
-from typing import Any, Dict, List, Mapping, Sequence, Tuple
+from typing import Any, Callable, Dict, Iterable, List, Mapping, Tuple
 
 from ..diagnosis.pulse import BUCKETS
 from ..model.store import COMPLETE, INCOMPLETE, INVALID
 
 FORM = "text/plain; version=0.0.4; charset=utf-8"
-Labels = Sequence[Tuple[str, str]]
+#: A sample: its value, and the values of its labels by their names.
+Sample = Tuple[float, Mapping[str, str]]
 
 
 def _label(text: str) -> str:
@@ -18,13 +19,15 @@ class Metrics:
     def __init__(self) -> None:
         self._rows: List[str] = []
 
-    def add(self, name: str, kind: str, words: str) -> None:
-        """A metric that begins here."""
+    def add(self, name: str, kind: str, words: str, samples: Iterable[Sample]) -> None:
+        """A metric with its samples."""
         self._rows += [f"# HELP {name} {words}", f"# TYPE {name} {kind}"]
+        for value, labels in samples:
+            self.sample(name, value, labels)
 
-    def sample(self, name: str, value: float, labels: Labels = ()) -> None:
+    def sample(self, name: str, value: float, labels: Mapping[str, str]) -> None:
         """A sample of the metric."""
-        shown = ",".join(f'{key}="{_label(text)}"' for key, text in labels)
+        shown = ",".join(f'{key}="{_label(text)}"' for key, text in labels.items())
         self._rows.append(f"{name}{{{shown}}} {_number(value)}" if labels else f"{name} {_number(value)}")
 
     def text(self) -> str:
@@ -36,6 +39,13 @@ def _number(value: float) -> str:
     return str(int(value)) if float(value).is_integer() else repr(float(value))
 
 
+#: What is known of the host: the metric, its type, what it is, and the host's value.
+_HOST = (
+    ("lislab_start_time_seconds", "gauge", "When the host started.", "begun"),
+    ("lislab_commits_total", "counter", "Commits of the store.", "commits"),
+    ("lislab_commits_failed_total", "counter", "Commits that failed.", "failed_commits"),
+    ("lislab_refused_connections_total", "counter", "Connections that were closed at once.", "refused_connections"),
+)
 #: Counters of each line: the metric, what it counts, and the host's count.
 _COUNTERS = (
     ("lislab_connections_total", "Connections of a line.", "connections"),
@@ -57,74 +67,52 @@ def metrics_of(data: Mapping[str, Any], undelivered: Mapping[str, int], orders: 
     """The metrics of a host's own state, of how many messages each delivery has still to send, and of the orders
     by their states."""
     out, lines = Metrics(), data["lines"]
-    out.add("lislab_up", "gauge", "Whether the host answers.")
-    out.sample("lislab_up", int(data["running"]))
+    out.add("lislab_up", "gauge", "Whether the host answers.", [(int(data["running"]), {})])
     if data["running"]:
-        _of_host(out, data)
+        for name, kind, words, key in _HOST:
+            out.add(name, kind, words, [(data[key], {})])
         for name, words, key in _COUNTERS:
-            out.add(name, "counter", words)
-            for line, one in lines.items():
-                out.sample(name, one.get(key, 0), [("line", line)])
+            out.add(name, "counter", words, ((one.get(key, 0), {"line": line}) for line, one in lines.items()))
         _of_lines(out, lines)
         _replies(out, lines)
-    out.add("lislab_undelivered_messages", "gauge", "Complete messages that a delivery has still to do.")
-    for cursor, count in undelivered.items():
-        out.sample("lislab_undelivered_messages", count, [("cursor", cursor)])
-    out.add("lislab_delivery_bad", "gauge", "Whether a delivery fails, isn't running, or has a quarantine.")
-    for name, one in data.get("deliveries", {}).items():
-        out.sample("lislab_delivery_bad", int(one["state"] == "bad"), [("delivery", name)])
-    out.add("lislab_orders", "gauge", "Orders in the store, by their state.")
-    for state, count in orders.items():
-        out.sample("lislab_orders", count, [("state", state)])
+    what = "Complete messages that a delivery has still to do."
+    out.add("lislab_undelivered_messages", "gauge", what, ((n, {"cursor": one}) for one, n in undelivered.items()))
+    found = data.get("deliveries", {}).items()
+    what = "Whether a delivery fails, isn't running, or has a quarantine."
+    out.add("lislab_delivery_bad", "gauge", what, ((one["state"] == "bad", {"delivery": name}) for name, one in found))
+    what = "Orders in the store, by their state."
+    out.add("lislab_orders", "gauge", what, ((count, {"state": state}) for state, count in orders.items()))
     return out.text()
 
 
-def _of_host(out: Metrics, data: Mapping[str, Any]) -> None:
-    for name, kind, words, value in (
-        ("lislab_start_time_seconds", "gauge", "When the host started.", data["begun"]),
-        ("lislab_commits_total", "counter", "Commits of the store.", data["commits"]),
-        ("lislab_commits_failed_total", "counter", "Commits that failed.", data["failed_commits"]),
-        (
-            "lislab_refused_connections_total",
-            "counter",
-            "Connections that were closed at once.",
-            data["refused_connections"],
-        ),
-    ):
-        out.add(name, kind, words)
-        out.sample(name, value)
-
-
 def _of_lines(out: Metrics, lines: Dict[str, Any]) -> None:
-    out.add("lislab_frames_rejected_total", "counter", "Frames that were rejected, by the reason.")
-    for line, one in lines.items():
-        for reason, count in sorted(one["causes"].items()):
-            out.sample("lislab_frames_rejected_total", count, [("line", line), ("reason", reason)])
-    out.add("lislab_messages_total", "counter", "Messages that ended, by their state.")
-    for line, one in lines.items():
-        for state in (COMPLETE, INCOMPLETE, INVALID):
-            out.sample("lislab_messages_total", one["ended"].get(state, 0), [("line", line), ("state", state)])
-    out.add("lislab_connected", "gauge", "Connections that are open.")
-    for line, one in lines.items():
-        out.sample("lislab_connected", one["connected"], [("line", line)])
-    out.add("lislab_last_message_timestamp_seconds", "gauge", "When the last complete message was stored.")
-    for line, one in lines.items():
-        if one["last"] is not None:
-            out.sample("lislab_last_message_timestamp_seconds", one["last"], [("line", line)])
-    out.add("lislab_line_bad", "gauge", "Whether a line is bad.")
-    for line, one in lines.items():
-        out.sample("lislab_line_bad", int(one["state"] == "bad"), [("line", line)])
+    def add(name: str, kind: str, words: str, samples: Callable[[Any], Iterable[Sample]]) -> None:
+        found = ((value, {"line": line, **more}) for line, one in lines.items() for value, more in samples(one))
+        out.add(name, kind, words, found)
+
+    def rejected(one: Any) -> Iterable[Sample]:
+        return ((count, {"reason": reason}) for reason, count in sorted(one["causes"].items()))
+
+    def ended(one: Any) -> Iterable[Sample]:
+        return ((one["ended"].get(state, 0), {"state": state}) for state in (COMPLETE, INCOMPLETE, INVALID))
+
+    def last(one: Any) -> Iterable[Sample]:
+        return [] if one["last"] is None else [(one["last"], {})]
+
+    add("lislab_frames_rejected_total", "counter", "Frames that were rejected, by the reason.", rejected)
+    add("lislab_messages_total", "counter", "Messages that ended, by their state.", ended)
+    add("lislab_connected", "gauge", "Connections that are open.", lambda one: [(one["connected"], {})])
+    add("lislab_last_message_timestamp_seconds", "gauge", "When the last complete message was stored.", last)
+    add("lislab_line_bad", "gauge", "Whether a line is bad.", lambda one: [(one["state"] == "bad", {})])
 
 
 def _replies(out: Metrics, lines: Dict[str, Any]) -> None:
     name = "lislab_reply_seconds"
-    out.add(name, "histogram", "How long after the bytes came a reply to them went out, at most.")
+    out.add(name, "histogram", "How long after the bytes came a reply to them went out, at most.", [])
     for line, one in lines.items():
         total = 0
-        for most, count in zip(BUCKETS, one["replies"]):
+        for most, count in zip([*map("{:g}".format, BUCKETS), "+Inf"], one["replies"]):
             total += count
-            out.sample(f"{name}_bucket", total, [("line", line), ("le", f"{most:g}")])
-        total = sum(one["replies"])
-        out.sample(f"{name}_bucket", total, [("line", line), ("le", "+Inf")])
-        out.sample(f"{name}_sum", one["reply_seconds"], [("line", line)])
-        out.sample(f"{name}_count", total, [("line", line)])
+            out.sample(f"{name}_bucket", total, {"line": line, "le": most})
+        out.sample(f"{name}_sum", one["reply_seconds"], {"line": line})
+        out.sample(f"{name}_count", total, {"line": line})
