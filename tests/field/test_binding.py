@@ -1,4 +1,4 @@
-"""The binding: each call at values known from outside, what it rejects, threads, pieces; the package as a wheel."""
+"""The binding: what it rejects, threads, pieces, long input. tests/ffi has each call at values known from outside."""
 import glob
 import os
 import random
@@ -10,27 +10,7 @@ import time
 
 import lislink
 from lislink import (
-    FrameFault,
-    Kind,
-    LinkError,
-    MessageError,
-    Note,
-    Outcome,
-    Phase,
-    Readiness,
-    Reader,
-    Reason,
-    Receiver,
-    Record,
-    Row,
-    Scanner,
-    Sender,
-    Status,
-    Writer,
-    WrongThread,
-    frame_bytes,
-    messages,
-    records,
+    Note, Reader, Receiver, Record, Row, Scanner, Sender, Writer, WrongThread, frame_bytes, messages, records
 )
 from tests import ROOT, kit
 from tests.field.lab import FieldTest
@@ -43,14 +23,6 @@ def printed(words, **more):
     """A run of a command from the root of the file system, without the library and the package of this checkout."""
     how = {"cwd": "/", "env": kit.without_library(**more), "capture_output": True, "text": True, "check": False}
     return subprocess.run(words, **how)
-
-
-def rejected(test, name, call, status):
-    try:
-        call()
-    except LinkError as error:
-        return test.same(name, error.status, status)
-    test.check(False, name, "nothing was rejected")
 
 
 def random_message(rng):
@@ -115,76 +87,6 @@ class Binding(FieldTest):
                         and value.__class__.__name__ != "member"
                     ):
                         self.check(bool(value.__doc__), f"{name}.{part} has a docstring")
-
-    def test_values(self):
-        self.same("frame_bytes", frame_bytes(1, True, b"H|\\^&\r"), FIRST)
-        rejected(self, "frame_bytes: number", lambda: frame_bytes(8, True, b""), Status.BAD_NUMBER)
-        rejected(self, "frame_bytes: forbidden", lambda: frame_bytes(1, True, b"a\x02"), Status.FORBIDDEN)
-        rejected(self, "frame_bytes: too long", lambda: frame_bytes(1, True, b"a" * 241), Status.TOO_LONG)
-        with Scanner() as scanner:
-            signals = list(scanner.feed(b"\x05" + FIRST + b"\x021\x02\n\x04"))
-            self.same(
-                "scanner: kinds", [one.kind for one in signals], [Kind.ENQ, Kind.FRAME, Kind.BAD_FRAME, Kind.EOT]
-            )
-            self.same("scanner: a frame", signals[1][1:], (1, True, FrameFault.NONE, 0, b"H|\\^&\r"))
-            self.same("scanner: a place", [place for place, _ in scanner.feed_placed(b"x\x05" + FIRST)], [1, 14])
-        with Sender() as sender:
-            rejected(self, "sender: no text", sender.start, Status.NO_TEXT)
-            sender.add_text(b"H|\\^&\r")
-            self.same("sender: start", (sender.start(), sender.phase, sender.seconds), (b"\x05", Phase.AWAIT_LINE, 15))
-            self.same("sender: busy", (sender.reply(21), sender.seconds, sender.timer()), (b"", 10, b"\x05"))
-            self.same("sender: a frame", (sender.reply(6), sender.reply(21)), (FIRST, FIRST))
-            self.same(
-                "sender: done", (sender.reply(6), sender.outcome, sender.acknowledged), (b"\x04", Outcome.DONE, 1)
-            )
-        with Receiver() as receiver:
-            steps = list(receiver.hear(b"noise\x05" + FIRST + FIRST + b"\x04"))
-            self.same(
-                "receiver: notes", [one.note for one in steps], [Note.OPENED, Note.ACCEPTED, Note.DUPLICATE, Note.ENDED]
-            )
-            self.same("receiver: texts", [one.text for one in steps], [None, b"H|\\^&\r", None, None])
-            receiver.set_ready(Readiness.BUSY)
-            self.same("receiver: busy", [one.reply for one in receiver.hear(b"\x05")], [b"\x15"])
-            receiver.set_ready(Readiness.READY)
-            receiver.set_room(False)
-            self.same(
-                "receiver: no room", [one.note for one in receiver.hear(b"\x05" + FIRST)], [Note.OPENED, Note.NO_ROOM]
-            )
-            self.same("receiver: timer", receiver.timer().note, Note.TIMED_OUT)
-
-    def test_records(self):
-        header = Record(b"H|\\^&|||Analyzer&F&7")
-        self.same(
-            "record: a header",
-            (header.letter, header.fields, header.part(5), header.delimiters),
-            ("H", 3, b"Analyzer|7", b"|\\^&"),
-        )
-        result = Record(b"r|1|^^^GLU\\^^^NA|5.4", header)
-        self.same("record: parts", (result.part(3, 1, 3), result.part(3, 2, 0), result.part(4)), (b"NA", None, b"5.4"))
-        rejected(self, "record: delimiters", lambda: Record(b"H|\\^^"), Status.BAD_DELIMITERS)
-        rejected(self, "record: a byte", lambda: Record(b"R|1\x02", header), Status.FORBIDDEN)
-        self.same("records", [one.letter for one in records([b"H|\\^&\r", b"P|1\rO|1|S7\r"])], ["H", "P", "O"])
-        with Writer() as writer:
-            rejected(self, "writer: no header", lambda: writer.record("P", [b"1"]), Status.PUT_NOT_HEADER)
-            writer.record("H", [b"", b"", b"a"])
-            writer.record("P", [b"1", [b"", b"x|y"]])
-            writer.record("L", [b"1", b"N"])
-            self.same("writer: texts", writer.texts(), [b"H|\\^&|||a\r", b"P|1|^x&F&y\r", b"L|1|N\r"])
-        stream = b"H|\\^&\rP|1\rO|1|S7||^^^GLU\\^^^NA\rR|1|^^^GLU|5&X0D&\rL|1|N\r"
-        for size in (1, 3, len(stream)):
-            told = list(messages([stream[at : at + size] for at in range(0, len(stream), size)]))
-            self.same(f"messages: pieces of {size}", [row.letter for row in told[0]], list("HPORL"))
-            self.same(
-                f"messages: parts in pieces of {size}", (told[0][2].part(5, 1, 3), told[0][3].part(4)), (b"NA", b"5\r")
-            )
-        with Reader() as reader:
-            list(reader.feed(b"H|\\^&\r"))
-            try:
-                list(reader.feed(b"R|1\r"))
-            except MessageError as error:
-                self.same(
-                    "reader: a fault", (error.number, error.reason, error.detail), (2, Reason.NO_PARENT, ord("R"))
-                )
 
     def test_types(self):
         """Wrong types and numbers are rejected, and change nothing."""
@@ -272,6 +174,7 @@ class Binding(FieldTest):
             receiver.hear(FIRST)
             self.same("receiver: a piece without a loop", [one.note for one in receiver.hear(b"")], [Note.ACCEPTED])
         with Scanner() as scanner:
+            self.same("scanner: a place", [place for place, _ in scanner.feed_placed(b"x\x05" + FIRST)], [1, 14])
             next(scanner.feed(b"\x05\x04\x05"))
             self.same(
                 "scanner: places of what was left", [place for place, _ in scanner.feed_placed(b"\x04")], [-2, -1, 0]
