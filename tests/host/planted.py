@@ -657,9 +657,7 @@ HARMLESS = (
         "        if one is None:  # the heading\n            return line(None)",
     ),
     Edit(
-        "watch/status.py",
-        '                "complete": one.complete if one else 0,\n                "again": one.again if one else 0,\n',
-        '                "again": one.again if one else 0,\n                "complete": one.complete if one else 0,\n',
+        "watch/status.py", 'counts = ("line", "complete", "again",', 'counts = ("line", "again", "complete",'
     ),
     Edit(
         "diagnosis/pulse.py",

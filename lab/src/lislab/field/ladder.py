@@ -118,8 +118,8 @@ class Ladder:
 
     def line_of(self, place: int) -> int:
         """The line of the capture at which this byte of the records was delivered."""
-        number = min(bisect.bisect_right(self._ends, place), len(self.texts) - 1)
-        return self.texts[number].line if self.texts else 0
+        number = bisect.bisect_right(self._ends, min(place, len(self.stream) - 1))
+        return self.texts[min(number, len(self.texts) - 1)].line if self.texts else 0
 
     def _begin(self) -> None:
         self._receiver, self._scanner = Receiver(frame_limit=self.frame_limit), Scanner(frame_limit=self.frame_limit)

@@ -2,11 +2,11 @@
 look for, with the verdict on it; the sentences of the verdicts are in `diagnosis.verdicts`."""
 import re
 from collections import Counter
-from typing import Any, Callable, Dict, Iterator, List, NamedTuple, Optional, Union
+from typing import Any, Callable, Dict, Iterator, List, NamedTuple, Optional, Tuple, Union
 
 from lislink.codes import Note, Reason
 from lislink.message import Fault, Found
-from ..diagnosis.faults import cause_of_record, code_of
+from ..diagnosis.faults import RecordCause, cause_of_record, code_of
 from ..diagnosis.log import SECOND
 from ..diagnosis.protocols import has_bare_frames, is_hl7, parity_of, telnet_in
 from ..diagnosis.verdicts import BAD, WARN, Meaning, Verdict, advice_on, is_way, plain_hint, way_of
@@ -331,11 +331,10 @@ def _records(ladder: Ladder) -> Iterator[Look]:
 def _of_fault(ladder: Ladder, fault: Fault) -> Look:
     """Why a message is rejected."""
     number, code = fault.error.number, code_of(fault.error)
-    lines = [ladder.line_of(min(fault.place, max(len(ladder.stream) - 1, 0)))]
+    lines = [ladder.line_of(fault.place)]
     if fault.error.reason in (Reason.UNFINISHED, Reason.NOT_HEADER, Reason.SECOND_HEADER) and _was_lost(ladder):
         return look_of(Verdict.INCOMPLETE, lines, number=number, code=code)
-    record = record_at(ladder.stream, fault.place)
-    cause = cause_of_record(fault.error, record, fault.place + len(record) >= len(ladder.stream))
+    _, cause = rejected_at(ladder.stream, fault)
     look = look_of(Verdict.RECORD, lines, number=number, code=code, why=cause.words, fixes=_fixes(cause.options))
     return look._replace(name=f"{look.name}-{cause.name}")
 
@@ -354,10 +353,11 @@ def _was_lost(ladder: Ladder) -> bool:
     return any(row.level == BAD and row.side == ">" for row in ladder.rows) or Note.TIMED_OUT in ladder.notes
 
 
-def record_at(stream: bytes, place: int) -> bytes:
-    """The record that begins here, without its CR."""
-    end = stream.find(b"\r", place)
-    return stream[place : end if end >= 0 else len(stream)]
+def rejected_at(stream: bytes, fault: Fault) -> Tuple[bytes, RecordCause]:
+    """The record at which a message is rejected, without its CR, and why."""
+    end = stream.find(b"\r", fault.place)
+    record = stream[fault.place : end if end >= 0 else len(stream)]
+    return record, cause_of_record(fault.error, record, end < 0)
 
 
 def _sequence(ladder: Ladder) -> Iterator[Look]:

@@ -6,10 +6,10 @@ from typing import Dict, Iterator, List, NamedTuple, Set, Tuple
 from lislink.message import Fault, read_all
 from lislink.records import RECORD_BYTES
 from ..diagnosis.endings import Ending, ending_of
-from ..diagnosis.faults import cause_of_record, code_of, words
+from ..diagnosis.faults import code_of, words
 from ..model.changes import CHANGES
 from .compare import changes_of_results, is_one_record
-from .looks import record_at
+from .looks import rejected_at
 
 #: Those that `--all` asks for. The results before and after them are compared, and each that changed is printed.
 ALL = tuple(name for name in CHANGES if name not in ("orders", "long"))
@@ -288,8 +288,7 @@ def rejected_lines(data: bytes) -> Iterator[str]:
     """What the proved reader still rejects: a line for each message that can't be read."""
     for number, one in enumerate(read_all(data), 1):
         if isinstance(one, Fault):
-            record = record_at(data, one.place)
-            cause = cause_of_record(one.error, record, one.place + len(record) >= len(data))
+            _, cause = rejected_at(data, one)
             yield (
                 f"message {number}: record {one.error.number} at line {_line_at(data, one.place)} is rejected "
                 f"({code_of(one.error)}): {cause.words}"

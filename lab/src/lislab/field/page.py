@@ -6,10 +6,10 @@ from html import escape
 from typing import Iterable, Iterator, List, Optional
 
 from lislink.message import KINDS, NAMES, Entry, Fault, Found
-from ..diagnosis.faults import cause_of_record, code_of, words
+from ..diagnosis.faults import code_of, words
 from ..diagnosis.log import SECOND, time_text
 from .ladder import Ladder, Look, Row
-from .looks import looks_of, record_at
+from .looks import looks_of, rejected_at
 
 
 def text_of(name: str, package: str = __package__) -> str:
@@ -56,28 +56,14 @@ def _looks(looks: List[Look]) -> Iterator[str]:
 def _details(row: Row, is_judged: bool) -> str:
     told = [("bytes", f"<code>{row.raw.hex(' ')}</code>"), ("as text", f"<code>{escape(words(row.raw))}</code>")]
     if row.kind == "frame":
-        told.insert(
-            0,
-            (
-                "frame",
-                f"number {row.number}, {'last of its text (ETX)' if row.last else 'intermediate (ETB)'}, "
-                f"{len(row.text)} bytes of text",
-            ),
-        )
+        end = "last of its text (ETX)" if row.last else "intermediate (ETB)"
+        told.insert(0, ("frame", f"number {row.number}, {end}, {len(row.text)} bytes of text"))
     if row.checksum is not None:
-        same = row.checksum.found.upper() == row.checksum.wanted
-        told.insert(
-            1,
-            (
-                "checksum",
-                f"{escape(row.checksum.found)} found, {row.checksum.wanted} wanted: "
-                + ("the same" if same else "<b>another</b>"),
-            ),
-        )
+        found, wanted = row.checksum.found, row.checksum.wanted
+        same = "the same" if found.upper() == wanted else "<b>another</b>"
+        told.insert(1, ("checksum", f"{escape(found)} found, {wanted} wanted: {same}"))
     if row.side == ">" and is_judged:
-        told.append(
-            ("reply", f"a receiver answers {escape(words(row.reply))}" if row.reply else "a receiver answers nothing")
-        )
+        told.append(("reply", f"a receiver answers {escape(words(row.reply)) if row.reply else 'nothing'}"))
     return "<dl>" + "".join(f"<dt>{name}</dt><dd>{text}</dd>" for name, text in told) + "</dl>"
 
 
@@ -116,54 +102,45 @@ def rows_of(rows: Iterable[Row], is_judged: bool = True, anchors: str = "l") -> 
 
 
 def _entry(entry: Entry, found: Found) -> Iterator[str]:
-    names = NAMES.get(entry.letter, {})
     wrong = [one for one in found.message.findings() if one.number == entry.number]
     mark = f' <span class="finding">finding: its number isn\'t {wrong[0].position}</span>' if wrong else ""
-    brief = "|".join(entry.whole(entry.row.first + place) for place in range(entry.row.count))
+    cells = [(entry.row.first + at, entry.whole(entry.row.first + at)) for at in range(entry.row.count)]
+    brief = escape("|".join(text for _, text in cells)[:140])
+    names = {place: name.replace("_", " ") for place, name in NAMES.get(entry.letter, {}).items()}
     fields = "".join(
-        f"<tr><td>{place + entry.row.first}</td><td>{escape(names.get(place + entry.row.first, '').replace('_', ' '))}</td>"
-        f"<td><code>{escape(entry.whole(place + entry.row.first))}</code></td></tr>"
-        for place in range(entry.row.count)
-        if entry.whole(place + entry.row.first)
+        f"<tr><td>{place}</td><td>{escape(names.get(place, ''))}</td><td><code>{escape(text)}</code></td></tr>"
+        for place, text in cells
+        if text
     )
     below = "".join("".join(_entry(one, found)) for one in entry.notes + entry.children)
-    yield (
-        f"<li><details><summary>{entry.number} <b>{KINDS.get(entry.letter, entry.letter)}</b> <code>{escape(brief[:140])}</code>{mark}"
-        f'</summary><table class="fields">{fields}</table></details>{"<ul class=tree>" + below + "</ul>" if below else ""}</li>'
-    )
+    yield f"<li><details><summary>{entry.number} <b>{KINDS.get(entry.letter, entry.letter)}</b> <code>{brief}</code>"
+    yield f'{mark}</summary><table class="fields">{fields}</table></details>'
+    yield f"<ul class=tree>{below}</ul></li>" if below else "</li>"
 
 
 def _messages(ladder: Ladder) -> Iterator[str]:
     for number, one in enumerate(ladder.messages, 1):
-        if isinstance(one, Found):
-            findings = len(one.message.findings())
-            level = "warn" if findings else "good"
-            yield (
-                f'<details open data-message="read"><summary>{_tag(level, f"{findings} findings" if findings else "read")}message {number}: '
-                f'{len(one.message.rows)} records, from <a href="#l{ladder.line_of(one.start)}">line {ladder.line_of(one.start)}</a>'
-                '</summary><ul class="tree">'
-            )
-            for entry in one.message.entries:
-                if entry.letter in "HPQL":
-                    yield from _entry(entry, one)
-            yield "</ul></details>"
-        else:
+        if isinstance(one, Fault):
             yield _rejected(ladder, number, one)
+            continue
+        findings, line = len(one.message.findings()), ladder.line_of(one.start)
+        tag = _tag("warn", f"{findings} findings") if findings else _tag("good", "read")
+        yield f'<details open data-message="read"><summary>{tag}message {number}: {len(one.message.rows)} records, '
+        yield f'from <a href="#l{line}">line {line}</a></summary><ul class="tree">'
+        for entry in one.message.entries:
+            if entry.letter in "HPQL":
+                yield from _entry(entry, one)
+        yield "</ul></details>"
 
 
 def _rejected(ladder: Ladder, number: int, fault: Fault) -> str:
-    record = record_at(ladder.stream, fault.place)
-    cause = cause_of_record(fault.error, record, fault.place + len(record) >= len(ladder.stream))
-    line = ladder.line_of(min(fault.place, max(len(ladder.stream) - 1, 0)))
-    options = (
-        f'<p class="advice">lislab normalize {escape(" or ".join(cause.options))} fixes the records</p>'
-        if cause.options
-        else ""
-    )
+    record, cause = rejected_at(ladder.stream, fault)
+    line, options = ladder.line_of(fault.place), escape(" or ".join(cause.options))
+    advice = f'<p class="advice">lislab normalize {options} fixes the records</p>' if options else ""
     return (
-        f'<div class="look bad" data-message="rejected"><p>{_tag("bad", "rejected")}message {number}: record {fault.error.number}, '
-        f'<a href="#l{line}">line {line}</a> ({code_of(fault.error)}): {escape(cause.words)}</p>'
-        f"<p><code>{escape(words(record, 200))}</code></p>{options}</div>"
+        f'<div class="look bad" data-message="rejected"><p>{_tag("bad", "rejected")}message {number}: record '
+        f'{fault.error.number}, <a href="#l{line}">line {line}</a> ({code_of(fault.error)}): {escape(cause.words)}</p>'
+        f"<p><code>{escape(words(record, 200))}</code></p>{advice}</div>"
     )
 
 

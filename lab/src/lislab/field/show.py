@@ -2,10 +2,10 @@
 from typing import Iterator, List, Optional
 
 from lislink.message import Entry, Fault, Found
-from ..diagnosis.faults import cause_of_record, code_of, words
+from ..diagnosis.faults import code_of, words
 from ..diagnosis.log import SECOND, time_text
 from .ladder import Ladder, Look, Row
-from .looks import looks_of, record_at
+from .looks import looks_of, rejected_at
 
 _WIDTH = 58
 _MARKS = {"good": " ", "plain": " ", "warn": "!", "bad": "X"}
@@ -26,11 +26,10 @@ def _clock(time: Optional[int]) -> str:
 def row_text(row: Row) -> Iterator[str]:
     """The line of a row."""
     head = f"{row.line:6} {_clock(row.time):12} {_MARKS[row.level]} "
+    title = row.title if len(row.title) <= _WIDTH - 6 else row.title[: _WIDTH - 7] + "…"
     if row.side == ">":
-        title = row.title if len(row.title) <= _WIDTH - 6 else row.title[: _WIDTH - 7] + "…"
         line = f"├─ {title} ".ljust(_WIDTH, "─") + "▶│"
     elif row.side == "<":
-        title = row.title if len(row.title) <= _WIDTH - 6 else row.title[: _WIDTH - 7] + "…"
         line = "│◀" + f" {title} ─┤".rjust(_WIDTH, "─")
     else:
         line = "│" + row.title[:_WIDTH].center(_WIDTH) + "│"
@@ -81,13 +80,9 @@ def message_lines(ladder: Ladder) -> Iterator[str]:
 
 
 def _rejected(ladder: Ladder, number: int, fault: Fault) -> Iterator[str]:
-    record = record_at(ladder.stream, fault.place)
-    cause = cause_of_record(fault.error, record, fault.place + len(record) >= len(ladder.stream))
-    place = min(fault.place, max(len(ladder.stream) - 1, 0))
-    yield (
-        f"message {number}: rejected at record {fault.error.number}, line {ladder.line_of(place)} ({code_of(fault.error)}): "
-        f"{cause.words}"
-    )
+    record, cause = rejected_at(ladder.stream, fault)
+    where = f"record {fault.error.number}, line {ladder.line_of(fault.place)} ({code_of(fault.error)})"
+    yield f"message {number}: rejected at {where}: {cause.words}"
     if record:
         yield f"  {words(record, 60)}"
 

@@ -7,8 +7,8 @@ from typing import Any, Callable, Dict, Iterator, List, NamedTuple, Optional, Tu
 
 from lislink.message import NAMES, Entry, Fault, Message, read_all
 from lislink.shown import as_parts, as_text, component_text
-from ..diagnosis.faults import cause_of_record, code_of
-from .looks import record_at
+from ..diagnosis.faults import code_of
+from .looks import rejected_at
 
 #: The forms of a table.
 FORMS = ("csv", "tsv", "json")
@@ -136,8 +136,7 @@ def rows_of(
     for one in read_all(stream, encoding):
         number += 1
         if isinstance(one, Fault):
-            record = record_at(stream, one.place)
-            cause = cause_of_record(one.error, record, one.place + len(record) >= len(stream))
+            _, cause = rejected_at(stream, one)
             lost = sum(row.letter == letter for row in one.rows)
             yield None, (
                 f"message {number}: record {one.error.number} is rejected ({code_of(one.error)}): {cause.words}"

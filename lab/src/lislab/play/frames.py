@@ -2,20 +2,12 @@
 import re
 from typing import Iterator, NamedTuple, Optional
 
-STX, ETX, EOT, ENQ, ACK, LF, CR, NAK, ETB = 2, 3, 4, 5, 6, 10, 13, 0x15, 0x17
+from ..diagnosis.log import CONTROL
+
 #: The control bytes that a script names.
-NAMES = {
-    "STX": STX,
-    "ETX": ETX,
-    "EOT": EOT,
-    "ENQ": ENQ,
-    "ACK": ACK,
-    "LF": LF,
-    "CR": CR,
-    "NAK": NAK,
-    "ETB": ETB,
-}
-_WORDS = {number: name for name, number in NAMES.items()}
+NAMES = {name: CONTROL[name] for name in ("STX", "ETX", "EOT", "ENQ", "ACK", "LF", "CR", "NAK", "ETB")}
+STX, ETX, EOT, ENQ, ACK, LF, CR, NAK, ETB = NAMES.values()
+WORDS = {number: name for name, number in NAMES.items()}
 _SHAPE = re.compile(rb"\x02([0-7])([^\x01-\x06\x0a\x10-\x17]*)([\x03\x17])([0-9A-Fa-f]{2})\r\n", re.S)
 #: A unit: STX and what follows up to LF, or up to STX, ENQ or EOT; or one byte.
 UNITS = re.compile(rb"\x02[^\x02\x04\x05\x0a]*\x0a?|.", re.S)
@@ -69,6 +61,6 @@ def shown(unit: bytes) -> str:
         if frame.is_last and records[-1] == b"" and len(records) > 1:
             records.pop()
         return "+".join(quoted(one) for one in records) + ("" if frame.is_last else "+ETB")
-    if len(unit) == 1 and unit[0] in _WORDS:
-        return _WORDS[unit[0]]
+    if len(unit) == 1 and unit[0] in WORDS:
+        return WORDS[unit[0]]
     return (unit[:SHOWN].hex() + (".." if len(unit) > SHOWN else "")) or "-"

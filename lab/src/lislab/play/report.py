@@ -8,10 +8,9 @@ from xml.sax.saxutils import quoteattr
 from ..diagnosis.faults import words
 from ..field.ladder import Row
 from ..field.page import alone, rows_of
-from .frames import NAMES, read_frame
+from .frames import WORDS, read_frame
 from .player import Event, Played, ranges
 
-_NAMES = {number: name for name, number in NAMES.items()}
 _BAD = re.compile(r"[^\t\n\r\x20-\ud7ff\ue000-\ufffd]")
 
 
@@ -25,7 +24,7 @@ def _row(event: Event, own: str) -> Row:
     if frame is not None:
         title = f"frame {frame.number} {words(frame.text)}" + ("" if frame.is_last else "<ETB>")
         return base._replace(kind="frame", title=title, number=frame.number, last=frame.is_last, text=frame.text)
-    title = _NAMES.get(event.data[0], "") if len(event.data) == 1 else ""
+    title = WORDS.get(event.data[0], "") if len(event.data) == 1 else ""
     return base._replace(kind="unit", title=title or words(event.data) or "nothing")
 
 

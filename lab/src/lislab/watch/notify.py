@@ -1,5 +1,6 @@
 """Runs a command once when a line turns bad, and once when it is good again."""
 import os
+import queue
 import subprocess
 import threading
 from typing import Any, Callable, Dict, List, Mapping, Tuple
@@ -17,8 +18,7 @@ class Notifier:
     def __init__(self, words: List[str], say: Callable[[str], None]) -> None:
         self._words, self._say = words, say
         self._bad: Dict[str, str] = {}
-        self._due: List[Tuple[str, Dict[str, str]]] = []
-        self._wake, self._lock = threading.Event(), threading.Lock()
+        self._due: "queue.SimpleQueue[Tuple[str, Dict[str, str]]]" = queue.SimpleQueue()
 
     def start(self) -> None:
         """Runs what is due from now on."""
@@ -53,32 +53,22 @@ class Notifier:
     def _add(self, name: str, state: str, verdict: str, says: str) -> None:
         about = {"LISLAB_LINE": name, "LISLAB_STATE": state, "LISLAB_VERDICT": verdict, "LISLAB_SAYS": says}
         clean = {key: text.replace("\0", "") for key, text in about.items()}
-        with self._lock:
-            self._due.append((f"{name}: {state}", clean))
-        self._wake.set()
+        self._due.put((f"{name}: {state}", clean))
 
     def _run(self) -> None:
         while True:
-            self._wake.wait()
-            self._wake.clear()
-            self.run_due()
+            self._run_one(*self._due.get())
 
     def run_due(self) -> None:
         """Runs what is due."""
-        while True:
-            with self._lock:
-                if not self._due:
-                    return
-                what, about = self._due.pop(0)
-            try:
-                done = subprocess.run(
-                    self._words,
-                    stdin=subprocess.DEVNULL,
-                    env={**os.environ, **about},
-                    timeout=SECONDS,
-                    check=False,
-                )
-                if done.returncode:
-                    self._say(f"{what}: {self._words[0]} ended with status {done.returncode}")
-            except (OSError, subprocess.TimeoutExpired) as error:
-                self._say(f"{what}: {error}")
+        while not self._due.empty():
+            self._run_one(*self._due.get())
+
+    def _run_one(self, what: str, about: Dict[str, str]) -> None:
+        env = {**os.environ, **about}
+        try:
+            done = subprocess.run(self._words, stdin=subprocess.DEVNULL, env=env, timeout=SECONDS, check=False)
+            if done.returncode:
+                self._say(f"{what}: {self._words[0]} ended with status {done.returncode}")
+        except (OSError, subprocess.TimeoutExpired) as error:
+            self._say(f"{what}: {error}")

@@ -6,7 +6,7 @@ from typing import Any, Dict, Iterator, List, NamedTuple, Optional
 from ..model.book import Failed
 from ..model.books import reading_book
 from ..model.said import many, shown
-from ..model.store import Store
+from ..model.store import LineCount, Store
 from ..outbound.quarantine import held_of
 from ..outbound.deliver import WrongStore, checked_number
 from ..outbound.export import time_text
@@ -14,19 +14,8 @@ from ..outbound.export import time_text
 #: A state that was written longer ago than this, in seconds, is old; so many failed orders of a line are named.
 OLD, NAMED = 10.0, 20
 _COLUMNS = (
-    "line",
-    "connected",
-    "came",
-    "complete",
-    "queries",
-    "again",
-    "fixed",
-    "incomplete",
-    "invalid",
-    "rejected",
-    "late",
-    "not_stored",
-    "last",
+    *("line", "connected", "came", "complete", "queries", "again", "fixed", "incomplete", "invalid"),
+    *("rejected", "late", "not_stored", "last"),
 )
 
 
@@ -87,24 +76,15 @@ def rows_of(store: Store, state: Dict[str, Any]) -> List[Dict[str, Any]]:
     live: Dict[str, Any] = state.get("lines", {})
     rows = []
     for name in sorted({*kept, *live}):
+        now, one = live.get(name, {}), kept.get(name, LineCount(name, 0, 0, 0, 0, 0, None))
         row: Dict[str, Any] = {
-            one: live.get(name, {}).get(one, 0)
+            one: now.get(one, 0)
             for one in ("connected", "queries", "found_nothing", "rejected", "late", "not_stored", "noise")
         }
-        row["came"] = live.get(name, {}).get("connections", 0)
-        row["late"] += live.get(name, {}).get("late_replies", 0)
-        row["line"] = name
-        one = kept.get(name)
-        row.update(
-            {
-                "complete": one.complete if one else 0,
-                "again": one.again if one else 0,
-                "fixed": one.fixed if one else 0,
-                "incomplete": one.incomplete if one else 0,
-                "invalid": one.invalid if one else 0,
-                "last": time_text(one.last) if one else "",
-            }
-        )
+        row["came"] = now.get("connections", 0)
+        row["late"] += now.get("late_replies", 0)
+        counts = ("line", "complete", "again", "fixed", "incomplete", "invalid")
+        row.update({key: getattr(one, key) for key in counts}, last=time_text(one.last))
         rows.append(row)
     return rows
 
@@ -119,14 +99,9 @@ def data_of(store: Store, state: Dict[str, Any], cursors: List[str]) -> Dict[str
         "state_age": age_of(state),
         "since": time_text(state.get("begun")),
         "process": state.get("process"),
-        "commits": state.get("commits", 0),
-        "failed_commits": state.get("failed_commits", 0),
-        "refused_connections": state.get("refused_connections", 0),
+        **{key: state.get(key, 0) for key in ("commits", "failed_commits", "refused_connections")},
         "lines": rows_of(store, state),
-        "would": state.get("would", {}),
-        "unknown_codes": state.get("unknown_codes", {}),
-        "notices": state.get("notices", {}),
-        "not_said": state.get("not_said", {}),
+        **{key: state.get(key, {}) for key in ("would", "unknown_codes", "notices", "not_said")},
         "undelivered": [{**one._asdict(), "oldest": time_text(one.oldest)} for one in waiting],
         "orders": orders,
         "failed_orders": {line: _failed_of(one) for line, one in failed.items()},
@@ -135,17 +110,10 @@ def data_of(store: Store, state: Dict[str, Any], cursors: List[str]) -> Dict[str
 
 def _failed_of(found: Failed) -> Dict[str, Any]:
     """The orders of a line that have failed, as data. The names of patients stay in the store."""
-    newest = [
-        {
-            "number": one.number,
-            "sample": one.order.sample,
-            "tests": one.order.tests,
-            "reason": one.reason,
-            "tries": one.tries,
-            "at": time_text(one.changed),
-        }
-        for one in found.newest
-    ]
+    newest = []
+    for one in found.newest:
+        about = {"number": one.number, "sample": one.order.sample, "tests": one.order.tests, "reason": one.reason}
+        newest.append({**about, "tries": one.tries, "at": time_text(one.changed)})
     return {"count": found.many, "newest": newest}
 
 

@@ -64,6 +64,10 @@ class Answer(NamedTuple):
     text: str
 
 
+def _alarm(status: int, title: str, why: object) -> Answer:
+    return Answer(status, HTML, page.page(title, f'<p class="alarm">{page.safe(why)}</p>'))
+
+
 class Pages:
     """Makes the pages of a host. It asks the host at most once a second, however many readers there are."""
 
@@ -89,10 +93,9 @@ class Pages:
         try:
             return one(self, given)
         except (StoreError, WatchError) as error:
-            return Answer(503, HTML, page.page("The store can't be read", f'<p class="alarm">{page.safe(error)}</p>'))
+            return _alarm(503, "The store can't be read", error)
         except Exception as error:  # a page that can't be made is no reason to say nothing
-            why = f"{type(error).__name__}: {error}"
-            return Answer(500, HTML, page.page("The page can't be shown", f'<p class="alarm">{page.safe(why)}</p>'))
+            return _alarm(500, "The page can't be shown", f"{type(error).__name__}: {error}")
 
     def _lines(self, _: Dict[str, str]) -> Answer:
         delivered = {os.path.basename(one): sorted(read_took(one)) for one in self._cursors}
@@ -156,20 +159,14 @@ class Pages:
             counts = tally.each(self.host.store, work)
         return Answer(200, metrics.FORM, metrics.metrics_of(data, *counts))
 
-    def _style(self, _: Dict[str, str]) -> Answer:
-        return Answer(200, CSS, page.STYLE)
-
-    def _script(self, _: Dict[str, str]) -> Answer:
-        return Answer(200, JS, page.SCRIPT)
-
     _PATHS: "Dict[str, Callable[[Pages, Dict[str, str]], Answer]]" = {
         "/": _lines,
         "/line": _line,
         "/trouble": _trouble,
         "/message": _message,
         "/metrics": _metrics,
-        "/style.css": _style,
-        "/live.js": _script,
+        "/style.css": lambda self, _: Answer(200, CSS, page.STYLE),
+        "/live.js": lambda self, _: Answer(200, JS, page.SCRIPT),
     }
 
 
@@ -238,12 +235,10 @@ class Handler(BaseHTTPRequestHandler):
     server_version, sys_version = "lislab", ""
 
     def do_GET(self) -> None:
-        """Answers with a page."""
+        """Answers with a page, or with its head alone."""
         self._reply(self._answer())
 
-    def do_HEAD(self) -> None:
-        """Answers with its head."""
-        self._reply(self._answer())
+    do_HEAD = do_GET
 
     def _answer(self) -> Answer:
         self.server.has_come(self.connection)
