@@ -22,7 +22,7 @@ import sys
 import time
 
 from lislab.cli import main as cli
-from lislab.host import asleep, intake, line
+from lislab.host import intake, line, wires
 from lislab.outbound import deliver
 from lislab.model import sql, sqlite, store
 
@@ -145,7 +145,7 @@ def suspended():
         except FileNotFoundError:
             return 0.0
 
-    asleep._drift = drift
+    wires._awake = lambda: wires.clock() + drift()
 
 
 FAULTS = {

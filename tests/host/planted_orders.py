@@ -45,7 +45,7 @@ FAULTS = {
         "order.py", 'if way == "Q-X":', 'if way == "Q":'
     ),
     "test_orders.Answers.test_an_order_that_cannot_be_written": (
-        "host/outbox.py", "if not good and queries and", "if good and queries and"
+        "host/outbox.py", "if batch is None and queries and", "if batch and queries and"
     ),
     "test_orders.Answers.test_worklists": (
         "host/duplex.py", "if asked == self._site.place or (self._site.unasked and", "if asked == self._site.place or (not"
@@ -108,7 +108,7 @@ FAULTS = {
     "test_queries.Queries.test_done": ("host/duplex.py", "self._outbox.came(self._site, sample, tests)", "pass"),
     "test_queries.Queries.test_codes": ("host/outbox.py", "codes.get(test, test) for test", "test for test"),
     "test_queries.Queries.test_a_store_that_gives_no_answer": (
-        "host/outbox.py", "Batch(failure() if is_any else self._nothing", "Batch(self._nothing"
+        "host/outbox.py", "Batch(failure() if is_any else nothing_of(", "Batch(nothing_of("
     ),
     "test_queries.Queries.test_two_analyzers": ("host/outbox.py", "if not found.others or not left:", "if found or not left:"),
     "test_queries.Queries.test_an_answer_waits": (
@@ -125,7 +125,7 @@ FAULTS = {
     "test_queries.Queries.test_settings": ("model/asks.py", "O\\.([34])", "O\\.([345])"),
     "test_orders.OnSerial.test_a_new_host": ("host/duplex.py", "if not self._wire.is_tcp:", "if self._wire.is_tcp:"),
     "test_orders.Unheard.test_long_text": ("host/intake.py", "PIECE, FIRST = 1024, 1 << 16", "PIECE, FIRST = 1 << 20, 1 << 16"),
-    "test_orders.Unheard.test_heard_first": ("host/duplex.py", "if self._inbox.pieces:", "if self._inbox.pieces is None:"),
+    "test_orders.Unheard.test_heard_first": ("host/duplex.py", "if self.inbox.pieces:", "if self._inbox.pieces is None:"),
     "test_orders.Answers.test_last_try": (
         "host/outbox.py", "self._in_vain(site, batch.placed, why, self._tries)", "self._in_vain(site, batch.placed, why, 0)"
     ),

@@ -6,9 +6,9 @@ from collections import Counter
 
 from lislab.diagnosis.events import Observers
 from lislab.host import line
-from lislab.host.commits import Committer
+from lislab.host.storing import Committer
 from lislab.host.intake import Intake
-from lislab.host.keeper import Keeper
+from lislab.host.storing import Keeper
 from lislab.model.store import INCOMPLETE, End, StoreError
 from lislab.model.stores import open_store
 from tests.host.hosts import HostTest

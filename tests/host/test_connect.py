@@ -7,7 +7,7 @@ import time
 import unittest.mock
 
 from lislab.model import lines, options
-from lislab.host import calls, serve, tcp
+from lislab.host import calls, serve, wires
 from lislab.model.stores import open_store
 from lislab.model.books import open_book
 from lislink.order import Order
@@ -283,7 +283,7 @@ class Connect(HostTest):
             transport.get_extra_info.side_effect = ends.get
             place = options.connect_of("4000")
             host = unittest.mock.Mock(stopping=False, asked=unittest.mock.Mock(connects=[place]))
-            tcp.TcpWire(host, calls.Call(place)).connection_made(transport)
+            wires.TcpWire(calls.Call(host, place), host.ticks).connection_made(transport)
             self.same(f"from {own}", (transport.abort.call_count, host.add.call_count), wanted)
         kept = unittest.mock.call(socket.SOL_SOCKET, socket.SO_KEEPALIVE, 1)
         self.true("keep-alives", kept in ends["socket"].setsockopt.call_args_list)

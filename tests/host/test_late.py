@@ -7,7 +7,7 @@ import time
 import unittest.mock
 from collections import Counter
 
-from lislab.host.asleep import Asleep
+from lislab.host.wires import Asleep, clock
 from lislab.host.line import Line, Parts
 from lislab.host.turns import Turns
 from lislab.model.books import open_book
@@ -145,7 +145,7 @@ class Suspended(HostTest):
             wire = unittest.mock.Mock(is_tcp=True, write=sent.append)
             intake, committer, observers, fixer = (unittest.mock.Mock(names=frozenset(), bodies={}) for _ in range(4))
             given = wire, intake, observers, lambda *_: None, Counter(), fixer, committer, Turns()
-            asleep = Asleep(lambda: drift[0])
+            asleep = Asleep(lambda: clock() + drift[0])
             line = Line(Parts(*given, asleep=asleep))
             intake.drop.return_value = []
 
@@ -156,8 +156,8 @@ class Suspended(HostTest):
             intake.take = take
             task = asyncio.ensure_future(line.run())
             for unit in (ENQ, FRAME, ENQ):
-                line.data(unit, asyncio.get_running_loop().time())
-                while line._inbox.pieces or line._inbox.waiter is None:
+                line.inbox.add(unit, asyncio.get_running_loop().time())
+                while line.inbox.pieces or line.inbox.waiter is None:
                     await asyncio.sleep(0.01)
                 asleep.note()
             line.lost()
@@ -170,7 +170,7 @@ class Suspended(HostTest):
     def test_clocks(self):
         """A drift of the clocks counts once it was noted, and a little of it doesn't."""
         drift = [5.0]
-        one = Asleep(lambda: drift[0])
+        one = Asleep(lambda: clock() + drift[0])
         found = []
         for more in (0.0, 0.9, 30.0, 0.0):
             drift[0] += more

@@ -13,10 +13,10 @@ from collections import Counter
 from concurrent.futures import ThreadPoolExecutor
 from typing import get_args
 
-from lislink import FrameFault, frame_bytes
-from lislink.link import LONG_FRAME_TEXT, Owner
+from lislink import FrameFault, _library, frame_bytes
+from lislink.link import LONG_FRAME_TEXT
 from lislab.diagnosis.events import Came, Closed, Event, Late, Observers, Sent
-from lislab.host import line, ports, tcp
+from lislab.host import line, ports, wires
 from lislab.host.intake import Intake
 from lislab.model import options
 from tests.host import walk
@@ -348,7 +348,7 @@ class Lines(HostTest):
             transport.get_extra_info.side_effect = {"peername": peer, "socket": unittest.mock.Mock()}.get
             host = unittest.mock.Mock(stopping=False, lines={}, limits=options.Limits(), refused=0)
             host.asked.networks = options.networks_of(["192.0.2.0/24"])
-            tcp.TcpWire(host, ports.Port(options.listen_of("0"))).connection_made(transport)
+            wires.TcpWire(ports.Port(host, options.listen_of("0")), host.ticks).connection_made(transport)
             found = transport.abort.call_count, host.add.call_count, host.refused
             self.same(f"{peer}: broken off, a line, refused", found, wanted)
             said = [call.args[1] for call in host.notices.say.call_args_list]
@@ -422,7 +422,7 @@ class Lines(HostTest):
             one = line.Line(line.Parts(wire, intake, observers, print, Counter(), fixer, committer, line.Turns()))
             task = asyncio.ensure_future(one.run())
             await asyncio.sleep(0.01)
-            one.data(ENQ, asyncio.get_running_loop().time())
+            one.inbox.add(ENQ, asyncio.get_running_loop().time())
             one.stop("for another connection")
             await asyncio.wait_for(task, 60)
 
@@ -442,7 +442,7 @@ class Lines(HostTest):
             one = line.Line(line.Parts(wire, intake, observers, print, Counter(), fixer, committer, line.Turns()))
             task = asyncio.ensure_future(one.run())
             for unit in (ENQ, frames(TEXTS)[0], EOT):
-                one.data(unit, asyncio.get_running_loop().time())
+                one.inbox.add(unit, asyncio.get_running_loop().time())
             one.lost()
             await asyncio.wait_for(task, 60)
             return sent, [type(event) for event in heard], said
@@ -500,7 +500,7 @@ class Lines(HostTest):
             for number, unit in enumerate([ENQ, *frames(TEXTS)]):
                 calls.append([])
                 alarms.append([])
-                one.data(unit, loop.time())
+                one.inbox.add(unit, loop.time())
                 while wire.write.call_count <= number and not task.done():
                     await asyncio.sleep(0)
                 await asyncio.sleep(0)
@@ -508,13 +508,15 @@ class Lines(HostTest):
             await asyncio.wait_for(task, 60)
             return wire.pause.call_count
 
-        call_at, ways = asyncio.BaseEventLoop.call_at, [Owner._call, Owner._read]
-        noted = [lambda owner, name, *words, way=way: (calls and calls[-1].append(name), way(owner, name, *words))[1]
-                 for way in ways]
+        call_at, library = asyncio.BaseEventLoop.call_at, [_library.calls_of(kind)[0] for kind in ("receiver", "reader")]
+        noted = lambda name, call: lambda *words: (calls and calls[-1].append(name), call(*words))[1]
         timed = lambda loop, at, *words, **how: (alarms and alarms[-1].append(at), call_at(loop, at, *words, **how))[1]
-        with unittest.mock.patch.multiple(Owner, _call=noted[0], _read=noted[1]):
-            with unittest.mock.patch.object(asyncio.BaseEventLoop, "call_at", timed):
-                paused = asyncio.run(runs())
+        with contextlib.ExitStack() as patched:
+            for one in library:
+                those = {name: noted(name, call) for name, call in one.items()}
+                patched.enter_context(unittest.mock.patch.dict(one, those))
+            patched.enter_context(unittest.mock.patch.object(asyncio.BaseEventLoop, "call_at", timed))
+            paused = asyncio.run(runs())
         self.same("calls of a text", calls[2], ["hear", "text_len", "text", "records", "is_open"])
         self.same("timers", [len(some) for some in alarms[2:-1]], [0] * (len(alarms) - 3))
         self.same("pauses", paused, 0)
@@ -569,7 +571,8 @@ class Lines(HostTest):
 
     def test_written_addresses(self):
         """An address of IPv4 and the same one written in IPv6 are counted together."""
-        host, port = unittest.mock.Mock(stopping=False), ports.Port(options.listen_of("0,name=one"))
+        host = unittest.mock.Mock(stopping=False)
+        port = ports.Port(host, options.listen_of("0,name=one"))
         host.asked.networks = options.networks_of(["192.0.2.0/24", "2001:db8::/32"])
         for given, wanted in (
             ("192.0.2.7", "192.0.2.7"),
@@ -579,6 +582,6 @@ class Lines(HostTest):
         ):
             transport = unittest.mock.Mock(spec=asyncio.Transport)
             transport.get_extra_info.side_effect = {"peername": (given, 4000), "socket": unittest.mock.Mock()}.get
-            tcp.TcpWire(host, port).connection_made(transport)
+            wires.TcpWire(port, host.ticks).connection_made(transport)
             self.same(f"{given} is counted as", host.room.has_room.call_args[0][1], wanted)
             self.same(f"{given} is shown as", host.add.call_args[0][2], wanted)

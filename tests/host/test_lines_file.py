@@ -10,7 +10,7 @@ import unittest.mock
 
 from lislink import frame_bytes
 from lislab.model import lines, options
-from lislab.host import ports, tcp
+from lislab.host import ports, wires
 from lislink.link import LONG_FRAME_TEXT
 from tests.host import hosts
 from tests.host.hosts import (
@@ -194,7 +194,7 @@ class LinesFile(HostTest):
             host.asked.networks = options.networks_of(["192.0.2.0/24"])
             text = f"[a]\nlisten = 10.0.5.2:4001\nallow = {given}\n"
             (place,) = lines.lines_of(self.written("allow.lines", text), []).places
-            tcp.TcpWire(host, ports.Port(place)).connection_made(transport)
+            wires.TcpWire(ports.Port(host, place), host.ticks).connection_made(transport)
             self.same(f"{given}: 10.0.5.7 is let in", host.add.call_count == 1, wanted)
 
     def test_reloads(self):

@@ -7,9 +7,8 @@ import select
 import time
 
 from lislink import FrameFault
-from lislab.diagnosis.events import Came, Meant
+from lislab.diagnosis.events import Came, Meant, Watch
 from lislab.diagnosis.notices import CONNECTION, FRAME, LETTERS, Notices
-from lislab.diagnosis.reports import Watch
 from lislink.letters import NOT_LATIN, UTF_8, Letters, looks_like
 from lislink.link import Note, Step
 from lislab.model.books import open_book

@@ -745,7 +745,7 @@ class Unheard(HostTest):
             line = line_of(outbox, sent)
 
             async def take(_):
-                line.data(ENQ, asyncio.get_running_loop().time())
+                line.inbox.add(ENQ, asyncio.get_running_loop().time())
                 outbox.take = nothing
                 return batch
 

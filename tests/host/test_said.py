@@ -7,7 +7,7 @@ import unittest.mock
 
 from lislab.model import postgresql, said
 from lislab.host import serve
-from lislab.host.commits import Committer
+from lislab.host.storing import Committer
 from lislab.model.store import StoreError
 from lislab.model.books import open_book
 from lislink.order import Order

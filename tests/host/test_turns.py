@@ -11,7 +11,7 @@ from concurrent.futures import ThreadPoolExecutor
 
 from lislink import frame_bytes
 from lislab.host import fix, serve, turns as turn
-from lislab.host.commits import Committer
+from lislab.host.storing import Committer
 from lislab.host.fixer import Fixer, Workers
 from lislab.host.intake import Held, Intake
 from lislab.host.line import Line, Parts
@@ -61,12 +61,12 @@ class Side:
     async def asks(self, unit):
         """What is answered to bytes."""
         self.reply = self.loop.create_future()
-        self.line.data(unit, self.loop.time())
+        self.line.inbox.add(unit, self.loop.time())
         return await self.reply
 
     async def ends(self):
         """Ends the session and the line."""
-        self.line.data(EOT, self.loop.time())
+        self.line.inbox.add(EOT, self.loop.time())
         self.line.lost()
         await self.task
 

@@ -191,10 +191,10 @@ class Owner:
             raise
 
     def _text(self) -> bytes:
-        """The text that is there to be copied."""
-        size: int = self._call("text_len")
+        """The text that is there to be copied, after the call that completed it."""
+        size: int = self._calls["text_len"](self._pointer)
         room = _COPIED.room if size <= len(_COPIED.room) else ctypes.create_string_buffer(size)
-        status: int = self._call("text", room, size)
+        status: int = self._calls["text"](self._pointer, room, size)
         if status:
             raise LinkError(status)
         return memoryview(room)[:size].tobytes()

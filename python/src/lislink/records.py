@@ -258,6 +258,9 @@ class Writer(Owner):
             raise TypeError("a record's letter is one character")
         self._check(self._call("record", ord(letter)))
         for field in fields:
+            if type(field) is bytes:
+                self._check(self._call("field", address(field), len(field)))
+                continue
             *others, last = _repeats_of(field)
             for repeat in others:
                 self._put(repeat, "repeat")
@@ -274,10 +277,10 @@ class Writer(Owner):
 
     def texts(self) -> List[bytes]:
         """The text of each record, with its CR."""
-        room, size, texts = (ctypes.c_uint8 * (RECORD_BYTES + 1))(), ctypes.c_size_t(), []
+        room, size, texts = ctypes.create_string_buffer(RECORD_BYTES + 1), ctypes.c_size_t(), []
         for place in range(self._call("texts")):
             self._check(self._call("text", place, room, RECORD_BYTES + 1, ctypes.byref(size)))
-            texts.append(bytes(room[: size.value]))
+            texts.append(ctypes.string_at(room, size.value))
         return texts
 
     @staticmethod

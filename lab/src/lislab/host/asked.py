@@ -6,8 +6,9 @@ from ..diagnosis.notices import Notices
 from ..model.codes import Codes
 from ..model.options import Connect, Limits, Listen, Network, Place, Serial
 from ..model.said import say
-from .line import Line, Ticks, Wire
+from .line import Line
 from .outbox import Outbox
+from .wires import Ticks, Wire
 
 
 class Asked(NamedTuple):

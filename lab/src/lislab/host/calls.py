@@ -8,7 +8,7 @@ from ..model.options import Connect
 from .asked import Hub
 from .line import Line
 from .tasks import Tasks
-from .tcp import TcpWire, why
+from .wires import TcpWire, why
 
 #: Seconds until the host connects to an address again, at first and at most; seconds that it waits for a connection.
 FIRST, MOST, ANSWER = 1.0, 60.0, 10.0
@@ -22,12 +22,15 @@ def asks_for(host: Hub, place: Connect) -> bool:
 class Call:
     """An address that the host connects to by itself: no limit and no network is about it."""
 
-    def __init__(self, place: Connect) -> None:
-        self.place = place
+    def __init__(self, host: Hub, place: Connect) -> None:
+        self._host, self.place = host, place
+        self.line: Optional[Line] = None
 
-    def lets_in(self, host: Hub, _: str) -> bool:
-        """Whether the connection is still asked for."""
-        return asks_for(host, self.place)
+    def begin(self, wire: TcpWire, peer: str) -> Optional[Line]:
+        """Begins its line, if that is still asked for."""
+        if asks_for(self._host, self.place):
+            self.line = self._host.add(wire, self.place, peer)
+        return self.line
 
 
 class Calls:
@@ -69,17 +72,17 @@ class Calls:
     async def _connect(self, place: Connect) -> Optional[Line]:
         """The line to an address, connected. If it can't be reached, the host logs that once."""
         host = self._host
-        wire = TcpWire(host, Call(place))
+        call = Call(host, place)
         loop, seconds, reason = asyncio.get_running_loop(), ANSWER * host.limits.scale, ""
         try:
-            await asyncio.wait_for(loop.create_connection(lambda: wire, place.host, place.port), seconds)
+            await asyncio.wait_for(loop.create_connection(lambda: TcpWire(call, host.ticks), place.host, place.port), seconds)
         except (OSError, ValueError, asyncio.TimeoutError) as error:
             reason = why(error) or "no answer"
-        if wire.line is None and reason:
+        if call.line is None and reason:
             host.said.say(place.name, f"{place.host}:{place.port}: {reason}")
-        elif wire.line is not None:
+        elif call.line is not None:
             host.said.forget(place.name)
-        return wire.line
+        return call.line
 
     async def _pause(self, seconds: float) -> None:
         """Waits so long, or until the file of lines was read again."""

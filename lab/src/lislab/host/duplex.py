@@ -14,9 +14,9 @@ from ..diagnosis.events import Looked, OwnAnswered, OwnFailed, ReplyAfterAll, Se
 from ..diagnosis.notices import OTHER
 from ..model.query import query_of
 from ..model.store import Add, Change
-from .inbox import clock
 from .line import ENQ, NEVER, Ear, Line, Parts
 from .outbox import Batch, Outbox, Site
+from .wires import clock
 
 #: The host starts no session for QUIET seconds after a text that it can't store, and on a serial line after its own
 #: session failed: replies that are on their way have come by then. A query has at most QUERY bytes.
@@ -268,7 +268,7 @@ class TwoWayLine(Line):
         if answer.batch is not None:
             self._ready.append(answer.batch)
         self._has_work = True
-        self._inbox.wake()
+        self.inbox.wake()
 
     async def _take_back(self) -> None:
         """The analyzer cancels its query. Answers that haven't begun are not sent."""
@@ -293,7 +293,7 @@ class TwoWayLine(Line):
     def _woken(self, asked: str, line: str) -> None:
         if asked == self._site.place or (self._site.unasked and not asked and line in ("", self._site.line)):
             self._has_work = True
-            self._inbox.wake()
+            self.inbox.wake()
 
     def _start_at(self) -> float:
         if self._is_busy() or self._stopping or self._lost or not (self._ready or self._has_work):
@@ -305,7 +305,7 @@ class TwoWayLine(Line):
         if batch is None:
             self._has_work = False
             return
-        if self._inbox.pieces:  # what came while the store was asked is heard first
+        if self.inbox.pieces:  # what came while the store was asked is heard first
             self._ready.appendleft(batch)
             return
         try:

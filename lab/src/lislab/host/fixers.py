@@ -7,7 +7,7 @@ from typing import Callable, Dict, Sequence, Tuple
 from ..diagnosis.notices import MESSAGE, Notices
 from ..model.options import Listen, Place
 from ..model.store import LEFT
-from .commits import Committer
+from .storing import Committer
 from .left import Left
 from .fix import Ended
 from .fixer import Fixer, InOrder, Workers, fixed_ends

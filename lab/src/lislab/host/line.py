@@ -12,16 +12,13 @@ from ..diagnosis.events import Came, Closed, Late, Meant, Noise, NotKept, Observ
 from ..diagnosis.notices import REJECTED, TAKEN
 from ..model.options import Limits
 from ..model.store import Change, StoreError
-from .asleep import Asleep
-from .commits import Committer
+from .storing import Committer, Keeper
 from .feeds import LineFeeds
-from .inbox import Inbox, clock
-from .inbox import Wire as Wire
 from .intake import FIRST, Intake, Pool, TextRoom, TooLong
-from .keeper import Keeper
 from .fix import LINE_FEEDS
 from .fixer import Fixer
 from .turns import Share, Turns
+from .wires import Asleep, Inbox, Wire, clock
 
 #: An analyzer that sends EOT so many seconds after the last reply has probably heard no reply.
 BROKEN = 10.0
@@ -94,19 +91,16 @@ class Line:
 
     def __init__(self, parts: Parts) -> None:
         self._wire, self._limits, self._counts = parts.wire, parts.limits, parts.counts
-        self._tell, self._asleep, self.peer = parts.observers.tell, parts.asleep, parts.intake.peer
-        self._inbox = Inbox(parts.wire)
-        #: Takes bytes that came, at this time of the loop's clock or later.
-        self.data = self._inbox.add
-        self._share = Share(parts.turns, self.peer, self._inbox.pause)
+        self._tell, self._asleep, self.inbox = parts.observers.tell, parts.asleep, Inbox(parts.wire)
+        self._share = Share(parts.turns, parts.intake.peer, self.inbox.pause)
         shared = parts.committer, parts.fixer, self._share, parts.observers, parts.counts, parts.say
         self.keeper = Keeper(parts.intake, *shared, self._took_fixed)
         #: Passes frames that may hold LF on to the receiver; None if the line's frames may not.
         self._feeds = LineFeeds(parts.frame, parts.is_careful) if parts.fixer.names & LINE_FEEDS else None
         self._ear: Ear = self._begin(parts.frame, parts.is_careful)
         self._room = TextRoom(parts.room, self._has_room)
-        #: When the timer is over; whether the last frame was taken; when a reply was sent last.
-        self._due, self._is_taken, self._replied = NEVER, False, 0.0
+        #: When the timer is over; when the last frame was acknowledged, long ago if it was rejected.
+        self._due, self._acknowledged = NEVER, -NEVER
         #: When bytes came last, by the loop's clock; whether there was a session; how many ENQ and STX were noise.
         self.last_byte, self.had_session, self._noise = clock(), False, 0
         #: Whether the connection is gone; whether the line is to be closed between sessions, or at once; and why.
@@ -170,16 +164,16 @@ class Line:
     def lost(self, why: str = "by the other end") -> None:
         """The connection is gone. What came before is still heard."""
         self._lost, self._closed = True, self._closed or why
-        self._inbox.wake()
+        self.inbox.wake()
 
     def stop(self, why: str) -> None:
         """Closes the line as soon as no session goes on."""
         self._stopping, self._closed = True, self._closed or why
-        self._inbox.wake()
+        self.inbox.wake()
 
     def cut(self, why: str) -> None:
         """Closes the line at once, also within a session: what came and isn't answered yet is too old."""
-        self._inbox.clear()
+        self.inbox.clear()
         self._is_cut = True
         self.stop(why)
 
@@ -187,9 +181,9 @@ class Line:
         """Hears the line until it is closed."""
         why = "the line was closed before its L record"
         try:
-            while not (self._stopping and self._is_through()) and (self._inbox.pieces or not self._lost):
+            while not (self._stopping and self._is_through()) and (self.inbox.pieces or not self._lost):
                 now = clock()
-                if self._inbox.pieces:
+                if self.inbox.pieces:
                     await self._hear(now)
                 elif now >= self._due:
                     await self._timed(now)
@@ -201,7 +195,7 @@ class Line:
                     break
                 else:
                     self._share.rests()
-                    await self._inbox.wait(min(self._due, start, idle))
+                    await self.inbox.wait(min(self._due, start, idle))
                     self._share.goes_on()
         except asyncio.CancelledError:
             why = "the host was stopped"
@@ -215,7 +209,7 @@ class Line:
             self._ear.close()
             self._tell(Closed(self._closed or "after a fault"))
             self._wire.close()
-            self._inbox.stop()
+            self.inbox.stop()
 
     def _is_through(self) -> bool:
         """Returns whether the line is to be closed now. Bytes that came since, as ENQ, are not heard."""
@@ -223,7 +217,7 @@ class Line:
 
     async def _hear(self, now: float) -> None:
         """Hears the next piece."""
-        arrived, data = self._inbox.take()
+        arrived, data = self.inbox.take()
         self.last_byte = now
         if arrived >= self._due:
             await self._timed(now)
@@ -232,7 +226,7 @@ class Line:
         await self._heard(data, arrived)
         if self._room.open > FIRST or self._room.has:
             self._room.look(self._ear.held)
-        if self._inbox.pieces:
+        if self.inbox.pieces:
             await self._share.take_turns()
 
     def _note_noise(self) -> None:
@@ -252,15 +246,18 @@ class Line:
             self._note_noise()
         if note in _ENDS:
             self.had_session = self.had_session or note is Note.OPENED
-            is_over = self._is_taken and arrived - self._replied < BROKEN * self._limits.scale
+            is_over = arrived - self._acknowledged < BROKEN * self._limits.scale
             is_over = is_over and note is Note.ENDED and not is_enq
             self.keeper.drop(_NOISE if is_enq and note is Note.ENDED else _ENDS[note], is_over)
-        self._is_taken = note in TAKEN or (self._is_taken and note not in REJECTED)
         if step.text is not None and not await self._keep(step.text):
             return
         now = clock()
         if step.reply and not self._answer(step.reply, arrived, now, has_text):
             return
+        if note in TAKEN:
+            self._acknowledged = now
+        elif note in REJECTED:
+            self._acknowledged = -NEVER
         self._set_timer(now)
 
     def _answer(self, reply: bytes, arrived: float, now: float, is_kept: bool) -> bool:
@@ -276,7 +273,6 @@ class Line:
             return False
         self._tell(Sent(reply, now - arrived, is_kept))
         self._wire.write(reply)
-        self._replied = now
         return True
 
     async def _keep(self, text: bytes) -> bool:
@@ -301,23 +297,3 @@ class Line:
         self._tell(Restarted())
         self.keeper.drop(reason)
         self._room.look(self._ear.held)
-
-
-class Ticks:
-    """The earliest time at which bytes can have come. A host that was stopped, or was busy, reads late what came long
-    before. What a turn of the loop reads was not there in the turn before it, and that turn began after the last tick
-    but one. So `before`, the time of that tick, is early enough, however long the host was stopped."""
-
-    def __init__(self, period: float, look: Callable[[], None] = lambda: None) -> None:
-        self._loop, self._period, self._look = asyncio.get_running_loop(), period, look
-        self._last = self.before = self._loop.time()
-        self._handle = self._loop.call_later(period, self._tick)
-
-    def _tick(self) -> None:
-        self.before, self._last = self._last, self._loop.time()
-        self._handle = self._loop.call_later(self._period, self._tick)
-        self._look()
-
-    def stop(self) -> None:
-        """Ends the ticks."""
-        self._handle.cancel()

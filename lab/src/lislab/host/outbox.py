@@ -252,7 +252,7 @@ class Outbox:
         command, is_silent = site.asks.command or self._command, site.none == "silence"
         if command:
             texts = await self._asked_of_command(site, command, message)
-            batch = Batch(texts or self._nothing(site, queries)) if texts or not is_silent else None
+            batch = None if is_silent and not texts else Batch(texts or nothing_of(queries[0].row, site.none))
             return Answer(batch, any(text[:1] in b"Oo" for text in texts))
         found = await self._look_up(site, [one.wanted for one in queries])
         if found is not None and found.found:
@@ -262,7 +262,7 @@ class Outbox:
         is_any = found is None or found.others > 0
         if is_silent:
             return Answer(None, is_any)
-        return Answer(Batch(failure() if is_any else self._nothing(site, queries)), is_any)
+        return Answer(Batch(failure() if is_any else nothing_of(queries[0].row, site.none)), is_any)
 
     def _note(self, place: str, seat: str, queries: Sequence[Query]) -> None:
         """Orders are to be sent for these queries."""
@@ -308,10 +308,6 @@ class Outbox:
             self._say(f"{site.line}: a query can't be cancelled: {error}")
         self._in_hand.difference_update(numbers)
 
-    @staticmethod
-    def _nothing(site: Site, queries: Sequence[Query]) -> List[bytes]:
-        return nothing_of(queries[0].row, site.none)
-
     async def _asked_of_command(self, site: Site, command: Sequence[str], message: bytes) -> List[bytes]:
         """The records that the command prints, each a text; none, with the reason in the log, if they are no
         messages."""
@@ -343,11 +339,15 @@ class Outbox:
                 return None
             # None of what was asked for is taken: it is another connection's, or somebody has it for now.
             queries = self._noted(site) if place and placed else []
-            good = [one for one in placed if self._can_be_written(site, one)]
-            if not good and queries and site.none != "silence":
-                return Batch(self._nothing(site, queries))
-            if good:
-                return await self._batch_of(site, good, place, queries)
+            try:
+                batch = await self._batch_of(site, placed, place, queries)
+            except OrderError:  # one of them can't be written: the others are sent without it
+                good = [one for one in placed if self._can_be_written(site, one)]
+                batch = await self._batch_of(site, good, place, queries)
+            if batch is None and queries and site.none != "silence":
+                return Batch(nothing_of(queries[0].row, site.none))
+            if batch is not None:
+                return batch
         return None
 
     def _kept_for(self, site: Site) -> Optional[Batch]:
@@ -360,18 +360,23 @@ class Outbox:
                     return batch
         return None
 
-    async def _batch_of(self, site: Site, placed: List[Placed], place: str, queries: Sequence[Query]) -> Batch:
-        """The orders that go together: fewer of them after a session with them was rejected."""
-        lot = min(self._lots.get(one.number, len(placed)) for one in placed)
+    async def _batch_of(
+        self, site: Site, placed: List[Placed], place: str, queries: Sequence[Query]
+    ) -> Optional[Batch]:
+        """The orders that go together: fewer of them after a session with them was rejected. OrderError if they can't
+        be written."""
+        lot = min((self._lots.get(one.number, len(placed)) for one in placed), default=0)
         now, later = placed[:lot], placed[lot:]
-        if later:
-            self._note(site.place, site.seat, queries)
-            await self._give_back(later)
+        if not now:
+            return None
         report, end = (QUERIED, NORMAL if later else ANSWERED) if place else (ORDERED, NORMAL)
         beside = functools.partial(_beside, site, queries)
         orders = [self._coded(site, one.order) for one in now]
         how: Dict[str, Any] = {"report": report, "end": end, "beside": beside, "component": site.component}
         texts = texts_of(orders, site.encoding, **how)
+        if later:
+            self._note(site.place, site.seat, queries)
+            await self._give_back(later)
         return Batch(texts, now, queries)
 
     async def _give_back(self, placed: Sequence[Placed]) -> None:

@@ -11,9 +11,8 @@ from collections import Counter
 from typing import Any, Dict, List, Mapping, Optional
 
 from ..diagnosis.board import Board
-from ..diagnosis.events import Observers
+from ..diagnosis.events import Observers, Watch
 from ..diagnosis.notices import CONNECTION, Notices
-from ..diagnosis.reports import Watch
 from ..diagnosis.tape import Tape
 from ..model.options import Listen, OptionError, Place
 from ..model.said import say
@@ -21,13 +20,12 @@ from ..model.store import Store, StoreError
 from . import fix, systemd
 from .asked import Asked as Asked
 from .asked import SaidOnce, warn
-from .asleep import Asleep
 from .calls import Calls
-from .commits import Committer
+from .storing import Committer
 from .duplex import TwoWayLine
 from .intake import Held, Intake, Pool
 from .left import Left
-from .line import Line, Parts, Ticks, Wire
+from .line import Line, Parts
 from .fixers import Fixers
 from .outbox import Outbox, Site
 from .plainlink import PlainLine
@@ -37,6 +35,7 @@ from .state import STATUS, Counts, StateFile
 from .tasks import Tasks
 from .turns import Turns
 from .unknown import Unknown
+from .wires import Asleep, Ticks, Wire
 
 #: So many bytes of long messages are held until they end, to be fixed if they aren't complete; and so many of long
 #: texts until they are complete.
@@ -94,7 +93,7 @@ class Host:
         task = asyncio.ensure_future(line.run())
         self.lines[line], self._places[line] = task, place
         if isinstance(place, Listen):
-            self.room.add(line, place.name)
+            self.room.add(line, peer, place.name)
         task.add_done_callback(lambda done: self._over(line, done))
         return line
 

@@ -9,7 +9,7 @@ import termios
 from typing import Callable, Optional, Tuple
 
 from ..model.options import OptionError, Serial
-from .line import Line, Wire
+from .wires import Hears, Wire
 
 #: What asks Linux for the speeds of a terminal as numbers, and where they are in its answer; how far a speed may be
 #: from the one that is asked for, since a clock is divided by whole numbers.
@@ -117,9 +117,9 @@ class SerialWire(Wire):
         self._descriptor, self._arrived, self._late = descriptor, arrived, late
         self._loop = asyncio.get_running_loop()
         self._alarm: Optional[asyncio.TimerHandle] = None
-        self.line: Optional[Line] = None
+        self.line: Optional[Hears] = None
 
-    def begin(self, line: Line) -> None:
+    def begin(self, line: Hears) -> None:
         """Reads for this line from here on."""
         self.line = line
         self.resume()
@@ -133,7 +133,7 @@ class SerialWire(Wire):
         except OSError:
             data = b""
         if data:
-            self.line.data(data, self._arrived())
+            self.line.inbox.add(data, self._arrived())
         else:
             self.pause()
             self.line.lost("since its device is gone")

@@ -1,27 +1,166 @@
-"""Stores the texts of a line, and reports what becomes of its messages. The reply to a text waits for its storage."""
+"""Stores texts. A line's keeper turns each text into changes, and the reply to the text waits until these are stored;
+it reports what becomes of the line's messages. One thread, the committer's, stores together what all lines wait for, so a
+slow disk delays no line's reading."""
 import asyncio
 import functools
-from collections import Counter
-from typing import Callable, Dict, List, Optional, Sequence
+import threading
+import time
+from collections import Counter, deque
+from queue import Empty, SimpleQueue
+from typing import Callable, Deque, Dict, List, NamedTuple, Optional, Sequence
 
 from ..diagnosis.events import MessageEnded, Observers
 from ..diagnosis.notices import LETTERS, MESSAGE
-from ..model.store import COMPLETE, FIXED, INCOMPLETE, Add, Change, End
-from .commits import Committer
-from .intake import Intake
+from ..model.store import COMPLETE, FIXED, INCOMPLETE, Add, Change, End, Store, StoreError, Unit
 from .fix import Ended
 from .fixer import Bodies, Fixer, fixed_ends
+from .intake import Intake
 from .turns import Share
 
 #: How many bytes of a long text one row has.
-TOGETHER = 1 << 14
+ROW = 1 << 14
+#: The most changes of one commit, if it has more than one unit; the most units that are owed.
+TOGETHER, OWED = 500, 10000
+#: How often these are tried at the end. What is still open then becomes incomplete at the next start.
+LAST_TRIES = 5
+
+
+class _Waiting(NamedTuple):
+    """A unit that is to be stored, and its future. An error ends the future, unless the unit is owed."""
+
+    unit: Unit
+    done: "asyncio.Future[None]"
+    is_long: bool
+    is_owed: bool
+
+
+class Committer:
+    """Stores units in the order in which they are put."""
+
+    def __init__(self, store: Store, say: Callable[[str], None]) -> None:
+        self._store, self._say = store, say
+        self._loop = asyncio.get_running_loop()
+        #: What the lines put; None at the end.
+        self._put: "SimpleQueue[Optional[_Waiting]]" = SimpleQueue()
+        #: What the thread has taken from there: units, parts of long texts, and units that could not be stored.
+        self._waiting: Deque[_Waiting] = deque()
+        self._long: Deque[_Waiting] = deque()
+        self._owed: Deque[_Waiting] = deque(maxlen=OWED)
+        #: How many changes of one line are stored at once.
+        self.part = store.part
+        #: When what is owed is tried again, and how many changes then; whether the host stops.
+        self._next_try, self._some, self._stopping = 0.0, 1, False
+        #: How many commits were made, and how many failed.
+        self.commits = self.failed = 0
+        self._thread = threading.Thread(target=self._run, name="commits", daemon=True)
+        self._thread.start()
+
+    def put(self, unit: Unit, is_long: bool = False, is_owed: bool = False) -> "asyncio.Future[None]":
+        """Returns a future, which is done when the unit is on the disk; StoreError if it can't be. A commit has at most
+        one part of a long text, so that other lines don't wait for all of it."""
+        done = self._loop.create_future()
+        self._put.put(_Waiting(unit, done, is_long, is_owed))
+        return done
+
+    def put_later(self, unit: Unit, is_long: bool = False) -> "asyncio.Future[None]":
+        """The same for a unit for which no reply waits. If it can't be stored, it is owed: it is tried again until it
+        is."""
+        return self.put(unit, is_long, True)
+
+    async def stop(self) -> None:
+        """Stores what is still waiting, and ends the thread."""
+        self._put.put(None)
+        while self._thread.is_alive():
+            await asyncio.sleep(0.01)
+        await asyncio.sleep(0)
+
+    def _run(self) -> None:
+        while self._take():
+            one = [self._long.popleft()] if self._long else []
+            batch = [*_some_of(self._waiting, TOGETHER), *one]
+            if (not batch or self._commit(batch)) and self._owed:
+                self._commit_owed()
+        tries = LAST_TRIES
+        while self._owed and tries:
+            self._next_try = 0.0
+            tries -= 0 if self._commit_owed() else 1
+
+    def _take(self) -> bool:
+        """Takes what the lines have put. If there is nothing to store, it waits for that, or until what is owed is due.
+        Returns False once the host stops and all is stored."""
+        is_idle = not (self._waiting or self._long or self._stopping)
+        while is_idle or not self._put.empty():
+            try:
+                one = self._put.get(timeout=max(0.0, self._next_try - time.monotonic()) if self._owed else None)
+            except Empty:
+                break
+            is_idle = False
+            if one is None:
+                self._stopping = True
+            else:
+                (self._long if one.is_long else self._waiting).append(one)
+        return bool(self._waiting or self._long or not self._stopping)
+
+    def _commit_owed(self) -> bool:
+        """Tries to store some of what is owed, if that is due. Returns False if it failed. It is then tried after the
+        others, and one by one, so that none holds up another."""
+        now = time.monotonic()
+        if now < self._next_try:
+            return True
+        if self._commit(_some_of(self._owed, self._some), is_again=True):
+            self._some = min(2 * self._some, TOGETHER)
+            return True
+        self._next_try, self._some = now + 1, 1
+        return False
+
+    def _commit(self, batch: List[_Waiting], is_again: bool = False) -> bool:
+        """Stores a batch, and ends its futures on the thread of the lines. Returns whether it is stored: if it isn't,
+        those units of it are owed from now on that have to be, or are again."""
+        fault: Optional[Exception] = None
+        try:
+            self._store.commit([one.unit for one in batch])
+            self.commits += 1
+        except Exception as error:  # also a fault of the store's own is no reason to lose the thread
+            fault = error if isinstance(error, StoreError) else StoreError(f"{type(error).__name__}: {error}")
+            self._owed.extend(one for one in batch if one.is_owed)
+            if is_again:
+                return False
+            self.failed += 1
+            batch = [one for one in batch if not one.is_owed]
+        try:
+            self._loop.call_soon_threadsafe(_settle, batch, fault, self._say)
+        except RuntimeError:
+            pass  # the loop is closed: nobody waits any more
+        return fault is None
+
+
+def _some_of(queue: Deque[_Waiting], most: int) -> List[_Waiting]:
+    """Takes what goes into one commit."""
+    batch: List[_Waiting] = []
+    size = 0
+    while queue and (not batch or size + len(queue[0].unit) <= most):
+        batch.append(queue.popleft())
+        size += len(batch[-1].unit)
+    return batch
+
+
+def _settle(batch: List[_Waiting], fault: Optional[Exception], say: Callable[[str], None]) -> None:
+    for one in batch:
+        if one.done.done():
+            continue
+        if fault is None:
+            one.done.set_result(None)
+        else:
+            one.done.set_exception(fault)
+    if fault is not None:
+        say(f"not stored: {fault}")
 
 
 def _join(part: List[Change], changes: List[Change]) -> None:
     """Adds changes to a part. Bytes of one message that follow each other become one row."""
     if changes:
         last, first = part[-1], changes[0]
-        if isinstance(last, Add) and isinstance(first, Add) and last.key == first.key and len(last.body) < TOGETHER:
+        if isinstance(last, Add) and isinstance(first, Add) and last.key == first.key and len(last.body) < ROW:
             part[-1] = last._replace(body=last.body + first.body)
             changes = changes[1:]
     part += changes
