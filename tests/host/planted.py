@@ -274,7 +274,7 @@ FAULTS = {
     ),
     "test_fixes.Fixes.test_query": Edit("host/duplex.py", "feed(body[: QUERY + 1])", "feed(body[:9])"),
     "test_fixes.Fixes.test_repeats": Edit("cli/serve.py", "place.name: place.fix for", "place.name: () for"),
-    "test_fixes.Fixes.test_left": Edit("host/left.py", 'one.body.endswith((b"\\r", b"\\n"))', "False"),
+    "test_fixes.Fixes.test_left": Edit("host/fixers.py", 'one.body.endswith((b"\\r", b"\\n"))', "False"),
     "test_fixes.Fixes.test_order": Edit("host/storing.py", "            await self._fixer.order.over()", "            pass"),
     "test_fixes.Fixes.test_a_stop_starts_nothing": Edit("host/fixer.py", "        self._is_stopped = True\n", ""),
     "test_fixes.Fixes.test_tries_delay_nobody": Edit("host/fixer.py", 'self._run("tries", ', 'self._run("short", '),

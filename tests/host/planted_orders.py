@@ -61,8 +61,8 @@ FAULTS = {
     ),
     "test_orders.Answers.test_contention": (
         "host/duplex.py",
-        "elif self._station.phase is Phase.BUSY:\n            self._asked_in_vain()",
-        "elif self._station.phase in (Phase.BUSY, Phase.CONTENTION):\n            self._station.give_up()",
+        "            self._give_up_at(self._contended)\n",
+        "            self._station.give_up()\n",
     ),
     "test_orders.Answers.test_a_busy_analyzer": (
         "host/duplex.py", "scale = self._station.seconds, self", "scale = self._station.seconds and 1, self"

@@ -8,7 +8,7 @@ import os
 import tempfile
 import unittest.mock
 
-from lislab.host.left import left_of
+from lislab.host.fixers import left_of
 from lislab.model.store import COMPLETE, INCOMPLETE, Add, Begin, End, StoreError
 from lislab.model.stores import open_store
 from tests.host.hosts import HostTest, wait_for

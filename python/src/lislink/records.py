@@ -259,7 +259,9 @@ class Writer(Owner):
         self._check(self._call("record", ord(letter)))
         for field in fields:
             if type(field) is bytes:
-                self._check(self._call("field", address(field), len(field)))
+                status = self._call("field", address(field), len(field))
+                if status:
+                    raise LinkError(Status(status))
                 continue
             *others, last = _repeats_of(field)
             for repeat in others:

@@ -11,7 +11,7 @@ from typing import Callable, Optional, Sequence, Union
 
 from lislink._library import calls
 from ..host import serve
-from ..host.left import left_of
+from ..host.fixers import left_of
 from ..host.outbox import Outbox
 from ..model import lines, options, renamed
 from ..model.books import open_book

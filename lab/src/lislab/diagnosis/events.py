@@ -1,5 +1,5 @@
-"""The events of a line, for its observers: the line waits for none of them, and none can break it. And the observer that
-logs a connection's rejected frames, sessions without an accepted frame, bytes without a session, noise."""
+"""The events of a line, for its observers: the line waits for none of them, and none can break it. And the observer
+that logs a connection's rejected frames, sessions without an accepted frame, bytes without a session, noise."""
 from typing import Callable, Dict, List, Mapping, NamedTuple, Optional, Sequence, Type, Union
 
 from lislink.codes import FrameFault, Note

@@ -75,7 +75,8 @@ class Calls:
         call = Call(host, place)
         loop, seconds, reason = asyncio.get_running_loop(), ANSWER * host.limits.scale, ""
         try:
-            await asyncio.wait_for(loop.create_connection(lambda: TcpWire(call, host.ticks), place.host, place.port), seconds)
+            made = loop.create_connection(lambda: TcpWire(call, host.ticks), place.host, place.port)
+            await asyncio.wait_for(made, seconds)
         except (OSError, ValueError, asyncio.TimeoutError) as error:
             reason = why(error) or "no answer"
         if call.line is None and reason:

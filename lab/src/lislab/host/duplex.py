@@ -188,10 +188,13 @@ class TwoWayLine(Line):
         elif answer.send:
             self._asked = clock()
             self._send(answer.send)
-        elif self._station.phase is Phase.BUSY:
-            self._asked_in_vain()
+        elif self._station.phase is Phase.BUSY:  # the analyzer doesn't give the line: the host asks again a few times
+            self._busy += 1
+            self._give_up_at(self._busy)
         elif self._phase is Phase.CONTENTION and before is not Phase.CONTENTION:
-            self._both_asked()
+            # The analyzer asks for the line as well, and comes first. It may then send nothing a few times.
+            self._contended += 1
+            self._give_up_at(self._contended)
         self._set_timer(clock())
         if self._sending is not None and self._station.phase is Phase.NEUTRAL:
             self._session_over(self._sending)
@@ -203,17 +206,9 @@ class TwoWayLine(Line):
             self._counts["late_replies"] += 1
             self._tell(ReplyAfterAll(data[0]))
 
-    def _asked_in_vain(self) -> None:
-        """The analyzer doesn't give the line. The host asks again a few times."""
-        self._busy += 1
-        if self._busy >= BUSY:
-            self._station.give_up()
-
-    def _both_asked(self) -> None:
-        """The analyzer asks for the line as well, and comes first. If it then sends nothing a few times, the host gives
-        its session up."""
-        self._contended += 1
-        if self._contended >= BUSY:
+    def _give_up_at(self, times: int) -> None:
+        """Gives the host's session up, if its ENQ was in vain too many times."""
+        if times >= BUSY:
             self._station.give_up()
 
     async def _keep(self, text: bytes) -> bool:

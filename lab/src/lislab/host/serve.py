@@ -24,9 +24,8 @@ from .calls import Calls
 from .storing import Committer
 from .duplex import TwoWayLine
 from .intake import Held, Intake, Pool
-from .left import Left
 from .line import Line, Parts
-from .fixers import Fixers
+from .fixers import Fixers, Left
 from .outbox import Outbox, Site
 from .plainlink import PlainLine
 from .ports import LineRoom, Ports

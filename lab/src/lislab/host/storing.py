@@ -1,6 +1,6 @@
 """Stores texts. A line's keeper turns each text into changes, and the reply to the text waits until these are stored;
-it reports what becomes of the line's messages. One thread, the committer's, stores together what all lines wait for, so a
-slow disk delays no line's reading."""
+it reports what becomes of the line's messages. One thread, the committer's, stores together what all lines wait for, so
+a slow disk delays no line's reading."""
 import asyncio
 import functools
 import threading

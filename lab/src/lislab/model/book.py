@@ -4,7 +4,7 @@ import contextlib
 import itertools
 import json
 import time
-from typing import Any, Callable, Collection, Dict, Iterable, Iterator, List, NamedTuple, Optional, Sequence, Tuple
+from typing import Any, Callable, Collection, Dict, Iterable, Iterator, List, NamedTuple, Optional, Sequence, Set, Tuple
 
 from lislink.order import Order, OrderError, order_of
 from .schema import LATER
@@ -113,6 +113,8 @@ class OrderBook:
         self._store, self._host, self._clock = store, host, clock
         #: The orders that this host had in its hands when it died: they wait again.
         self.left: List[int] = []
+        #: The columns of the table that were there when they were asked for last.
+        self._columns_there: Set[str] = set()
 
     def start(self) -> None:
         """Makes the tables if they are missing, and gives back what this host held when it died; StoreError."""
@@ -135,9 +137,11 @@ class OrderBook:
         """Whether there is a table of orders."""
         return self._store.has("orders")
 
-    def _known(self) -> List[str]:
-        """The columns of the table."""
-        return [str(one[0]) for one in self._store.run("SELECT * FROM orders LIMIT 0").description]
+    def _known(self) -> Set[str]:
+        """The columns of the table. Once they are all there, the store isn't asked again."""
+        if not self._columns_there >= LATER.keys():
+            self._columns_there = {str(one[0]) for one in self._store.run("SELECT * FROM orders LIMIT 0").description}
+        return self._columns_there
 
     def _shown(self) -> str:
         """The state that is shown, in SQL. A store that an earlier version made may be read before it is changed."""
