@@ -196,7 +196,9 @@ FAULTS = {
     "test_lines.Lines.test_long_frames": Edit(
         "host/line.py", "Receiver(frame_limit=frame, careful=is_careful)", "Receiver(careful=is_careful)"
     ),
-    "test_lines.Lines.test_peers": Edit("host/wires.py", "if name is None or", "if"),
+    "test_lines.Lines.test_peers": Edit(
+        "host/wires.py", "if self._line is None:\n            transport.abort()\n", "if self._line is None:\n            pass\n"
+    ),
     "test_lines.Lines.test_quarantine": Edit(
         "host/intake.py", "one.fault or _after(one, reason), changes", "_after(one, reason), changes"
     ),
