@@ -58,6 +58,14 @@ def folder_of(test):
     return made.name
 
 
+def file_of(test, name, data):
+    """A file with these bytes or this text, in a folder that is removed after the test."""
+    path = os.path.join(folder_of(test), name)
+    with open(path, "wb") as file:
+        file.write(data if isinstance(data, bytes) else data.encode())
+    return path
+
+
 def without_library(**more):
     """The environment of a user whose library and package are installed."""
     left_out = ("LISLINK_LIBRARY", "PYTHONPATH")

@@ -28,9 +28,7 @@ class Words(kit.Test):
     def test_wrong_code_is_noticed(self):
         """One that leaves away a byte, and one that takes a word that isn't there."""
         for old, new in (("if (size == out_len)", "if (size + 1 >= out_len)"), ("i >= count || ", "")):
-            path = os.path.join(kit.folder_of(self), "system.c")
-            with open(path, "w", encoding="utf-8") as file:
-                file.write(kit.read(SYSTEM).replace(old, new))
+            path = kit.file_of(self, "system.c", kit.read(SYSTEM).replace(old, new))
             ran = subprocess.run([built(self, path), "word"], capture_output=True, check=False)
             self.check(ran.returncode != 0, f"{new} passes")
 

@@ -78,9 +78,7 @@ def meaning_of(text):
 class Records(FieldTest):
     def test_a_file_that_cannot_be_written(self):
         """What was in the file is still there, and the status says so."""
-        path = os.path.join(kit.folder_of(self), "results.csv")
-        with open(path, "wb") as file:
-            file.write(b"old")
+        path = kit.file_of(self, "results.csv", b"old")
         panel = os.path.join(SAMPLES, "panel.records")
         self.same("status", in_a_full_disk(["table", panel, "-o", path]).returncode, 3)
         with open(path, "rb") as file:

@@ -58,12 +58,8 @@ class Replay(kit.Test):
     def test_both_ways(self):
         """Sessions of the computer's: the sessions, and the lines with a difference."""
         kit.library()
-        folder = kit.folder_of(self)
         for name, (lines, sessions, wanted) in COMPUTER.items():
-            path = os.path.join(folder, "one.capture")
-            with open(path, "w", encoding="ascii") as file:
-                file.write("".join(line + "\n" for line in lines))
-            ran = lislab("replay", path)
+            ran = lislab("replay", kit.file_of(self, "one.capture", "".join(line + "\n" for line in lines)))
             rows = ran.text.splitlines()
             self.same(f"{name}: differences", [int(row.split()[1]) for row in rows if row.startswith("diff")], wanted)
             self.same(f"{name}: sessions", int(rows[-1].split()[3]), sessions)

@@ -139,19 +139,18 @@ class Plays(kit.Test):
 
     def test_no_host(self):
         """Nobody is there: status 3. A host that closes the line: a difference."""
-        with open(os.path.join(kit.folder_of(self), "asks.play"), "wb") as file:
-            file.write(b"play 1\n> ENQ\n< ACK\n> EOT\nend\n")
-        ran = play(file.name, "--to", "127.0.0.1:9", "--within", "0.2")
+        path = kit.file_of(self, "asks.play", b"play 1\n> ENQ\n< ACK\n> EOT\nend\n")
+        ran = play(path, "--to", "127.0.0.1:9", "--within", "0.2")
         self.same("nobody is there", (ran.status, ran.lines), (3, ["steps 0 differences 0, and the play stopped"]))
         self.has("and it is said", ran.error, "the line failed: can't connect to 127.0.0.1:9: Connection refused")
-        ran = play(file.name, "--listen", "0", "--within", "0.2")
+        ran = play(path, "--listen", "0", "--within", "0.2")
         self.same("nobody connects", (ran.status, "nobody connected" in ran.error), (3, True))
         for words in (["--to", "127.0.0.1:9", "--listen", "0"], [], ["--to", "nonsense"], ["--listen", "0.0.0.0:0"],
                       ["--to", "127.0.0.1:9", "--same-but", "NONSENSE"],
                       ["--to", "127.0.0.1:9", "--kept", "true", "--store", "a"],
                       ["--to", "127.0.0.1:9", "--as", "host"]):
-            self.same(f"words {words}", play(file.name, *words).status, 2)
-        ran = Plain(self).play(file.name, "--kept", "false")
+            self.same(f"words {words}", play(path, *words).status, 2)
+        ran = Plain(self).play(path, "--kept", "false")
         self.check(ran.status == 0, "what is kept isn't asked without K", ran.error)
         for words in (["--kept", "false"], ["--kept", "/nonsense"], ["--store", "/nonsense.db"],
                       ["--store", "spool:/nonsense"]):
@@ -162,9 +161,8 @@ class Plays(kit.Test):
     def test_closed(self):
         """A host that closes the line in place of a reply; the play goes on at the next session, and waits for no
         timer, which would take minutes."""
-        path = os.path.join(kit.folder_of(self), "two.play")
-        with open(path, "wb") as file:
-            file.write(b'play 1\n> ENQ\n< ACK\n> "H|1"\n< ACK\n> EOT\n> ENQ\n< ACK\n> EOT\nend\n')
+        data = b'play 1\n> ENQ\n< ACK\n> "H|1"\n< ACK\n> EOT\n> ENQ\n< ACK\n> EOT\nend\n'
+        path = kit.file_of(self, "two.play", data)
         code = ("for at in range(2):\n"
                 "    line, _ = s.accept(); line.recv(1); line.sendall(b'\\6'); at or (line.recv(99), line.close())\n"
                 "line.recv(99)")
@@ -208,9 +206,7 @@ class Plays(kit.Test):
 
     def test_surplus(self):
         """What comes and isn't wanted: before a step, and at the end."""
-        path = os.path.join(kit.folder_of(self), "surplus.play")
-        with open(path, "wb") as file:
-            file.write(b"play 1\nT 5\n> NAK\nT 11\nend\n")
+        path = kit.file_of(self, "surplus.play", b"play 1\nT 5\n> NAK\nT 11\nend\n")
         ran = Plain(self, "worklist", scale=SHORT).play(path)
         self.same("what came", ran.lines, ["difference 3 - ENQ", "difference end - ENQ", "steps 3 differences 2"])
 
@@ -282,18 +278,15 @@ class Lines(kit.Test):
 
     def test_both_ends(self):
         """One script, played at both ends of a line, has no difference; if one end has another, both notice it."""
-        folder = kit.folder_of(self)
         for name in ("noise", "etb-over-records"):
             path = os.path.join(PLAYS, "results", f"{name}.play")
             process, port = self.listening(path, "--as", "computer")
             ran = play(path, "--to", f"127.0.0.1:{port}")
             out, error = process.communicate(timeout=300)
             self.check(ran.status == 0 and process.returncode == 0, name, ran.text + out + error)
-        data = read(path).replace(b"> EOT\nend", b"> 05\nend")
-        with open(os.path.join(folder, "other.play"), "wb") as file:
-            file.write(data)
+        other = kit.file_of(self, "other.play", read(path).replace(b"> EOT\nend", b"> 05\nend"))
         process, port = self.listening(path, "--as", "computer")
-        play(file.name, "--to", f"127.0.0.1:{port}")
+        play(other, "--to", f"127.0.0.1:{port}")
         out, _ = process.communicate(timeout=300)
         self.check(process.returncode == 1 and " EOT ENQ\n" in out, "another script", out)
 
@@ -313,9 +306,8 @@ class Lines(kit.Test):
 
     def test_wrong_analyzer(self):
         """An analyzer that heeds no reply differs from plays of the computer that need one to do so."""
-        path = os.path.join(kit.folder_of(self), "deaf.play")
-        with open(path, "wb") as file:
-            file.write(b'play 1\n> ENQ\n< ..\n> "H|1"\n< ..\n> "P|1"\n< ..\n> "L|1|N"\n< ..\n> EOT\nend\n')
+        data = b'play 1\n> ENQ\n< ..\n> "H|1"\n< ..\n> "P|1"\n< ..\n> "L|1|N"\n< ..\n> EOT\nend\n'
+        path = kit.file_of(self, "deaf.play", data)
         for name, wanted in (("takes-results", 0), ("busy", 1), ("no-reply", 1), ("rejects-a-frame", 1)):
             script = os.path.join(PLAYS, "computer", f"{name}.play")
             scale = 0.02 if wanted else SCALE
@@ -328,10 +320,9 @@ class Lines(kit.Test):
         """A serial line, on a pseudo terminal."""
         own, other = pty.openpty()
         tty.setraw(other)
-        device, folder = os.ttyname(other), kit.folder_of(self)
-        path = os.path.join(folder, "serial.play")
-        with open(path, "wb") as file:
-            file.write(b'play 1\n> ENQ\n< ACK\n> "H|1"\n< ACK\n> EOT\nC\n> ENQ\n< NAK\nR\n> ENQ\n< ACK\n> EOT\nend\n')
+        device = os.ttyname(other)
+        data = b'play 1\n> ENQ\n< ACK\n> "H|1"\n< ACK\n> EOT\nC\n> ENQ\n< NAK\nR\n> ENQ\n< ACK\n> EOT\nend\n'
+        path = kit.file_of(self, "serial.play", data)
         replies = [b"\6", b"\6", b"", b"\x15", b"\6", b""]
         heard = []
 
@@ -352,9 +343,7 @@ class Lines(kit.Test):
 
     def test_times(self):
         """By a capture's times, and as fast as replies come, where its times would take half an hour."""
-        path = os.path.join(kit.folder_of(self), "timed.capture")
-        with open(path, "wb") as file:
-            file.write(b"> 05\n< 06\n> 04\n")
+        path = kit.file_of(self, "timed.capture", b"> 05\n< 06\n> 04\n")
         host, took = Plain(self), []
         for words, last in (((), b"28T10:01:01.0"), (("--fast",), b"29T11:00:01.0")):
             with open(path + ".times", "wb") as file:
@@ -368,14 +357,11 @@ class Lines(kit.Test):
         """The ten steps of docs/validate.md, and a host that takes a wrong checksum."""
         text = kit.read("docs/validate.md")
         rows = re.search(r"\n    play 1\n    # A damaged frame.*?\n    end\n", text, re.S)[0]
-        path = os.path.join(kit.folder_of(self), "mine.play")
-        with open(path, "w", encoding="utf-8") as file:
-            file.write("".join(row[4:] + "\n" for row in rows.strip("\n").split("\n")))
+        path = kit.file_of(self, "mine.play", "".join(row[4:] + "\n" for row in rows.strip("\n").split("\n")))
         ran = Plain(self).play(path)
         self.same("the play of the page", (ran.status, ran.lines), (0, ["steps 10 differences 0"]))
-        with open(path[:-5] + ".computer", "wb") as file:
-            file.write(b"play 1 as computer\n> ENQ\n" + b"< ACK\n> ..\n" * 4 + b"C\nend\n")
-        process, port = self.listening(file.name)
+        data = b"play 1 as computer\n> ENQ\n" + b"< ACK\n> ..\n" * 4 + b"C\nend\n"
+        process, port = self.listening(kit.file_of(self, "mine.computer", data))
         ran = play(path, "--to", f"127.0.0.1:{port}")
         process.communicate(timeout=300)
         wanted = ["difference 6 NAK ACK", "steps 10 differences 1"]

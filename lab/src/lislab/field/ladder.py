@@ -114,7 +114,6 @@ class Ladder:
         self.stream = stream
         self._ends = list(itertools.accumulate(len(text.data) for text in self.texts))
         self.messages: List[Union[Found, Fault]] = list(read_all(stream, encoding))
-        self.encoding = encoding
 
     def line_of(self, place: int) -> int:
         """The line of the capture at which this byte of the records was delivered."""

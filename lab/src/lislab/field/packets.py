@@ -402,6 +402,11 @@ def _one_log(found: List[Connection], every: List[Connection], form: str) -> Log
     return Log(form, pieces, remarks)
 
 
+def are_packets(text: str) -> bool:
+    """Whether dumps are of packets: one of them holds a TCP segment."""
+    return any(segment_of(one) is not None for one in dumped_packets(text))
+
+
 def packet_text(text: str, stream: Optional[int] = None, port: Optional[int] = None) -> Log:
     """The bytes of the TCP line in dumps of packets."""
     return read_packets(dumped_packets(text), "packet-text", stream, port)

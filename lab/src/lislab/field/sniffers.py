@@ -110,32 +110,23 @@ def form_of(text: str) -> str:
         if re.search(pattern, text, re.M):
             raise LogError(why)
     if serial_tools.is_hex_dump(text) and not re.search(FORMS["wireshark-hex"].pattern, text, re.M):
-        return "hex" if not re.search(FORMS["packet-text"].pattern, text, re.M) or not _is_ethernet(text) else "packet-text"
+        is_packet = re.search(FORMS["packet-text"].pattern, text, re.M) and _looks(packets.are_packets, text)
+        return "packet-text" if is_packet else "hex"
     for name, (pattern, *_) in FORMS.items():
         if name == "tshark-fields" and serial_tools.is_blocks(text):
             return "blocks"
         if pattern and re.search(pattern, text, re.M | (re.I if name in ("blocks", "csv-table") else 0)):
-            if name == "tshark-fields" and not _is_table(text):
-                continue
-            if name == "packet-text" and not _is_ethernet(text):
-                continue
-            return name
+            seems = {"tshark-fields": wireshark.is_table, "packet-text": packets.are_packets}.get(name)
+            if seems is None or _looks(seems, text):
+                return name
     return "trace"
 
 
-def _is_ethernet(text: str) -> bool:
-    """Whether the dumps are packets: one of them holds a TCP segment."""
+def _looks(seems: Callable[[str], bool], text: str) -> bool:
+    """Whether a text seems to be of a form; it isn't if it can't be read as one."""
     try:
-        return any(packets.segment_of(one) is not None for one in packets.dumped_packets(text))
+        return seems(text)
     except (LogError, IndexError, ValueError):
-        return False
-
-
-def _is_table(text: str) -> bool:
-    """Whether each row has as many columns, and one of them holds bytes."""
-    try:
-        return wireshark.is_table(text)
-    except (LogError, ValueError, IndexError):
         return False
 
 

@@ -6,6 +6,7 @@ import re
 from typing import Any, Callable, Dict, Iterator, List, NamedTuple, Optional, Tuple
 
 from lislink.message import NAMES, Entry, Fault, Message, read_all
+from lislink.rows import Row
 from lislink.shown import as_parts, as_text, component_text
 from ..diagnosis.faults import code_of
 from .looks import rejected_at
@@ -36,22 +37,6 @@ Field = Callable[[Entry, int], Any]
 Component = Callable[[Entry, int, int], str]
 
 
-def _flat(entry: Entry, number: int) -> str:
-    return as_text(entry.row, number, entry.encoding)
-
-
-def _nested(entry: Entry, number: int) -> Any:
-    return as_parts(entry.row, number, entry.encoding)
-
-
-def _flat_component(entry: Entry, number: int, component: int) -> str:
-    return component_text(entry.row, number, component, entry.encoding, True)
-
-
-def _nested_component(entry: Entry, number: int, component: int) -> str:
-    return component_text(entry.row, number, component, entry.encoding, False)
-
-
 def columns_of(
     names: List[str],
     sample_from: int = 3,
@@ -63,8 +48,14 @@ def columns_of(
     names such as `result.operator`, and each with a heading of its own before `=`. Nested ones have lists where a field
     has components or repeats. A table of orders has those of OF_ORDERS, and none of results. `usual` says how some of
     the usual ones are made."""
-    field: Field = _nested if nested else _flat
-    part: Component = _nested_component if nested else _flat_component
+    whole: Callable[[Row, int, str], Any] = as_parts if nested else as_text
+
+    def field(entry: Entry, number: int) -> Any:
+        return whole(entry.row, number, entry.encoding)
+
+    def part(entry: Entry, number: int, component: int) -> str:
+        return component_text(entry.row, number, component, entry.encoding, not nested)
+
     known: Dict[str, Callable[[Where], Any]] = {
         "sample": lambda where: field(where[2], sample_from),
         "patient": lambda where: _patient(where[1], field),

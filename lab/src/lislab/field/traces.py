@@ -5,7 +5,7 @@ import csv
 import html
 import json
 import re
-from typing import Callable, List, NamedTuple, Optional, Tuple
+from typing import Callable, Dict, Iterator, List, NamedTuple, Optional, Tuple
 
 from ..diagnosis.log import CONTROL, Log, LogError, Piece, encode, find_time, hex_row, holds_bytes, left_out
 from .notations import numbered
@@ -60,7 +60,7 @@ _SEPARATOR = re.compile(
 
 
 class Grammar(NamedTuple):
-    """How the bytes of a line are written: its name, the bytes of the rest of a line, and how sure one can be."""
+    """How the bytes of a line are written: its name, and the bytes of the rest of a line."""
 
     name: str
     read: Callable[[str], Optional[bytes]]
@@ -101,17 +101,10 @@ def _hex(text: str) -> Optional[bytes]:
     return hex_row(bare, 4096) if re.match(r"(?:0[xX])?[0-9A-Fa-f]{2}(?:\s|$)", bare) else None
 
 
-def _decimal(text: str) -> Optional[bytes]:
+def _numbers(text: str, form: str, base: int) -> Optional[bytes]:
     words = text.split()
-    if words and all(re.match(r"\d{3}$", one) and int(one) < 256 for one in words):
-        return bytes(map(int, words))
-    return None
-
-
-def _binary(text: str) -> Optional[bytes]:
-    words = text.split()
-    if words and all(re.match(r"[01]{8}$", one) for one in words):
-        return bytes(int(one, 2) for one in words)
+    if words and all(re.fullmatch(form, one) and int(one, base) < 256 for one in words):
+        return bytes(int(one, base) for one in words)
     return None
 
 
@@ -181,14 +174,14 @@ def _unquoted(text: str) -> str:
     return bare.strip()[1:-1] if re.match(r"""(["'])(.*)\1\s*$""", bare) else bare
 
 
-GRAMMARS = [
-    Grammar("python", _python),
-    Grammar("escaped", _escaped),
-    Grammar("binary", _binary),
-    Grammar("decimal", _decimal),
-    Grammar("hex", _hex),
-    Grammar("words", _worded),
-]
+_READERS: Dict[str, Callable[[str], Optional[bytes]]] = {
+    "python": _python,
+    "escaped": _escaped,
+    "binary": lambda text: _numbers(text, "[01]{8}", 2),
+    "decimal": lambda text: _numbers(text, "[0-9]{3}", 10),
+    "hex": _hex,
+    "words": _worded,
+}
 
 
 def _kind(text: str) -> str:
@@ -228,11 +221,10 @@ def traces(text: str) -> Log:
 def _grammar_of(text: str) -> Grammar:
     """The grammar of a log, with the way of its escapes."""
     kind = _kind(text)
-    grammar = next(one for one in GRAMMARS if one.name == kind)
     way = _way_of(text) if kind == "words" else _NUMBERS
     if way == _NUMBERS:
-        return grammar
-    return grammar._replace(read=lambda rest: escaped_words(_unquoted(rest), way) or None)
+        return Grammar(kind, _READERS[kind])
+    return Grammar(kind, lambda rest: escaped_words(_unquoted(rest), way) or None)
 
 
 def _marked(full: List[Tuple[int, str]], marked: List[Optional[Tuple[str, str, bytes]]], grammar: Grammar) -> Log:
@@ -262,13 +254,15 @@ def _marked(full: List[Tuple[int, str]], marked: List[Optional[Tuple[str, str, b
 
 def _has_bytes(line: str) -> bool:
     """Whether a line has, after its direction, what looks like bytes of a line."""
-    for rank, (pattern, _) in enumerate(_MARKS):
-        if rank in _ARROWS and not any(one in line for one in _ARROWS[rank]):
-            continue
-        found = (one for one in pattern.finditer(line) if _is_head(line[: one.start()]))
-        if any(holds_bytes(line[one.end() :]) for one in found):
-            return True
-    return False
+    found = (one for _, _, places in _marks_in(line) for one in places)
+    return any(_is_head(line[: one.start()]) and holds_bytes(line[one.end() :]) for one in found)
+
+
+def _marks_in(line: str) -> "Iterator[Tuple[int, Callable[[re.Match[str]], str], Iterator[re.Match[str]]]]":
+    """The kinds of directions that a line may have, the surest first: the rank, the side, and the places."""
+    for rank, (pattern, side) in enumerate(_MARKS):
+        if rank not in _ARROWS or any(one in line for one in _ARROWS[rank]):
+            yield rank, side, pattern.finditer(line)
 
 
 def _of_html(text: str) -> str:
@@ -422,11 +416,8 @@ def _split(line: str, grammar: Grammar) -> Optional[Tuple[str, str, bytes]]:
         sure = _SURE.search(line)
         if sure:
             limit = sure.start()
-    best: Optional[Tuple[int, str, str, bytes]] = None
-    for rank, (pattern, side) in enumerate(_MARKS):
-        if rank in _ARROWS and not any(one in line for one in _ARROWS[rank]):
-            continue
-        for found in pattern.finditer(line):
+    for rank, side, places in _marks_in(line):
+        for found in places:
             if found.start() >= limit or not _is_head(line[: found.start()]):
                 continue
             if rank in _ARROWS and find_time(side(found)) is not None:
@@ -438,15 +429,9 @@ def _split(line: str, grammar: Grammar) -> Optional[Tuple[str, str, bytes]]:
                 body = rest[len(rest) - len(rest.lstrip()) :]
                 body = re.sub(r"^(?:\(?\d+\s*(?:bytes?|chars?)\)?)?[:\-=|,\]]*(?:\s*[:\-|])?\s?", "", body, flags=re.I)
             body = _CLOCK_FIRST.sub("", body)
-            data = grammar.read(body)
-            if not data:
-                data = grammar.read(re.sub(r"^\s*[\[(]\d+[\])]\s*[:\-=|]*\s*", "", body))
+            data = grammar.read(body) or grammar.read(re.sub(r"^\s*[\[(]\d+[\])]\s*[:\-=|]*\s*", "", body))
             if data:
-                if best is None:
-                    best = (rank, line[: found.start()], side(found), data)
-                break
-        if best is not None:
-            return best[1:]
+                return line[: found.start()], side(found), data
     return None
 
 
