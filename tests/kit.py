@@ -51,6 +51,12 @@ def read(path):
         return file.read()
 
 
+def bytes_of(path):
+    """The bytes of a file: of the repository, if the path doesn't begin at the root."""
+    with open(os.path.join(ROOT, path), "rb") as file:
+        return file.read()
+
+
 def folder_of(test):
     """A folder that is removed after the test."""
     made = tempfile.TemporaryDirectory(prefix="lis-test-")

@@ -3,7 +3,7 @@ import os
 import subprocess
 import time
 
-from tests import ROOT, kit
+from tests import kit
 
 USAGE = (2, "", "usage: lislink COMMAND\n")
 LINES = "ENQ\nframe 1 end 6 487c5c5e260d\nframe 2 end 6 4c7c317c4e0d\nEOT\n"
@@ -64,8 +64,7 @@ FAILING_SINKS = (("show", "session.link"), ("texts", "two-sessions.capture"), ("
 
 
 def sample(name):
-    with open(os.path.join(ROOT, "samples", name), "rb") as file:
-        return file.read()
+    return kit.bytes_of(f"samples/{name}")
 
 
 class Program(kit.Test):

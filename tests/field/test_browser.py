@@ -14,7 +14,7 @@ import subprocess
 from lislink.capture import read_capture
 from lislab.field.ladder import Ladder
 from lislab.field.looks import looks_of
-from tests import ROOT
+from tests import ROOT, kit
 from tests.field.lab import FieldTest, lislab
 
 PICTURES = os.environ.get("PICTURES")
@@ -90,8 +90,7 @@ def pages(test):
         name = os.path.basename(path)
         page = test.path(name + ".html")
         lislab("ladder", path, "--html", page)
-        with open(path, "rb") as file:
-            told[name] = (page, Ladder(read_capture(file.read())))
+        told[name] = (page, Ladder(read_capture(kit.bytes_of(path))))
     return told
 
 

@@ -7,7 +7,7 @@ import random
 from lislink import read_all
 from lislab.field import normalize
 from lislink.message import Found
-from tests import ROOT
+from tests import ROOT, kit
 from tests.field.lab import FieldTest, lislab
 
 FILES = 10_000
@@ -226,8 +226,7 @@ class Changes(FieldTest):
         self.check(len(paths) > 25, "there are samples", str(len(paths)))
         fixed = 0
         for path in paths:
-            with open(path, "rb") as file:
-                data = file.read()
+            data = kit.bytes_of(path)
             out, told, _ = normalize.normalize(data, set(normalize.ALL))
             self.same(f"{os.path.basename(path)}: no result is changed", list(normalize.changed_lines(data, out)), [])
             fixed += bool(told) and not any(normalize.rejected_lines(out))

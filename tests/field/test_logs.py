@@ -11,7 +11,7 @@ import subprocess
 
 from lislink.capture import read_capture
 from lislab.field import sniffers
-from tests import ROOT
+from tests import ROOT, kit
 from tests.field import packets
 from tests.field.lab import FieldTest, lislab
 
@@ -22,15 +22,10 @@ NAMES = {2: "STX", 3: "ETX", 4: "EOT", 5: "ENQ", 6: "ACK", 21: "NAK"}
 BY_BYTES = ("interceptty", "interceptty-t", "saleae", "nolf")
 
 
-def bytes_of(path):
-    with open(path, "rb") as file:
-        return file.read()
-
-
 def timed_session():
     """The session with times, as (mark, seconds, bytes)."""
     seconds = (0.000012, 0.00431, 0.1015, 0.1099, 0.11502, 0.201333, 0.207111, 0.30101, 0.307222, 0.402004)
-    lines = [line for _, line in read_capture(bytes_of(SESSION)).lines]
+    lines = [line for _, line in read_capture(kit.bytes_of(SESSION)).lines]
     return [(line.mark, second, line.data) for line, second in zip(lines, seconds)]
 
 
@@ -250,7 +245,7 @@ def captured(text):
 class Logs(FieldTest):
     def test_samples(self):
         """Each log of samples/logs: with its pieces, and a line a unit."""
-        wanted = bytes_of(SESSION).decode()
+        wanted = kit.bytes_of(SESSION).decode()
         units = lislab("capture", os.path.join(LOGS, "socat-x.txt"), "--units").text
         analyzer = "".join(line + "\n" for line in units.splitlines() if line.startswith(">"))
         paths = [path for path in sorted(glob.glob(os.path.join(LOGS, "*"))) if not path.endswith((".bin", ".md"))]
@@ -277,22 +272,22 @@ class Logs(FieldTest):
 
     def test_packets(self):
         """Packet files in each form."""
-        wanted = bytes_of(SESSION).decode()
+        wanted = kit.bytes_of(SESSION).decode()
         session = timed_session()
         for name, data in packets.variants(session):
             path = self.path("trace.pcap", data)
             out = self.path("trace.capture")
             ran = lislab("capture", path, "-o", out)
             self.same(f"{name}: status ({ran.error})", ran.status, 0)
-            self.same(name, bytes_of(out).decode(), wanted)
-            times = bytes_of(out + ".times").decode().splitlines()
+            self.same(name, kit.bytes_of(out).decode(), wanted)
+            times = kit.bytes_of(out + ".times").decode().splitlines()
             self.check(
                 len(times) == 10 and times[0].startswith("2026-11-20T09:15:02.00001"), f"{name}: times", str(times[:2])
             )
 
     def test_packets_of_a_network(self):
         """What a network does to packets."""
-        wanted = bytes_of(SESSION).decode()
+        wanted = kit.bytes_of(SESSION).decode()
         session = timed_session()
         plain = packets.segments(session)
         gap = self.path("gap.pcap", packets.pcap(plain[:5] + plain[6:]))
@@ -313,7 +308,7 @@ class Logs(FieldTest):
         self.same("the second connection alone", lislab("capture", twice, "--stream", "2").text, wanted)
 
     def test_packets_of_other_connections(self):
-        wanted = bytes_of(SESSION).decode()
+        wanted = kit.bytes_of(SESSION).decode()
         plain = packets.segments(timed_session())
         noise = random.Random(3)
         other = [
@@ -338,7 +333,7 @@ class Logs(FieldTest):
 
     def test_packets_of_a_reconnection(self):
         """A connection may begin before the last packets of the one before; where bytes overlap one is chosen."""
-        wanted = bytes_of(SESSION).decode()
+        wanted = kit.bytes_of(SESSION).decode()
         plain = packets.segments(timed_session())
         again = [(time + 0.4025, packet.replace(b"\xc8\x22", b"\xc8\x23")) for time, packet in plain]
         close = (again[2][0] + 0.0004, plain[-1][1])
@@ -402,7 +397,7 @@ class Logs(FieldTest):
 
     def test_notations(self):
         """Control bytes in text: each log is read whole, or is an error; no frame is left out, and no byte is wrong."""
-        wanted = bytes_of(SESSION).decode()
+        wanted = kit.bytes_of(SESSION).decode()
         session = [(mark, data) for mark, _, data in timed_session()]
         for name, mark in (("percent codes", "%"), ("quoted-printable", "=")):
             coded = lambda byte: chr(byte) if chr(byte).isalnum() else f"{mark}{byte:02X}"
@@ -444,7 +439,7 @@ class Logs(FieldTest):
         """A line that is left out is reported; one that has bytes of the line and can't be read is an error."""
         hexed = "".join(f"{'RX' if mark == '>' else 'TX'}: {data.hex(' ')}\n" for mark, _, data in timed_session())
         ran = lislab("capture", self.path("log", b"port opened\n" + hexed.encode() + b"RX: closed\n"))
-        self.same("a line without bytes", (ran.status, ran.text), (0, bytes_of(SESSION).decode()))
+        self.same("a line without bytes", (ran.status, ran.text), (0, kit.bytes_of(SESSION).decode()))
         self.has("a line without bytes, told", ran.error, "lines without bytes were left out, 2 of them: 1, 12")
         for row in ("RX: 02 31 4g 7c 5c 5e 26 0d", "RX: #021H|\\^&#0D", "TX 1 R|1|^^^GLU|5.4"):
             ran = lislab("capture", self.path("log", hexed.encode() + row.encode() + b"\n"))
@@ -464,7 +459,7 @@ class Logs(FieldTest):
         """A row of bytes that is damaged is an error, or is reported as left out: no byte goes unsaid."""
         chance, tried, unsaid = random.Random(62), 0, []
         for path in sorted(glob.glob(os.path.join(LOGS, "*"))):
-            log = bytes_of(path)
+            log = kit.bytes_of(path)
             if path.endswith((".bin", ".md", ".pcap", "nolf.txt")) or b"\0" in log:
                 continue  # a log without LF has fewer bytes than its capture
             whole = len(captured(lislab("capture", path).text))
@@ -486,7 +481,7 @@ class Logs(FieldTest):
         """What the forms skip: a row that holds bytes is an error, any other is counted."""
         for name, log, old, new, words in skipped():
             sample, *options = log.split()
-            data = bytes_of(os.path.join(LOGS, sample))
+            data = kit.bytes_of(os.path.join(LOGS, sample))
             ran = lislab("capture", *options, self.path("log", data.replace(old, new, 1) if old else data + new))
             self.same(f"{log}, {name}: status {ran.text[:200]}", ran.status, 3)
             self.has(f"{log}, {name}: why", ran.error, words)
@@ -496,12 +491,12 @@ class Logs(FieldTest):
             ("a row without bytes", "tshark-fields.txt", b"1763630103.5\t51234\t\n"),
             ("a row without bytes", "eltima-table.txt", b"11\t20/11/2026 09:15:03\tIRP_MJ_CLOSE\tUP\tSTATUS_SUCCESS\n"),
         ):
-            ran = lislab("capture", self.path("log", bytes_of(os.path.join(LOGS, log)) + new))
-            self.same(f"{log}, {name}", (ran.status, ran.text), (0, bytes_of(SESSION).decode()))
+            ran = lislab("capture", self.path("log", kit.bytes_of(os.path.join(LOGS, log)) + new))
+            self.same(f"{log}, {name}", (ran.status, ran.text), (0, kit.bytes_of(SESSION).decode()))
             self.has(f"{log}, {name}: told", ran.error, "lines without bytes were left out")
-        yaml = re.sub(rb"\|\n +(\S+)\n", rb"\1\n", bytes_of(os.path.join(LOGS, "follow-yaml-old.txt")))
+        yaml = re.sub(rb"\|\n +(\S+)\n", rb"\1\n", kit.bytes_of(os.path.join(LOGS, "follow-yaml-old.txt")))
         ran = lislab("capture", self.path("log", yaml))
-        self.same(f"base64 on the line of its name {ran.error}", ran.text, bytes_of(SESSION).decode())
+        self.same(f"base64 on the line of its name {ran.error}", ran.text, kit.bytes_of(SESSION).decode())
         ran = lislab("capture", self.path("log", b"<STX>1H|\\^&<CR><ETX>E5<CR><LF>\n<15>\n<ENQ>\n<06>\n"))
         self.same("NAK as <15> without a direction", [row for row in ran.lines if row[0] == "<"], ["< 15", "< 06"])
 
@@ -510,9 +505,9 @@ class Logs(FieldTest):
         log = os.path.join(LOGS, "socat-x.txt")
         swapped = lislab("capture", log, "--swap").lines
         elf = b'1 read(3, "\\177ELF\\2\\1\\1\\0\\5", 832) = 9\n'
-        strace = elf + bytes_of(os.path.join(LOGS, "strace.txt")) + elf.replace(b"3,", b"4,")
+        strace = elf + kit.bytes_of(os.path.join(LOGS, "strace.txt")) + elf.replace(b"3,", b"4,")
         self.same(
-            "descriptors of other kinds", lislab("capture", self.path("log", strace)).text, bytes_of(SESSION).decode()
+            "descriptors of other kinds", lislab("capture", self.path("log", strace)).text, kit.bytes_of(SESSION).decode()
         )
         self.same("--swap", swapped[:2], ["< 05", "> 06"])
         self.same("--analyzer-side", lislab("capture", log, "--analyzer-side", "<").lines, swapped)
@@ -568,7 +563,7 @@ class Logs(FieldTest):
     def test_bytes(self):
         """Logs of text with the bytes as they came, and letters over 127."""
         session = timed_session()
-        wanted = bytes_of(SESSION).decode()
+        wanted = kit.bytes_of(SESSION).decode()
         for name, line in (("LF", b"\n"), ("CR LF", b"\r\n")):
             text = b"".join(
                 b"2026-11-20 09:15:02.%03d %s: " % (int(time * 1000), b"RX" if mark == ">" else b"TX") + data + line

@@ -81,8 +81,7 @@ class Records(FieldTest):
         path = kit.file_of(self, "results.csv", b"old")
         panel = os.path.join(SAMPLES, "panel.records")
         self.same("status", in_a_full_disk(["table", panel, "-o", path]).returncode, 3)
-        with open(path, "rb") as file:
-            self.same("the file", file.read(), b"old")
+        self.same("the file", kit.bytes_of(path), b"old")
 
     def test_nothing_is_lost(self):
         """A cell of a table, and a list of JSON, has what the field means: an escaped delimiter is no delimiter."""
@@ -136,8 +135,7 @@ class Records(FieldTest):
 
     def test_normalize(self):
         for path in ("panel", "query", "escapes"):
-            with open(os.path.join(SAMPLES, path + ".records"), "rb") as file:
-                data = file.read()
+            data = kit.bytes_of(os.path.join(SAMPLES, path + ".records"))
             changed(self, f"{path} is as it was", data, ["--all"], data, [])
         head = b"H|\\^&\r"
         changed(
@@ -286,8 +284,7 @@ class Records(FieldTest):
             self.same(f"ladder: {letters} by its name", lislab("ladder", "-", "--encoding", name, data=capture).error, "")
 
     def test_table_as_the_program(self):
-        with open(os.path.join(SAMPLES, "panel.records"), "rb") as file:
-            panel = file.read()
+        panel = kit.bytes_of(os.path.join(SAMPLES, "panel.records"))
         mine = [
             row[:1] + row[2:8]
             for row in table(panel, "--fields", "sample,patient,R.3,value,unit,range,flag,status")[1][1:]

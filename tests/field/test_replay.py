@@ -43,8 +43,7 @@ class Replay(kit.Test):
         """What `lislink replay` prints of a capture of one side is printed here too."""
         kit.library()
         for path in sorted(glob.glob(os.path.join(SAMPLES, "**", "*.capture"), recursive=True)):
-            with open(path, "rb") as file:
-                data = file.read()
+            data = kit.bytes_of(path)
             if b"< 05" in data and b"S contending" not in data:
                 continue
             done = subprocess.run([kit.built("lislink"), "replay"], input=data, capture_output=True, check=False)

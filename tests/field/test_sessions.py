@@ -17,11 +17,6 @@ from tests.field.lab import FieldTest, lislab
 DIALECTS = os.path.join(ROOT, "samples", "dialects")
 
 
-def bytes_of(path):
-    with open(path, "rb") as file:
-        return file.read()
-
-
 def agrees(test, name, data):
     """A capture's ladder has the texts and differences of `replay`, and the messages and rejections of `check`."""
     ladder = Ladder(read_capture(data))
@@ -70,7 +65,7 @@ def spans(text):
 
 
 def of_link_row(test, sample, path, seen, words):
-    data = bytes_of(path)
+    data = kit.bytes_of(path)
     link = b"".join(line.data for _, line in read_capture(data).lines if line.mark == ">")
     ran = {
         "replay": test.lislink("replay", data=data),
@@ -100,7 +95,7 @@ def of_link_row(test, sample, path, seen, words):
 
 
 def of_record_row(test, sample, path, seen, words, helps):
-    data = bytes_of(path)
+    data = kit.bytes_of(path)
     check = test.lislink("check", data=data)
     for _, span in spans(seen):
         test.check(span in check.lines, f"{sample}: check prints {span}", check.text)
@@ -267,7 +262,7 @@ class Sessions(FieldTest):
         chance = random.Random(23)
         units = [b"\x05", b"\x04", b"\x021H|\\^&\r\x03E5\r\n", b"\x022L|1|N\r\x0305\r\n", b"\x023L|1|N\r\x0306\r\n"]
         trials = [answered(chance.choices(units, k=chance.randrange(1, 12)), chance) for _ in range(600)]
-        trials += [bytes_of(path) for path in glob.glob(os.path.join(DIALECTS, "*.capture"))]
+        trials += [kit.bytes_of(path) for path in glob.glob(os.path.join(DIALECTS, "*.capture"))]
         marked, untold = 0, []
         for data in trials:
             ladder = Ladder(read_capture(data))
@@ -284,7 +279,7 @@ class Sessions(FieldTest):
         )
         self.check(len(paths) > 35, "there are captures", str(len(paths)))
         for path in paths:
-            agrees(self, os.path.basename(path), bytes_of(path))
+            agrees(self, os.path.basename(path), kit.bytes_of(path))
 
     def test_random(self):
         """Random captures of units, noise, replies and events: in each the ladder agrees with the program."""
@@ -389,6 +384,6 @@ class Sessions(FieldTest):
         self.has("a late answer", shown, "1 answer came over 15 seconds late")
         self.has("a silence", shown, "60.0 seconds of silence")
         self.has("a gap", shown, "20.0 s later")
-        ladder = Ladder(read_capture(bytes_of(os.path.join(ROOT, "samples", "two-sessions.capture"))))
+        ladder = Ladder(read_capture(kit.bytes_of(os.path.join(ROOT, "samples", "two-sessions.capture"))))
         self.same("notes are counted", ladder.notes[Note.ACCEPTED], 5)
         self.same("a text at its line", [text.line for text in ladder.texts], [9, 11, 17])

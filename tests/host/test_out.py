@@ -13,21 +13,15 @@ from lislab.cli import main as cli
 from lislab.model.stores import open_store
 from lislink.message import NAMES
 from lislink.rows import marks_of
-from tests import ROOT
+from tests import ROOT, kit
 from tests.host.hosts import ENV, FAULTY, Host, HostTest, lislab, sending, wait_for
 
 SAMPLE, BAD = "samples/panel.records", "samples/no-order.records"
 
 
-def bytes_of(path):
-    """The bytes of a file."""
-    with open(path, "rb") as file:
-        return file.read()
-
-
 def good_part():
     """The first message of the bad sample, which can be read."""
-    return bytes_of(BAD).split(b"L|1|N\r")[0] + b"L|1|N\r"
+    return kit.bytes_of(BAD).split(b"L|1|N\r")[0] + b"L|1|N\r"
 
 
 def messages_of(store):
@@ -94,7 +88,7 @@ class OutOf:
         """`lislab send` to `lislab serve`, and what it says."""
         good, bad, _ = self.sent
         rows = [row.split(",")[0] for row in good.stdout.splitlines()]
-        wanted = [f"message {number} done" for number in range(1, bytes_of(SAMPLE).count(b"L|1|N\r") + 1)]
+        wanted = [f"message {number} done" for number in range(1, kit.bytes_of(SAMPLE).count(b"L|1|N\r") + 1)]
         self.same("each message is done", (good.returncode, rows), (0, wanted))
         self.same("what can't be read isn't sent", bad.returncode, 1)
         self.has("and it is said", bad.stderr, "record 3 can't be read: NO_PARENT")
@@ -117,8 +111,8 @@ class OutOf:
         """Exports in each format, against the file that was sent and the table of the same file."""
         words = ["--format", "records", "--without-repeats", "-o", self.path("out.records")]
         self.same("the status", lislab("export", "--store", self.store, *words).returncode, 0)
-        good = bytes_of(SAMPLE) + good_part()
-        self.same("records are those that were sent", bytes_of(self.path("out.records")), good)
+        good = kit.bytes_of(SAMPLE) + good_part()
+        self.same("records are those that were sent", kit.bytes_of(self.path("out.records")), good)
         rows = list(csv.reader(io.StringIO(self.export("--format", "csv"))))
         plain = list(csv.reader(io.StringIO(lislab("table", SAMPLE).stdout)))
         self.same("the heading", rows[0], ["number", "line", "received", "again_of", *plain[0], "fixed", "control"])
@@ -154,7 +148,7 @@ class OutOf:
         path = self.path("an export")
         status = cli.main(["export", "--store", self.store, "-o", path, *words])
         self.same(f"export {' '.join(words)}: the status", status, 0)
-        return bytes_of(path).decode()
+        return kit.bytes_of(path).decode()
 
     def test_delivery_to_a_command(self):
         """A command that fails each other time: in order, each at least once."""
@@ -183,8 +177,8 @@ class OutOf:
         names = sorted(name for name in os.listdir(folder) if not name.startswith("."))
         found = messages_of(self.store)
         self.same("a file for each", [int(name.split("-")[0]) for name in names], [one.number for one in found])
-        bodies = [bytes_of(os.path.join(folder, name)) for name in names]
-        self.same("with its records", bodies, [bytes_of(SAMPLE), good_part(), bytes_of(SAMPLE)])
+        bodies = [kit.bytes_of(os.path.join(folder, name)) for name in names]
+        self.same("with its records", bodies, [kit.bytes_of(SAMPLE), good_part(), kit.bytes_of(SAMPLE)])
 
     def test_hasty_delivery(self):
         """A delivery that notes a message before it delivers it is noticed."""

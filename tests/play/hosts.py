@@ -24,12 +24,6 @@ def scripts(folder):
     return sorted(glob.glob(os.path.join(PLAYS, folder, "*.play")))
 
 
-def read(path):
-    """The bytes of a file."""
-    with open(path, "rb") as file:
-        return file.read()
-
-
 def short(test):
     """A folder with the plays of results but the one that is silent for 30 seconds."""
     folder = kit.folder_of(test)

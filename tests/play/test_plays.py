@@ -19,7 +19,7 @@ from lislab.play import wire
 from lislab.play.frames import made
 from tests import kit
 from tests.host import SOURCE
-from tests.play.hosts import PLAYS, Plain, Restarts, SCALE, SHORT, UNASKED, play, read, scripts, short
+from tests.play.hosts import PLAYS, Plain, Restarts, SCALE, SHORT, UNASKED, play, scripts, short
 
 #: The words of the plain host for plays that need it so.
 NEEDS = {name: ("worklist",) for name in UNASKED}
@@ -229,7 +229,7 @@ class Reports(kit.Test):
         page, xml = os.path.join(folder, "page.html"), os.path.join(folder, "plays.xml")
         ran = host.play(short(self), "--report", page, "--junit", xml)
         self.same("status", ran.status, 1)
-        found = Page(read(page).decode())
+        found = Page(kit.bytes_of(page).decode())
         self.check(found.is_good, "its elements nest")
         self.same("anchors that are there twice", len(found.ids), len(set(found.ids)))
         links = [one[1:] for one in found.links if one[0] == "#"]
@@ -238,7 +238,7 @@ class Reports(kit.Test):
                      "played as the analyzer from 127.0.0.1:", "for the laboratory", "for the maker",
                      time.strftime("%Y-%m-%d"), "The reply to a result is lost"):
             self.has(f"the page has {text}", " ".join(found.text.split()), text)
-        self.check(not re.search(r"https?:|<script", read(page).decode()), "nothing from a network")
+        self.check(not re.search(r"https?:|<script", kit.bytes_of(page).decode()), "nothing from a network")
         suite = xml_of(xml)
         self.same("the XML", (suite.get("tests"), suite.get("failures"), suite.get("errors")), ("16", "1", "0"))
         failed = [case.get("name") for case in suite if case.find("failure") is not None]
@@ -256,8 +256,8 @@ class Reports(kit.Test):
         to = host_of(self, code)
         ran = play(path, "--to", to, "--report", page, "--junit", xml, scale=0.02)
         self.same("status", ran.status, 1)
-        found = Page(read(page).decode())
-        self.check(found.is_good and "<script" not in read(page).decode(), "the page")
+        found = Page(kit.bytes_of(page).decode())
+        self.check(found.is_good and "<script" not in kit.bytes_of(page).decode(), "the page")
         self.same("the XML", xml_of(xml).get("failures"), "1")
 
 
@@ -284,7 +284,7 @@ class Lines(kit.Test):
             ran = play(path, "--to", f"127.0.0.1:{port}")
             out, error = process.communicate(timeout=300)
             self.check(ran.status == 0 and process.returncode == 0, name, ran.text + out + error)
-        other = kit.file_of(self, "other.play", read(path).replace(b"> EOT\nend", b"> 05\nend"))
+        other = kit.file_of(self, "other.play", kit.bytes_of(path).replace(b"> EOT\nend", b"> 05\nend"))
         process, port = self.listening(path, "--as", "computer")
         play(other, "--to", f"127.0.0.1:{port}")
         out, _ = process.communicate(timeout=300)
@@ -370,7 +370,7 @@ class Lines(kit.Test):
     def test_first_lines(self):
         """Each play says what it shows and what must be seen, and is for the end of its folder."""
         for path in scripts("*"):
-            rows = read(path).decode().split("\n")
+            rows = kit.bytes_of(path).decode().split("\n")
             folder, name = path.split(os.sep)[-2:]
             self.same(f"{name}: its end", rows[0], "play 1 as computer" if folder == "computer" else "play 1")
             about = " ".join(row[2:] for row in rows if row.startswith("# "))

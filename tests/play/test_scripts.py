@@ -8,10 +8,9 @@ from lislab.play import script
 from lislab.play.frames import made, read_frame, units_of
 from lislab.play.script import ScriptError, read_script, steps_of
 from lislab.play.wanted import AnyUnit, Exact, Framed, Frames, Marks, Session, differences, is_like
-from tests import ROOT
+from tests import ROOT, kit
 from tests.field.lab import lislab
-from tests.play.hosts import read, scripts
-from tests import kit
+from tests.play.hosts import scripts
 
 ENQ, ACK = Exact(b"\x05"), Exact(b"\x06")
 #: A unit in a script, and what it is. The frames have number 1, since no ENQ is before them.
@@ -112,7 +111,7 @@ class Scripts(kit.Test):
     def test_cut(self):
         """A readable script that is cut anywhere before its last line is wrong."""
         for path in scripts("*"):
-            data = read(path)
+            data = kit.bytes_of(path)
             wrong = [size for size in range(data.rindex(b"end")) if not self.is_wrong(data[:size])]
             self.same(f"{os.path.basename(path)} cut", wrong, [])
 
@@ -130,8 +129,8 @@ class Scripts(kit.Test):
     def test_any_byte(self):
         """10,000 scripts with a byte wrong anywhere, or cut, or with a line twice: read, or an error with its line."""
         rng, good, wrong = random.Random(65), 0, 0
-        known = [read(path) for path in scripts("*")] + [
-            read(os.path.join(ROOT, "samples", name)) for name in ("session.capture", "version-2.capture")]
+        known = [kit.bytes_of(path) for path in scripts("*")] + [
+            kit.bytes_of(os.path.join(ROOT, "samples", name)) for name in ("session.capture", "version-2.capture")]
         for _ in range(10000):
             data = bytearray(rng.choice(known))
             for _ in range(rng.choice((1, 1, 1, 4))):
@@ -157,7 +156,7 @@ class Scripts(kit.Test):
         path = os.path.join(kit.folder_of(self), "wrong.play")
         rng = random.Random(66)
         for number in range(60):
-            data = read(rng.choice(scripts("results")))
+            data = kit.bytes_of(rng.choice(scripts("results")))
             place = data.index(b"\n> ") + 1
             data = data[:place] + bytes([rng.choice(b"\0?x\xff=")]) + data[place + 1 :] if number % 2 else data[:-4]
             with open(path, "wb") as file:

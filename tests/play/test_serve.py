@@ -6,10 +6,10 @@ from concurrent.futures import ThreadPoolExecutor
 
 from lislab.model.books import open_book
 from lislink.order import Order
-from tests import ROOT
+from tests import ROOT, kit
 from tests.field.lab import lislab
 from tests.host.hosts import Found, Host, HostTest, lislab as run_lislab, process
-from tests.play.hosts import PATIENT, PLAYS, Restarts, SCALE, SHORT, UNASKED, play, read, scripts, short
+from tests.play.hosts import PATIENT, PLAYS, Restarts, SCALE, SHORT, UNASKED, play, scripts, short
 
 #: The scale of the timers where they run out: 15 seconds are 7.5.
 SILENT = 0.5
@@ -77,7 +77,7 @@ class Serve(HostTest):
             book.add(Order(sample, (test,)) for sample, test in (("S1", "GLU"), ("S2", "K"), ("S3", "NA")))
             book.close()
             way = "send" if name in UNASKED else "ask"
-            scale = SCALE if b"\nT" in read(path) else PATIENT  # a timer is waited for
+            scale = SCALE if b"\nT" in kit.bytes_of(path) else PATIENT  # a timer is waited for
             host = Host(store, "--listen", f"127.0.0.1:0,name=both,orders={way}", scale=scale, listen=False)
             port = next(row.split()[1].rsplit(":", 1)[1] for row in host.rows if row.endswith(" both\n"))
             ran = play(path, "--to", f"127.0.0.1:{port}", "--fast", scale=scale)
