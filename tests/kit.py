@@ -1,4 +1,5 @@
 """What all tests share: checks that count one by one, what is tested, and runs of commands."""
+import html.parser
 import os
 import re
 import subprocess
@@ -76,6 +77,32 @@ def without_library(**more):
     """The environment of a user whose library and package are installed."""
     left_out = ("LISLINK_LIBRARY", "PYTHONPATH")
     return {**{name: value for name, value in os.environ.items() if name not in left_out}, **more}
+
+
+class Page(html.parser.HTMLParser):
+    """A page of HTML: its tags, attributes, anchors, links and text, and whether its elements nest."""
+
+    def __init__(self, text):
+        super().__init__()
+        self.tags, self.attributes, self.text, self.is_good = set(), set(), "", True
+        self.open, self.ids, self.links = [], [], []
+        self.feed(text)
+        self.is_good &= not self.open
+
+    def handle_starttag(self, tag, attrs):
+        given = dict(attrs)
+        self.tags.add(tag)
+        self.attributes |= given.keys()
+        self.ids += [given["id"]] if "id" in given else []
+        self.links += [given["href"]] if "href" in given else []
+        if tag not in ("meta", "link", "col", "br"):
+            self.open.append(tag)
+
+    def handle_endtag(self, tag):
+        self.is_good &= bool(self.open) and self.open.pop() == tag
+
+    def handle_data(self, data):
+        self.text += data
 
 
 class Test(unittest.TestCase):

@@ -22,14 +22,24 @@ GOOD = (
 BAD = b"H|\\^&\rP|1\rR|1|^^^NA|139\rL|1|N\r"
 
 
-def changed(test, name, data, options, wanted, told):
-    ran = lislab("normalize", *options, data=data)
-    test.same(f"normalize: {name}", ran.output, wanted)
-    test.same(
-        f"normalize: {name}, told",
-        [line for line in ran.error.splitlines() if ": line " in line and "asked" not in line],
-        [f"lislab: line {one}" for one in told],
-    )
+HEAD = b"H|\\^&\r"
+#: What `normalize` changes: the name, the input, the option, the output, and what it reports.
+CHANGED = (
+    ("CR LF", b"H|\\^&\r\nL|1\r\n", "--crlf", HEAD + b"L|1\r", ["1: CR LF became CR", "2: CR LF became CR"]),
+    ("LF alone isn't CR LF", b"H|\\^&\nL|1\r\n", "--crlf", b"H|\\^&\nL|1\r", ["2: CR LF became CR"]),
+    ("LF", b"H|\\^&\nL|1\n", "--lf", HEAD + b"L|1\r", ["1: LF became CR", "2: LF became CR"]),
+    ("nothing is asked for", b"H|\\^&\r\nL|1\r\n", "", b"H|\\^&\r\nL|1\r\n", []),
+    ("NUL", HEAD + b"P|1\0\0\rL|1\r", "--nul", HEAD + b"P|1\rL|1\r", ["2: NUL was left out, 2 times"]),
+    ("blank lines", HEAD + b"\r\rL|1\r", "--blank", HEAD + b"L|1\r",
+     ["2: an empty record was left out", "3: an empty record was left out"]),
+    ("behind L", HEAD + b"L|1\rC|1|x\r" + HEAD + b"L|1\r", "--behind-l", (HEAD + b"L|1\r") * 2,
+     ["3: a record after L was left out (C, 5 bytes)"]),
+    ("the last CR", HEAD + b"L|1", "--last-cr", HEAD + b"L|1\r", ["2: the last record got its CR"]),
+    ("L in both places", (HEAD + b"P|1\r") * 2, "--last-l", (HEAD + b"P|1\rL|1|N\r") * 2,
+     ["3: L was put before this header", "5: L was put at the end"]),
+    ("HL7's delimiters", b"H|^~\\&|||x^y~z\rL|1\r", "--header-5", b"H|~^\\|||x^y~z\rL|1\r",
+     ["1: HL7's delimiters |^~\\& became repeat ~, component ^, escape \\: the header has H|~^\\"]),
+)
 
 
 def table(data, *options):
@@ -134,67 +144,19 @@ class Records(FieldTest):
             self.same(f"as JSON, nested {nested}", json.loads(message.to_json(nested)), message.to_dict(nested))
 
     def test_normalize(self):
-        for path in ("panel", "query", "escapes"):
-            data = kit.bytes_of(os.path.join(SAMPLES, path + ".records"))
-            changed(self, f"{path} is as it was", data, ["--all"], data, [])
-        head = b"H|\\^&\r"
-        changed(
-            self,
-            "CR LF",
-            b"H|\\^&\r\nL|1\r\n",
-            ["--crlf"],
-            b"H|\\^&\rL|1\r",
-            ["1: CR LF became CR", "2: CR LF became CR"],
-        )
-        changed(self, "LF alone isn't CR LF", b"H|\\^&\nL|1\r\n", ["--crlf"], b"H|\\^&\nL|1\r", ["2: CR LF became CR"])
-        changed(self, "LF", b"H|\\^&\nL|1\n", ["--lf"], b"H|\\^&\rL|1\r", ["1: LF became CR", "2: LF became CR"])
-        changed(self, "nothing is asked for", b"H|\\^&\r\nL|1\r\n", [], b"H|\\^&\r\nL|1\r\n", [])
-        changed(
-            self, "NUL", head + b"P|1\0\0\rL|1\r", ["--nul"], head + b"P|1\rL|1\r", ["2: NUL was left out, 2 times"]
-        )
-
-    def test_normalize_records(self):
-        head = b"H|\\^&\r"
-        changed(
-            self,
-            "blank lines",
-            head + b"\r\rL|1\r",
-            ["--blank"],
-            head + b"L|1\r",
-            ["2: an empty record was left out", "3: an empty record was left out"],
-        )
-        changed(
-            self,
-            "behind L",
-            head + b"L|1\rC|1|x\r" + head + b"L|1\r",
-            ["--behind-l"],
-            (head + b"L|1\r") * 2,
-            ["3: a record after L was left out (C, 5 bytes)"],
-        )
-        changed(self, "the last CR", head + b"L|1", ["--last-cr"], head + b"L|1\r", ["2: the last record got its CR"])
-        changed(
-            self,
-            "L in both places",
-            head + b"P|1\r" + head + b"P|1\r",
-            ["--last-l"],
-            (head + b"P|1\rL|1|N\r") * 2,
-            ["3: L was put before this header", "5: L was put at the end"],
-        )
-        changed(
-            self,
-            "HL7's delimiters",
-            b"H|^~\\&|||x^y~z\rL|1\r",
-            ["--header-5"],
-            b"H|~^\\|||x^y~z\rL|1\r",
-            ["1: HL7's delimiters |^~\\& became repeat ~, component ^, escape \\: the header has H|~^\\"],
-        )
+        samples = {name: kit.bytes_of(f"samples/{name}.records") for name in ("panel", "query", "escapes")}
+        good = [(name, data, "--all", data, []) for name, data in samples.items()]
+        for name, data, option, wanted, told in (*good, *CHANGED):
+            ran = lislab("normalize", *filter(None, [option]), data=data)
+            self.same(f"normalize: {name}", ran.output, wanted)
+            rows = [row for row in ran.error.splitlines() if ": line " in row and "asked" not in row]
+            self.same(f"normalize: {name}, told", rows, [f"lislab: line {one}" for one in told])
 
     def test_normalize_explained(self):
-        head = b"H|\\^&\r"
         link = b"\x05\x021H|\\^&\rP|1\x17A1\r\n\x022|x\r\x03C4\r\n\x023L|1\r\x0300\r\n\x04"
         ran = lislab("normalize", "--unframe", data=link)
-        self.same("normalize: frames", ran.output, head + b"P|1|x\rL|1\r")
-        for name, data in (("R without O", BAD), ("O without P", head + b"O|1\rL|1\r")):
+        self.same("normalize: frames", ran.output, HEAD + b"P|1|x\rL|1\r")
+        for name, data in (("R without O", BAD), ("O without P", HEAD + b"O|1\rL|1\r")):
             ran = lislab("normalize", "--all", data=data)
             self.same(f"normalize: {name} isn't fixed by --all", (ran.status, ran.output), (1, data))
             self.has(f"normalize: {name} names the option", ran.error, "--orders wasn't asked for")
@@ -204,16 +166,10 @@ class Records(FieldTest):
         for name in CHANGES:
             self.has("each change has its option", lislab("normalize", "--help").text, f"--{name}")
         mess = b"\xef\xbb\xbfH|\\^|||x\r\nP|1\nO|1|S7\r\n\r\nR|1|^^^GLU|5.4\0\r\nL|1"
-        self.same(
-            "normalize: many at once",
-            lislab("normalize", "--all", data=mess).output,
-            b"H|\\^&|||x\rP|1\rO|1|S7\rR|1|^^^GLU|5.4\rL|1\r",
-        )
-        self.has(
-            "normalize: explained in one line",
-            lislab("normalize", "--explain", data=mess).text,
-            "fixed by: lislab normalize --bom --nul --crlf --lf --blank --header-3 --last-cr",
-        )
+        made, said = lislab("normalize", "--all", data=mess).output, lislab("normalize", "--explain", data=mess).text
+        self.same("normalize: many at once", made, b"H|\\^&|||x\rP|1\rO|1|S7\rR|1|^^^GLU|5.4\rL|1\r")
+        fixes = "fixed by: lislab normalize --bom --nul --crlf --lf --blank --header-3 --last-cr"
+        self.has("normalize: explained in one line", said, fixes)
         self.same("normalize: nothing is left to explain", lislab("normalize", "--explain", data=GOOD).status, 0)
 
     def test_table(self):

@@ -9,12 +9,13 @@ from lislab.model.books import open_book
 from lislink.order import Order
 from lislab.watch.notify import Notifier
 from lislab.model.unix import ask
+from tests import kit
 from tests.host.hosts import Host, HostTest, lislab, wait_for
 from tests.host.plain import ACK, ENQ, NAK, Gone, Plain, samples_of
 from tests.host.test_orders import SLOW, states
 from tests.host.test_postgres import the_server
 from tests.host.test_watch import WAIT, port_of
-from tests.host.test_watch_page import HOSTILE, SCRIPT, TAGS, Parser, Site
+from tests.host.test_watch_page import HOSTILE, SCRIPT, TAGS, Site
 
 #: Names of patients, of which no part may be shown but a letter that can't be written.
 NAMES = ("M\u00fcller^Jane", "\u0418\u0432\u0430\u043d\u043e\u0432", "Doe^John")
@@ -224,14 +225,14 @@ class Ways(Hides, HostTest):
         self.addCleanup(site.close)
         for path in ("/", "/line?name=fire"):
             code, _, text = site.get(path)
-            found = Parser(text)
+            found = kit.Page(text)
             self.same(f"{path}: status", code, 200)
-            self.has(f"{path}: why", found.words, f"{len(HOSTILE) - 1} orders failed since ")
+            self.has(f"{path}: why", found.text, f"{len(HOSTILE) - 1} orders failed since ")
             self.same(f"{path}: tags", sorted(found.tags - TAGS), [])
-            self.hides(found.words)
-        self.has("the last ones", found.words, "Failed orders")
+            self.hides(found.text)
+        self.has("the last ones", found.text, "Failed orders")
         self.same("each of them", sum(f"<td>{at}</td>" in text for at in range(1, len(HOSTILE))), len(HOSTILE) - 1)
-        self.true("as text", found.words.count(SCRIPT) > len(HOSTILE), found.words[-500:])
+        self.true("as text", found.text.count(SCRIPT) > len(HOSTILE), found.text[-500:])
         rows = site.get("/metrics")[2].splitlines()
         found = [row for row in rows if row.startswith("lislab_orders{")]
         self.same("metrics", found, ['lislab_orders{state="waiting"} 1', 'lislab_orders{state="sent"} 0',

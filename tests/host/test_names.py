@@ -1,8 +1,9 @@
 """A name that no line has: each command that takes one says which there are."""
 from lislab.model.store import INCOMPLETE
+from tests import kit
 from tests.host.hosts import Host, HostTest, lislab
 from tests.host.test_lines import TEXTS, Client
-from tests.host.test_watch_page import SCRIPT, Parser, Site, fill, whole
+from tests.host.test_watch_page import SCRIPT, Site, fill, whole
 
 
 class Names(HostTest):
@@ -26,10 +27,10 @@ class Names(HostTest):
         site = Site(store)
         self.addCleanup(site.close)
         code, _, text = site.get("/line?name=fir")
-        found = Parser(text)
+        found = kit.Page(text)
         self.same("status", code, 404)
         self.has("a link", text, 'href="/line?name=a+%26+b"')
-        self.true("as text", SCRIPT in found.words and "script" not in found.tags, text)
+        self.true("as text", SCRIPT in found.text and "script" not in found.tags, text)
 
     def test_export(self):
         """`export --line` of a name that the store hasn't ends with status 1 and names those that it has."""

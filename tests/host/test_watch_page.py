@@ -3,7 +3,7 @@ the command that is run when a line turns bad."""
 import base64
 import contextlib
 import hashlib
-import html.parser
+import html
 import http.client
 import json
 import os
@@ -24,7 +24,7 @@ from lislab.watch import metrics, page, plot, tally, web
 from lislab.watch.client import Host as Seen
 from lislab.watch.notify import Notifier
 from lislab.watch.web import Asked, Pages, Server
-from tests import ROOT
+from tests import ROOT, kit
 from tests.field.test_browser import PICTURES, browser, chromium
 from tests.host.hosts import ENV, Host, HostTest, lislab, process, wait_for
 from tests.host.test_lines import TEXTS, Client
@@ -79,22 +79,6 @@ def said_of(lines):
 
 
 TOKEN = "0123456789abcdef"
-
-
-class Parser(html.parser.HTMLParser):
-    """The tags of a page, its attributes, and its text."""
-
-    def __init__(self, text):
-        super().__init__()
-        self.tags, self.attributes, self.words = set(), set(), ""
-        self.feed(text)
-
-    def handle_starttag(self, tag, attrs):
-        self.tags.add(tag)
-        self.attributes |= {name for name, _ in attrs}
-
-    def handle_data(self, data):
-        self.words += data
 
 
 def fill(store, line, bodies, state=COMPLETE, ago=60.0, took=0.5):
@@ -269,14 +253,14 @@ class Looks(HostTest):
         paths += [f"/line?{page.urlencode({'name': name})}" for name in names]
         for path in paths:
             status, _, text = site.get(path)
-            found = Parser(text)
+            found = kit.Page(text)
             self.same(f"{path}: status", status, 200)
             if path != "/metrics":
                 self.same(f"{path}: tags", sorted(found.tags - TAGS), [])
                 self.same(f"{path}: attributes", [one for one in found.attributes if one.startswith("on")], [])
-                odd = [one for one in found.words if one in page._TURNS or "\x7f" <= one <= "\x9f" or one < "\n"]
+                odd = [one for one in found.text if one in page._TURNS or "\x7f" <= one <= "\x9f" or one < "\n"]
                 self.same(f"{path}: characters that turn others", odd, [])
-                shown += SCRIPT in found.words
+                shown += SCRIPT in found.text
         self.true("it is shown as text", shown >= 4, str(shown))
         for name in HOSTILE:
             self.true("no text of it is too long", len(page.safe(name)) < 16 * page.VALUE)

@@ -1,7 +1,6 @@
 """Plays against a plain host: all that it can answer go through, and each fault that is planted in it is named by one.
 The command without the library; either end; a serial line; the report and JUnit's XML."""
 import contextlib
-import html.parser
 import os
 import pty
 import random
@@ -36,29 +35,6 @@ def failing(ran):
             found.update({row.split(" ")[0][:-5]: rows} if rows else {})
             rows = []
     return found
-
-
-class Page(html.parser.HTMLParser):
-    """A page of HTML: whether its elements nest, its anchors and links, its text."""
-
-    def __init__(self, text):
-        super().__init__()
-        self.open, self.ids, self.links, self.text, self.is_good = [], [], [], "", True
-        self.feed(text)
-        self.is_good &= not self.open
-
-    def handle_starttag(self, tag, attrs):
-        given = dict(attrs)
-        self.ids += [given["id"]] if "id" in given else []
-        self.links += [given["href"]] if "href" in given else []
-        if tag not in ("meta", "link", "col", "br"):
-            self.open.append(tag)
-
-    def handle_endtag(self, tag):
-        self.is_good &= bool(self.open) and self.open.pop() == tag
-
-    def handle_data(self, data):
-        self.text += data
 
 
 def host_of(test, code):
@@ -229,7 +205,7 @@ class Reports(kit.Test):
         page, xml = os.path.join(folder, "page.html"), os.path.join(folder, "plays.xml")
         ran = host.play(short(self), "--report", page, "--junit", xml)
         self.same("status", ran.status, 1)
-        found = Page(kit.bytes_of(page).decode())
+        found = kit.Page(kit.bytes_of(page).decode())
         self.check(found.is_good, "its elements nest")
         self.same("anchors that are there twice", len(found.ids), len(set(found.ids)))
         links = [one[1:] for one in found.links if one[0] == "#"]
@@ -256,7 +232,7 @@ class Reports(kit.Test):
         to = host_of(self, code)
         ran = play(path, "--to", to, "--report", page, "--junit", xml, scale=0.02)
         self.same("status", ran.status, 1)
-        found = Page(kit.bytes_of(page).decode())
+        found = kit.Page(kit.bytes_of(page).decode())
         self.check(found.is_good and "<script" not in kit.bytes_of(page).decode(), "the page")
         self.same("the XML", xml_of(xml).get("failures"), "1")
 
