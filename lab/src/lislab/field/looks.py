@@ -99,10 +99,6 @@ def _requests(ladder: Ladder) -> List[Row]:
     return [row for row in ladder.rows if row.kind not in ("frame", "bad") and _REQUEST.search(row.raw)]
 
 
-def _request_count(_: Ladder, rows: List[Row]) -> Dict[str, Any]:
-    return {"times": _times(sum(len(_REQUEST.findall(row.raw)) for row in rows))}
-
-
 def _is_telnet(ladder: Ladder) -> bool:
     return telnet_in(ladder.analyzer) > 0
 
@@ -170,10 +166,6 @@ def _begins_wrong(ladder: Ladder) -> List[Row]:
             return [row]
         before = row
     return []
-
-
-def _number(ladder: Ladder, rows: List[Row]) -> Dict[str, Any]:
-    return {"number": rows[0].number}
 
 
 def _never_ended(ladder: Ladder) -> Iterator[Look]:
@@ -261,15 +253,6 @@ def _outside(ladder: Ladder) -> Iterator[Look]:
         yield look_of(Verdict.XON_OUTSIDE, _lines(rows))
     else:
         yield look_of(Verdict.OUTSIDE, _lines(rows), len(data))
-
-
-def _takes_bad(ladder: Ladder) -> List[Row]:
-    """A host that speaks Telnet drops the NUL bytes of Telnet."""
-    return [] if _is_telnet(ladder) else meant(Meaning.TAKES_BAD)(ladder)
-
-
-def _other_answers(ladder: Ladder) -> List[Row]:
-    return [row for row in meant(Meaning.OTHER)(ladder) if row.kind == "reply"]
 
 
 def _no_replies(ladder: Ladder) -> Iterator[Look]:
@@ -370,11 +353,15 @@ def _sequence(ladder: Ladder) -> Iterator[Look]:
 _TABLE: "tuple[Union[Check, Callable[[Ladder], Iterator[Look]]], ...]" = (
     _no_protocol,
     Check(Verdict.TELNET, _telnet, lambda ladder, rows: {"times": _times(telnet_in(ladder.analyzer))}),
-    Check(Verdict.TELNET_REQUESTS, _requests, _request_count),
+    Check(
+        Verdict.TELNET_REQUESTS,
+        _requests,
+        lambda _, rows: {"times": _times(sum(len(_REQUEST.findall(row.raw)) for row in rows))},
+    ),
     _no_text,
     _none_accepted,
-    Check(Verdict.SAME_NUMBER, _same_number, _number),
-    Check(Verdict.BEGINS_WRONG, _begins_wrong, _number),
+    Check(Verdict.SAME_NUMBER, _same_number, lambda _, rows: {"number": rows[0].number}),
+    Check(Verdict.BEGINS_WRONG, _begins_wrong, lambda _, rows: {"number": rows[0].number}),
     Check(Verdict.LOST, meant(Meaning.LOST)),
     _never_ended,
     _bad_frames,
@@ -384,9 +371,10 @@ _TABLE: "tuple[Union[Check, Callable[[Ladder], Iterator[Look]]], ...]" = (
     _outside,
     Check(Verdict.REJECTS_GOOD, meant(Meaning.REJECTS_GOOD)),
     Check(Verdict.BUSY, meant(Meaning.BUSY)),
-    Check(Verdict.TAKES_BAD, _takes_bad),
+    # A host that speaks Telnet drops the NUL bytes of Telnet.
+    Check(Verdict.TAKES_BAD, lambda ladder: [] if _is_telnet(ladder) else meant(Meaning.TAKES_BAD)(ladder)),
     Check(Verdict.INTERRUPT, meant(Meaning.INTERRUPT)),
-    Check(Verdict.OTHER_ANSWER, _other_answers),
+    Check(Verdict.OTHER_ANSWER, lambda ladder: [row for row in meant(Meaning.OTHER)(ladder) if row.kind == "reply"]),
     Check(Verdict.ECHO, meant(Meaning.ECHO)),
     Check(Verdict.COMPUTER_SESSION, meant(Meaning.OWN_SESSION)),
     _no_replies,

@@ -89,15 +89,11 @@ def _bytes(work: Work) -> None:
                 )
             work.data = work.data.replace(byte, b"")
     ending = ending_of(work.data)
-    if ending is not None and ending.is_sure and work.wants("cr-words", _line_at(work.data, _first(ending, work.data))):
-        for line in sorted(_lines_of(ending, work.data)):
+    ended = sorted(_lines_of(ending, work.data)) if ending is not None and ending.is_sure else []
+    if ending is not None and ended and work.wants("cr-words", ended[0]):
+        for line in ended:
             work.tell(line, f"{ending.shown} became a CR")
         work.data = ending.with_cr(work.data)
-
-
-def _first(ending: Ending, data: bytes) -> int:
-    found = ending.places.search(data)
-    return found.start() if found else 0
 
 
 def _lines_of(ending: Ending, data: bytes) -> Set[int]:

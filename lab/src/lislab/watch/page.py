@@ -211,11 +211,6 @@ def failed_table(found: Optional[Failed]) -> str:
     return f'<h2>Failed orders</h2><div class="wide">{shown}</div>{note}'
 
 
-def trouble_page(found: Sequence[Head]) -> str:
-    """The last messages that can't be delivered."""
-    return page("Incomplete and invalid messages", heads_table(found))
-
-
 def message_page(one: Stored) -> str:
     """A message: its records with the fields' names, or its bytes if they can't be read."""
     about = [("line", one.line), ("from", one.peer), ("began", when(one.began)), ("kept", when(one.ended))]

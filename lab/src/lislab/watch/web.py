@@ -137,7 +137,7 @@ class Pages:
 
     def _trouble(self, _: Dict[str, str]) -> Answer:
         found = tally.each(self.host.store, lambda store: store.not_complete(None))
-        return Answer(200, HTML, page.trouble_page(found))
+        return Answer(200, HTML, page.page("Incomplete and invalid messages", page.heads_table(found)))
 
     def _message(self, given: Dict[str, str]) -> Answer:
         found = tally.each(self.host.store, lambda store: store.message(given.get("key", "")))
