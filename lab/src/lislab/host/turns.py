@@ -36,22 +36,28 @@ class Turns:
         self._accounts: "WeakValueDictionary[str, Account]" = WeakValueDictionary()
         self._waiting: "List[Tuple[float, int, Account, asyncio.Future[None]]]" = []
         self._count, self._goes = 0, False
-        #: When the first line checked for its turn in this turn of the loop; None if none has.
+        #: When the first line checked for its turn, in this turn of the loop if `_is_one`, or in an earlier one; None if
+        #: none has.
         self._begun: Optional[float] = None
+        self._is_one = False
 
     def account(self, peer: str) -> Account:
         """Returns the account of a peer, which all its lines share."""
         return self._accounts.setdefault(peer, Account(self.had))
 
     def is_full(self, now: float) -> bool:
-        """Whether the lines have used enough of this turn of the loop by now."""
-        if self._begun is None:
-            self._begun = now
-            asyncio.get_running_loop().call_soon(self._turn_over)
-        return now > self._begun + ALL
+        """Whether the lines have used enough of this turn of the loop by now. A turn costs time, and is measured only if
+        lines wait, or have used as much in several turns."""
+        begun = self._begun
+        if begun is None or (now > begun + ALL and not self._is_one):
+            self._begun, self._is_one = now, begun is not None or self._goes
+            if self._is_one:
+                asyncio.get_running_loop().call_soon(self._turn_over)
+            return False
+        return now > begun + ALL
 
     def _turn_over(self) -> None:
-        self._begun = None
+        self._begun, self._is_one = None, False
 
     async def wait(self, account: Account) -> None:
         """Returns when it is the turn of a line with this account."""
