@@ -32,8 +32,7 @@ def query_texts(samples: Sequence[str], encoding: str = LATIN) -> List[bytes]:
         for number, sample in enumerate(named, 1):
             writer.record("Q", [b"%d" % number, [b"", sample], b"", [b"", b"", b"", b"ALL"], *[b""] * 7, b"O"])
         writer.record("L", [b"1", b"N"])
-        texts: List[bytes] = writer.texts()
-    return texts
+        return writer.texts()
 
 
 def orders_in(texts: Sequence[bytes]) -> Iterator[Asked]:
@@ -56,8 +55,7 @@ def result_texts(asked: Sequence[Asked], values: Sequence[Tuple[bytes, bytes, by
                 value, unit = known[test]
                 writer.record("R", [b"%d" % place, [b"", b"", b"", test], value, unit, b"", b"", b"", b"F"])
         writer.record("L", [b"1", b"N"])
-        texts: List[bytes] = writer.texts()
-    return texts
+        return writer.texts()
 
 
 def values_of(data: bytes) -> List[Tuple[bytes, bytes, bytes]]:

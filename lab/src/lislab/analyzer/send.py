@@ -126,8 +126,7 @@ async def session(channel: Channel, texts: Sequence[bytes], scale: float, waits:
                 await channel.write(out)
             phase = sender.phase
             if phase is Phase.NEUTRAL:
-                outcome: Outcome = sender.outcome
-                return outcome
+                return sender.outcome
             due, out = loop.time() + (sender.seconds or 0) * scale, b""
             while not out and sender.phase is phase:
                 reply = await channel.byte(due)
@@ -229,8 +228,7 @@ def made_message(name: str, number: int) -> Texts:
             writer.record("R", [b"%d" % (test + 1), [b"", b"", b"", b"T%d" % test], b"5.%d" % test, b"mmol/L"])
         writer.record("C", [b"1", b"I", b"a comment that takes more than one frame " * 7])
         writer.record("L", [b"1", b"N"])
-        texts: Texts = writer.texts()
-        return texts
+        return writer.texts()
 
 
 class Plan(NamedTuple):

@@ -386,14 +386,12 @@ def _one_log(found: List[Connection], every: List[Connection], form: str) -> Log
             pieces.append(piece._replace(side=side))
     if len(found) > 1:
         remarks.append(f"{len(found)} connections follow one another; a line R is where each new one begins")
-    if sum(one.repeated for one in found):
-        remarks.append(f"{sum(one.repeated for one in found)} segments came again, and were left out")
-    if sum(one.skipped for one in found):
-        remarks.append(
-            f"{sum(one.skipped for one in found)} bytes aren't in the file, and were passed over: units are missing or torn"
-        )
-    if sum(one.early for one in found):
-        remarks.append(f"{sum(one.early for one in found)} segments arrived out of order and were reordered")
+    for count, what in (
+        (sum(one.repeated for one in found), "segments came again, and were left out"),
+        (sum(one.skipped for one in found), "bytes aren't in the file, and were passed over: units are missing or torn"),
+        (sum(one.early for one in found), "segments arrived out of order and were reordered"),
+    ):
+        remarks += [f"{count} {what}"] if count else []
     others = [one for one in every if one not in found and one.pieces]
     if others:
         count = sum(len(piece.data) for one in others for piece in one.pieces)
@@ -422,35 +420,32 @@ _DUMP = re.compile(r"^\s*(?:0x)?([0-9a-fA-F]{4,8}):? +((?:[0-9a-fA-F]{2,4} ?)+)(
 
 def dumped_packets(text: str) -> Iterator[Packet]:
     """The packets of `tshark -x`, of Wireshark's text with packet bytes, and of `tcpdump -x`, -xx, -X and -XX."""
-    time, data = None, b""  # type: Optional[int], bytes
     link: Optional[int] = None  # as the first packet is, so are the others
+    for time, data in _dumps(text):
+        link = link or _link_of(data)
+        yield Packet(time, link, data, 0)
+
+
+def _dumps(text: str) -> Iterator[Tuple[Optional[int], bytes]]:
+    """The bytes of each dump, with the time before it."""
+    time, data = None, b""  # type: Optional[int], bytes
     for row in text.splitlines():
         found = _DUMP.match(row)
-        if found and int(found[1], 16) == len(data):
-            pass
-        elif found and int(found[1], 16) == 0:
-            if data:
-                link = link or _link_of(data)
-                yield Packet(time, link, data, 0)
+        if data and (row.strip() if not found else int(found[1], 16) == 0):
+            yield time, data
             data = b""
-        elif found:
+        if found and int(found[1], 16) != len(data):
             raise LogError(f"the offset {found[1]} doesn't follow the bytes before: a row is missing")
-        elif row.strip():
-            if data:
-                link = link or _link_of(data)
-                yield Packet(time, link, data, 0)
-                data = b""
-            relative = re.match(r"\s*\d+\s+(\d+)\.(\d{6,9})\s", row)
-            if relative:
-                time = int(relative[1]) * SECOND + int(relative[2].ljust(9, "0"))
-            elif "Arrival Time" in row or re.match(r"(\d{4}-\d\d-\d\d )?\d\d:\d\d:\d\d\.\d+ |\d{9,10}\.\d+ ", row):
-                time = find_time(row)
+        if found:
+            data += bytes.fromhex("".join(found[2].split()[:16]))
             continue
-        else:
-            continue
-        data += bytes.fromhex("".join(found[2].split()[:16]))
+        relative = re.match(r"\s*\d+\s+(\d+)\.(\d{6,9})\s", row)
+        if relative:
+            time = int(relative[1]) * SECOND + int(relative[2].ljust(9, "0"))
+        elif "Arrival Time" in row or re.match(r"(\d{4}-\d\d-\d\d )?\d\d:\d\d:\d\d\.\d+ |\d{9,10}\.\d+ ", row):
+            time = find_time(row)
     if data:
-        yield Packet(time, link or _link_of(data), data, 0)
+        yield time, data
 
 
 def k12_packets(text: str) -> Iterator[Packet]:

@@ -1,5 +1,7 @@
 """Scripts: a capture as it is, or the readable form of docs/validate.md, read into steps. A script that is wrong names
 its line."""
+import bisect
+import itertools
 import re
 from typing import Dict, Iterator, List, NamedTuple, Optional, Sequence, Tuple
 
@@ -292,18 +294,12 @@ def steps_of(script: Script, own: str, but: Sequence[str] = ()) -> List[Step]:
 
 def _cut(run: List[Step], but: Sequence[str]) -> List[Step]:
     """The units of bytes that came in pieces, each with the line where it begins."""
-    data = b"".join(bytes_of(step.unit) or b"" for step in run)
-    places: List[Tuple[int, Step]] = []
-    at = 0
-    for step in run:
-        places.append((at, step))
-        at += len(bytes_of(step.unit) or b"")
-    found: List[Step] = []
-    at = place = 0
-    for unit in units_of(data):
-        while place + 1 < len(places) and places[place + 1][0] <= at:
-            place += 1
-        found.append(places[place][1]._replace(unit=_lenient(Exact(unit), but)))
+    pieces = [bytes_of(step.unit) or b"" for step in run]
+    starts = list(itertools.accumulate(map(len, pieces), initial=0))
+    at, found = 0, []
+    for unit in units_of(b"".join(pieces)):
+        step = run[bisect.bisect_right(starts, at) - 1]
+        found.append(step._replace(unit=_lenient(Exact(unit), but)))
         at += len(unit)
     return found
 
