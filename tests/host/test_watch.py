@@ -26,6 +26,7 @@ from lislab.diagnosis.events import Came, Closed, Meant, Sent
 from lislab.diagnosis.pulse import Probe, Pulse
 from lislab.model.unix import WatchError, ask
 from lislab.diagnosis.verdicts import Meaning
+from tests import kit
 from tests.host.hosts import Host, HostTest, lislab, process, say, see, wait_for
 from tests.host.plain import frame
 from tests.host.test_lines import ACK, ENQ, EOT, NAK, TEXTS, Client, frames, session
@@ -67,14 +68,8 @@ def echoes(client):
         client.send(client.asks(unit))
 
 
-def stalled(client):
-    """A frame that is kept too late to be answered."""
-    client.asks(ENQ)
-    client.send(frames(TEXTS)[0])
-
-
 def unanswered(client):
-    """A frame that can't be kept."""
+    """A frame that can't be kept, or too late to be answered."""
     client.asks(ENQ)
     client.send(frames(TEXTS)[0])
 
@@ -112,7 +107,7 @@ FAULTS = {
     "silence after ENQ": Fault(lambda one: one.asks(ENQ), "no-frame", "ENQ acknowledged, no frame since"),
     "no LF": Fault(lambda one: one.asks(ENQ) and one.send(b"".join(frames(TEXTS)).replace(b"\n", b"")), "no-unit",
                    "no LF ended one"),
-    "late": Fault(stalled, "late", "once no reply was sent since .*: it would have been late", "stalled", False),
+    "late": Fault(unanswered, "late", "once no reply was sent since .*: it would have been late", "stalled", False),
     "a full disk": Fault(unanswered, "disk-full", "once a text could not be stored since .*: the disk is full", "full",
                          False),
     "the database is gone": Fault(unanswered, "store-gone", r"the store is gone \(PostgreSQL: server closed", "gone",
@@ -257,10 +252,7 @@ class Watch(HostTest):
         one = open_store(store)
         one.start("h")
         one.close()
-        path = self.path("orders.csv")
-        with open(path, "w", encoding="ascii") as file:
-            file.write("sample,tests\nS1,GLU\n")
-        lislab("order", "add", "--store", store, path)
+        lislab("order", "add", "--store", store, kit.file_of(self, "orders.csv", "sample,tests\nS1,GLU\n"))
         host = Host(store, "--listen", "127.0.0.1:0,name=two,orders=download",
                     "--serial", f"{self.path('no device')}:9600,name=cable", "--connect", "127.0.0.1:1,name=called")
         with Client(port_of(host, "two")) as client:
@@ -339,19 +331,17 @@ class Watch(HostTest):
         self.same("saved", (saved.returncode, saved.stdout), (0, ""))
         for name in (path, path + ".times"):
             self.same(f"{name[-6:]}: its mode", stat.S_IMODE(os.stat(name).st_mode), 0o600)
-        with open(path, "rb") as file:
-            capture = read_capture(file.read())
+        capture = read_capture(kit.bytes_of(path))
         host.stop()
         tapes = sorted(os.path.join(self.folder.name, one) for one in os.listdir(self.folder.name)
                        if one.startswith("tape") and one.endswith(".capture"))
         taped = []
         for tape in tapes:
             taped += [("R", b"")] if taped else []
-            with open(tape, "rb") as file:
-                taped += [(one.mark, one.data) for _, one in read_capture(file.read()).lines]
+            taped += [(one.mark, one.data) for _, one in read_capture(kit.bytes_of(tape)).lines]
         self.same("as two tapes have it", [(one.mark, one.data) for _, one in capture.lines], taped)
-        with open(path + ".times", encoding="ascii") as file:
-            self.same("a time for each line", len(file.read().splitlines()), capture.lines[-1][0])
+        times = kit.bytes_of(path + ".times").splitlines()
+        self.same("a time for each line", len(times), capture.lines[-1][0])
         ladder = lislab("ladder", path)
         self.same("its ladder", (ladder.returncode, "texts 7, differences 0, messages 2" in ladder.stdout), (0, True))
 

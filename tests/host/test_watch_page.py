@@ -286,15 +286,11 @@ class Looks(HostTest):
         for number, path in enumerate(paths):
             text = site.get(path)[2]
             text = text.replace('<link rel="stylesheet" href="/style.css">', f"<style>{page.STYLE}</style>")
-            name = self.path(f"page{number}.html")
-            with open(name, "w", encoding="utf-8") as file:
-                file.write(text.replace('<script src="/live.js" defer></script>', ""))
+            name = kit.file_of(self, f"page{number}.html", text.replace('<script src="/live.js" defer></script>', ""))
             for wide, high in ((1366, 768), (420, 800)):
                 size = f'width="{wide}" height="{high}"'
                 frames += f'<iframe title="{number} {wide}" src="file://{name}" {size}></iframe>'
-        looker = self.path("looker.html")
-        with open(looker, "w", encoding="utf-8") as file:
-            file.write(LOOKER.replace("FRAMES", frames))
+        looker = kit.file_of(self, "looker.html", LOOKER.replace("FRAMES", frames))
         told = re.search(r'<pre id="told">(.*?)</pre>', chromium("--dump-dom", "file://" + looker).stdout, re.S)
         seen = json.loads(html.unescape(told[1])) if told and told[1] else {}
         for number, path in enumerate(paths):
@@ -492,10 +488,8 @@ class Looks(HostTest):
     def test_command(self):
         """`lislab watch --http` serves, and runs a command when a line turns bad."""
         host, out = Host(self.path("command.db"), scale=1.0), self.path("turned")
-        script = self.path("turned.py")
-        with open(script, "w", encoding="ascii") as file:
-            file.write("import os\nline, state = os.environ['LISLAB_LINE'], os.environ['LISLAB_STATE']\n")
-            file.write(f"open({out!r}, 'a').write(line + state + ' ')\n")
+        code = "import os\nline, state = os.environ['LISLAB_LINE'], os.environ['LISLAB_STATE']\n"
+        script = kit.file_of(self, "turned.py", code + f"open({out!r}, 'a').write(line + state + ' ')\n")
         words = ["-m", "lislab", "watch", "--store", host.store, "--http", "127.0.0.1:0", "--every", "0.1",
                  "--notify", f"{sys.executable} {script}"]
         one = process(words, stdout=subprocess.PIPE, stderr=subprocess.PIPE)
