@@ -3,7 +3,7 @@ words what its colours say. The frame of each page of lislab is page.html."""
 import importlib.resources
 import string
 from html import escape
-from typing import Iterable, Iterator, List, Optional
+from typing import Iterable, Iterator, List, Optional, Sequence
 
 from lislink.message import KINDS, NAMES, Entry, Fault, Found
 from ..diagnosis.faults import code_of, words
@@ -36,6 +36,17 @@ def alone(title: str, heading: str, top: str, main: str, foot: str, script: str 
     if script:
         head, foot = f"{head}<script>{_GUARD}</script>", f"{foot}<script>{script}</script>"
     return framed(title, heading, top, main, foot, head)
+
+
+def table(heads: Sequence[str], rows: Sequence[str], kind: str = "") -> str:
+    """A table of these rows, with a heading above each column."""
+    head = "".join(f"<th>{one}</th>" for one in heads)
+    return f"<table{kind}><thead><tr>{head}</tr></thead><tbody>{''.join(rows)}</tbody></table>"
+
+
+def row(*cells: object, kind: str = "") -> str:
+    """A row of cells, which are HTML."""
+    return f"<tr{kind}>{''.join(f'<td>{one}</td>' for one in cells)}</tr>"
 
 
 def _tag(level: str, text: Optional[str] = None) -> str:
@@ -107,14 +118,10 @@ def _entry(entry: Entry, found: Found) -> Iterator[str]:
     cells = [(entry.row.first + at, entry.whole(entry.row.first + at)) for at in range(entry.row.count)]
     brief = escape("|".join(text for _, text in cells)[:140])
     names = {place: name.replace("_", " ") for place, name in NAMES.get(entry.letter, {}).items()}
-    fields = "".join(
-        f"<tr><td>{place}</td><td>{escape(names.get(place, ''))}</td><td><code>{escape(text)}</code></td></tr>"
-        for place, text in cells
-        if text
-    )
+    fields = (row(place, escape(names.get(place, "")), f"<code>{escape(text)}</code>") for place, text in cells if text)
     below = "".join("".join(_entry(one, found)) for one in entry.notes + entry.children)
     yield f"<li><details><summary>{entry.number} <b>{KINDS.get(entry.letter, entry.letter)}</b> <code>{brief}</code>"
-    yield f'{mark}</summary><table class="fields">{fields}</table></details>'
+    yield f'{mark}</summary><table class="fields">{"".join(fields)}</table></details>'
     yield f"<ul class=tree>{below}</ul></li>" if below else "</li>"
 
 

@@ -7,7 +7,7 @@ from xml.sax.saxutils import quoteattr
 
 from ..diagnosis.faults import words
 from ..field.ladder import Row
-from ..field.page import alone, rows_of
+from ..field.page import alone, row, rows_of, table
 from .frames import WORDS, read_frame
 from .player import Event, Played, ranges
 
@@ -58,22 +58,22 @@ def _clock(seconds: float) -> str:
     return datetime.datetime.fromtimestamp(seconds).astimezone().isoformat(" ", "seconds")
 
 
-def _sums(plays: Sequence[Played]) -> Iterator[str]:
-    yield '<table class="ladder"><thead><tr><th>play</th><th>steps</th><th>differences</th></tr></thead><tbody>'
+def _sums(plays: Sequence[Played]) -> str:
+    rows = []
     for one in plays:
-        count = len(one.outcome.differences)
+        count, name = len(one.outcome.differences), escape(one.name)
         level = "bad" if count or one.outcome.failed else ""
         end = ", and the play stopped" if one.outcome.failed else ""
-        yield f'<tr class="{level}"><td><a href="#{escape(one.name)}">{escape(one.name)}</a></td>'
-        yield f"<td>{one.outcome.steps}</td><td>{count}{end}</td></tr>"
-    yield "</tbody></table>"
+        link = f'<a href="#{name}">{name}</a>'
+        rows.append(row(link, one.outcome.steps, f"{count}{end}", kind=f' class="{level}"'))
+    return table(("play", "steps", "differences"), rows, ' class="ladder"')
 
 
 def page_of(plays: Sequence[Played]) -> str:
     """The page, with a place for two signatures."""
     title = plays[0].name if len(plays) == 1 else f"{len(plays)} plays"
     wrong = sum(bool(one.outcome.differences or one.outcome.failed) for one in plays)
-    sums = "".join(_sums(plays)) if len(plays) > 1 else ""
+    sums = _sums(plays) if len(plays) > 1 else ""
     sections = "".join("".join(_section(one, f"p{place}l")) for place, one in enumerate(plays, 1))
     top = f"""<div class="counts"><span>{_clock(plays[0].begun)}</span><span><b>{len(plays)}</b> played</span>
 <span><b>{wrong}</b> with differences</span></div>"""

@@ -9,7 +9,7 @@ from urllib.parse import urlencode
 from lislink.message import KINDS, NAMES, Fault, Found, read_all
 from ..diagnosis.faults import words
 from ..diagnosis.pulse import PAST
-from ..field.page import framed, rows_of, text_of
+from ..field.page import framed, row, rows_of, table, text_of
 from ..model.book import Failed
 from ..model.said import many
 from ..model.store import COMPLETE, Head, Stored
@@ -59,17 +59,6 @@ def page(title: str, body: str, is_live: bool = False) -> str:
     top = f"<nav>{' &middot; '.join(link(path, name) for path, name in names.items())}</nav>"
     foot = f'<p class="note">Made by lislab at {when(time.time())}. It only reads.</p>'
     return framed(title, title, top, body, foot, head)
-
-
-def table(heads: Sequence[str], rows: Sequence[str], kind: str = "") -> str:
-    """A table of these rows, with a heading above each column."""
-    head = "".join(f"<th>{one}</th>" for one in heads)
-    return f"<table{kind}><thead><tr>{head}</tr></thead><tbody>{''.join(rows)}</tbody></table>"
-
-
-def row(*cells: object, kind: str = "") -> str:
-    """A row of cells, which are HTML."""
-    return f"<tr{kind}>{''.join(f'<td>{one}</td>' for one in cells)}</tr>"
 
 
 def state(one: Mapping[str, Any]) -> str:
