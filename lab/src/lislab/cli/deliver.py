@@ -3,7 +3,7 @@ import argparse
 import os
 import signal
 from types import FrameType
-from typing import List, Optional
+from typing import Callable, Iterator, List, NamedTuple, Optional
 
 from lislink._library import calls
 from ..field.table import form_of
@@ -13,7 +13,7 @@ from ..model.files import is_locked
 from ..model.options import OptionError, split_peer
 from ..model.results import Reading
 from ..model.said import many, say
-from ..model.store import Store, StoreError
+from ..model.store import Store, Stored, StoreError
 from ..model.stores import open_store
 from ..outbound import deliver, export, https, mllp, quarantine
 from ..outbound.ahead import Ahead
@@ -85,17 +85,27 @@ def _form_of(ask: argparse.Namespace) -> export.Form:
     return form_asked(ask, form, say)
 
 
-def _target_of(ask: argparse.Namespace, form: export.Form, store: Store, lock: int, ahead: Ahead) -> deliver.Target:
-    """A function that delivers a message, by the options."""
-    target = _receiver_of(ask, form, lock, ahead)
+class _Outbound(NamedTuple):
+    """What delivers a message, by the options; and the messages of a store, in turn."""
+
+    target: deliver.Target
+    over: Callable[[Iterator[Stored]], Iterator[Stored]]
+
+
+def _outbound_of(ask: argparse.Namespace, form: export.Form, store: Store, lock: int) -> _Outbound:
+    """All but `records` and `json` leave out what would undo a correction."""
     if form.form in ("records", "json"):
-        return target
+        ahead = Ahead(export.writer_of(form))
+        return _Outbound(_receiver_of(ask, form, lock, ahead), ahead.over)
     reading = form.tables.reading if form.tables else lambda line: Reading()
-    return without(target, Corrections(store, reading), say)
+    corrections = Corrections(store, reading, form.wishes.header_time if form.wishes else None)
+    ahead = Ahead(corrections.writer(export.writer_of(form)))
+    target = without(_receiver_of(ask, form, lock, ahead), corrections, form.counts, say)
+    return _Outbound(target, lambda messages: ahead.over(corrections.over(messages)))
 
 
 def _receiver_of(ask: argparse.Namespace, form: export.Form, lock: int, ahead: Ahead) -> deliver.Target:
-    """The same for any message."""
+    """A function that delivers a message to whom the options name."""
     where: str = ask.to or ask.directory or ""
     scheme, slashes, rest = where.partition("://")
     scheme = scheme if slashes else ""
@@ -124,17 +134,16 @@ def run(ask: argparse.Namespace) -> int:
     cursor = deliver.Cursor(ask.cursor, say)
     try:
         kept = _quarantine_of(ask, form)
-        ahead = Ahead(export.writer_of(form))
-        target = _target_of(ask, form, store, cursor.lock, ahead)
+        outbound = _outbound_of(ask, form, store, cursor.lock)
         one = deliver.Delivery(
             store,
             cursor,
-            target,
+            outbound.target,
             say,
             quarantine=kept,
             wants=_wants(ask),
             counts=lambda: dict(form.counts),
-            over=ahead.over,
+            over=outbound.over,
         )
         signal.signal(signal.SIGTERM, _stop)
         count = deliver.run(one, ask.once)
@@ -190,7 +199,7 @@ def _run_again(ask: argparse.Namespace) -> int:
     store = open_store(ask.store)
     cursor = deliver.Cursor(ask.cursor, say)
     try:
-        target = _target_of(ask, form, store, cursor.lock, Ahead(export.writer_of(form)))
+        target = _outbound_of(ask, form, store, cursor.lock).target
         one = deliver.Delivery(store, cursor, target, say, quarantine=_quarantine_of(ask, form))
         return GOOD if deliver.run_again(one, ask.resend) else LOOKS_WRONG
     finally:

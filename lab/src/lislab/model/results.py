@@ -443,6 +443,11 @@ def time_of(text: str) -> str:
     return text if moment_of(text) is not None else ""
 
 
+def has_clock(text: str) -> bool:
+    """Whether a text is a time with a time of day."""
+    return len(text) >= 12 and moment_of(text) is not None
+
+
 @functools.lru_cache(maxsize=64)  # the results of a message mostly have the same times
 def moment_of(text: str) -> Optional[datetime.datetime]:
     """What a time of a record means, which has no zone; None for anything else."""

@@ -19,6 +19,10 @@ def samples_of(one: Stored, reading: Reading = Reading()) -> FrozenSet[str]:
             if row.letter in "PQ":
                 above = Entry(row, 0, one.encoding)
             elif row.letter == "O" and above is not None:
-                text = sample_of(Entry(row, 0, one.encoding), above, reading)[0]
-                found.update((text or "^".join(parts_of(above, 3) or parts_of(above, 4))).split("\\"))
+                found.update(sample_or_patient(Entry(row, 0, one.encoding), above, reading).split("\\"))
     return frozenset(found - {""})
+
+
+def sample_or_patient(order: Entry, above: Entry, reading: Reading) -> str:
+    """The sample of an order, the whole field if it isn't sure; a patient's identity if there is none."""
+    return sample_of(order, above, reading)[0] or "^".join(parts_of(above, 3) or parts_of(above, 4))

@@ -283,6 +283,11 @@ class SpoolStore(Store):
     def count_after(self, number: int) -> int:
         return len(self._after(number))
 
+    def number_before(self, number: int, count: int) -> int:
+        names = self._listed(COMPLETE)
+        at = bisect.bisect(names, f"{number:016}~") - count - 1
+        return int(names[at].split("-")[0]) if at >= 0 else 0
+
     def number_at(self, at: float) -> int:
         """Numbers are times, in microseconds."""
         return max(0, int(at * 1_000_000) - 1)

@@ -304,6 +304,10 @@ class SqlStore(Store):
     def count_after(self, number: int) -> int:
         return int(self.read("SELECT count(*) FROM message WHERE number > ?", (number,))[0][0])
 
+    def number_before(self, number: int, count: int) -> int:
+        words = "SELECT number FROM message WHERE number <= ? ORDER BY number DESC LIMIT 1 OFFSET ?"
+        return int(next(iter(self.read(words, (number, count))), (0,))[0])
+
     def number_at(self, at: float) -> int:
         """Numbers rise with the time."""
         low, high = 0, self._newest()

@@ -162,6 +162,10 @@ class Store(abc.ABC):
         """A number such that every message stored at this time or later has a greater one."""
 
     @abc.abstractmethod
+    def number_before(self, number: int, count: int) -> int:
+        """A number such that at most so many complete messages have a number above it and up to this one."""
+
+    @abc.abstractmethod
     def is_held(self, host: str = "") -> bool:
         """Whether a host of this name, or any, has the store now."""
 

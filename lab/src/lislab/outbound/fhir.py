@@ -12,7 +12,7 @@ from urllib.parse import quote
 
 from ..model.numbers import Number, number_of, range_of
 from ..model.results import Case, Coding, Identity, Ordered, Result, Told
-from ..model.results import field_text, identities_of, moment_of, parts_of, report_of
+from ..model.results import field_text, has_clock, identities_of, parts_of, report_of
 from .oru import Wishes, specimen_of
 
 #: The systems of identifiers: of a message, of a result, of a sample's test, of a sample and of an order.
@@ -148,7 +148,7 @@ class _Made:
         """The name of a result. It depends on its time; without a time of day on its value, and on what else says which
         of two results of the test it is. It doesn't depend on the message in which it came."""
         known = [self._told.one.line, order.sample, *_who(case), "", *test]
-        known += [at] if _has_clock(at) else ["", at, value, *self._when(order)]
+        known += [at] if has_clock(at) else ["", at, value, *self._when(order)]
         return self._own(_OF_RESULT, _digest(*known, str(self._turn(*known))), updates=True)
 
     def _when(self, order: Ordered) -> List[str]:
@@ -156,9 +156,9 @@ class _Made:
         ignored, and without that all records of the order."""
         record = order.record
         times = [field_text(record, number) for number in _TIMES]
-        if not any(map(_has_clock, times)):
-            times.append(field_text(self._told.message.header, 14) if self._wishes.header_time else "")
-            if not _has_clock(times[-1]):
+        if not any(map(has_clock, times)):
+            times.append(field_text(self._told.message.header, 14) if self._wishes.header_time is not False else "")
+            if not has_clock(times[-1]):
                 records = [one for each in (record, *record.results) for one in (each, *each.notes)]
                 times += [one.row.text.decode(one.encoding, "replace") for one in records]
         return times
@@ -355,11 +355,6 @@ class _Made:
 def _digest(*texts: str) -> str:
     """One text for all of these."""
     return hashlib.sha256(json.dumps(texts).encode()).hexdigest()[:32]
-
-
-def _has_clock(text: str) -> bool:
-    """Whether a text is a time with a time of day."""
-    return len(text) >= 12 and moment_of(text) is not None
 
 
 def _who(case: Case) -> List[str]:

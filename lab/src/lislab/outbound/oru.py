@@ -46,14 +46,14 @@ class Wishes(NamedTuple):
     """What a receiver wants in its messages: fields of MSH by their numbers; authority and type of the identities of
     P-3, P-4 and P-5, by these numbers; the authority of samples; for what an OBR is: an order, a test, a sample; what
     OBR-2 has: a field of the order's record, as O.19, or `sample`; and whether the header's time tells results without
-    another time apart."""
+    another time apart, if that is set: in FHIR it does otherwise, but no old result goes by it."""
 
     header: Mapping[int, str] = {}
     authorities: Mapping[int, Tuple[str, str]] = {}
     samples: str = ""
     obr: str = "order"
     placer: str = ""
-    header_time: bool = True
+    header_time: Optional[bool] = None
 
     @property
     def version(self) -> str:
@@ -68,10 +68,10 @@ _PLACER = re.compile(r"sample$|O\.[1-9]\d?(\.[1-9]\d?)?$")
 
 def wishes_of(words: Sequence[str]) -> Wishes:
     """Words `NAME=VALUE`: `MSH-5=LIS`, `practice=HOSP PI` (authority and type), `sample=AUTHORITY`, `obr=test`,
-    `obr=sample`, `OBR-2=O.19`, `OBR-2=sample`, `H-14=ignored`."""
+    `obr=sample`, `OBR-2=O.19`, `OBR-2=sample`, `H-14=counts`, `H-14=ignored`."""
     header: Dict[int, str] = {}
     authorities: Dict[int, Tuple[str, str]] = {}
-    samples, obr, placer, header_time = "", "order", "", True
+    samples, obr, placer, header_time = "", "order", "", None
     for word in words:
         name, equals, value = word.partition("=")
         if not equals or not value:
@@ -87,10 +87,10 @@ def wishes_of(words: Sequence[str]) -> Wishes:
             obr = value
         elif name == "OBR-2" and _PLACER.match(value):
             placer = value
-        elif (name, value) == ("H-14", "ignored"):
-            header_time = False
+        elif name == "H-14" and value in ("counts", "ignored"):
+            header_time = value == "counts"
         else:
-            more = "sample", "obr=test", "obr=sample", "OBR-2=O.19", "OBR-2=sample", "H-14=ignored"
+            more = "sample", "obr=test", "obr=sample", "OBR-2=O.19", "OBR-2=sample", "H-14=counts", "H-14=ignored"
             names = ", ".join([*_HEADER, *_IDENTITIES, *more])
             raise OptionError(f"{word}: what can be set is {names}")
     if header.get(12, VERSIONS[0]) not in VERSIONS:

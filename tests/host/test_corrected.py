@@ -1,0 +1,284 @@
+"""Corrections: a result that would undo one isn't delivered, whatever else is in its message, and every other result
+is."""
+import csv
+import io
+import itertools
+import json
+import os
+import random
+import unittest.mock
+
+from lislab.cli import deliver as cli_deliver
+from lislab.cli import main
+from lislab.model.results import Reading
+from lislab.model.store import COMPLETE, Add, Begin, End
+from lislab.model.stores import open_store
+from lislab.outbound import corrected, quarantine
+from tests.host.hosts import HostTest
+from tests.host.test_told import message
+
+#: Times of results, and of messages.
+EARLY, LATE, FIRST, SECOND, THIRD = (f"202611{day}0000" for day in ("2708", "2709", "2710", "2711", "2712"))
+_CODES = {"final": "F", "corrected": "C", "cancelled": "X"}
+
+
+def result(value, status="F", at=EARLY, test="GLU", unit="mmol/L", started=""):
+    """A record of a result."""
+    return f"R|1|^^^{test}|{value}|{unit}||||{status}|||{started}|{at}"
+
+
+def told(*rows, at=FIRST, sample="A", patient="4711", collected=""):
+    """A message with results of a sample; a row `O` begins another order."""
+    orders = [f"O|1|{sample}|||||{collected}"]
+    return message(f"P|1|{patient}", *orders, *rows, header=f"H|\\^&|||A|||||||P|1|{at}")
+
+
+#: The first result, its correction, and the first one in another message.
+GOOD, FIXED, OLD = told(result("5.4")), told(result("6.4", "C"), at=SECOND), told(result("5.4"), at=THIRD)
+K = result("4.1", at=LATE, test="K")
+#: What comes, and which results go out: the numbers of their messages and their values.
+CASES = {
+    "an old result": ([GOOD, FIXED, OLD, OLD], "1 5.4, 2 6.4"),
+    "with another result": ([GOOD, FIXED, told(result("5.4"), "C|1|I|x", K, at=THIRD)], "1 5.4, 2 6.4, 3 4.1"),
+    "with another order": ([GOOD, FIXED, told(result("5.4"), "O|2|B", K, at=THIRD)], "1 5.4, 2 6.4, 3 4.1"),
+    "of which nothing else is left": (
+        [GOOD, FIXED, told(result("5.4"), "O|2|A" + "|" * 23 + "F", "C|1|I|x", result("5.4"), at=THIRD)], "1 5.4, 2 6.4"
+    ),
+    "with its correction": ([GOOD, told(result("6.4", "C"), result("5.4"), at=SECOND)], "1 5.4, 2 6.4"),
+    "after both in a message": ([told(result("5.4"), result("6.4", "C")), OLD], "1 5.4, 1 6.4"),
+    "another time of the correction": ([GOOD, told(result("6.4", "C", LATE), at=SECOND), OLD], "1 5.4, 2 6.4"),
+    "in another unit": ([GOOD, told(result("97", "C", unit="mg/dL")), OLD], "1 5.4, 2 97"),
+    "sent before, or answered": (
+        [GOOD, FIXED, *(told(result("5.4", status), at=THIRD) for status in "RQPV")], "1 5.4, 2 6.4"
+    ),
+    "started at its only time": (
+        [told(result("5.4", at="", started=EARLY)), FIXED, told(result("5.4", at="", started=EARLY), at=THIRD)],
+        "1 5.4, 2 6.4",
+    ),
+    "of a patient who isn't named": (
+        [told(result("5.4"), patient=""), told(result("6.4", "C"), patient="4711^^^HOSP"), OLD], "1 5.4, 2 6.4"
+    ),
+    "a second correction": ([GOOD, FIXED, told(result("6.6", "C"), at=THIRD), OLD], "1 5.4, 2 6.4, 3 6.6"),
+    "the first correction as final": (
+        [GOOD, FIXED, told(result("6.6", "C"), at=THIRD), told(result("6.4"), at=THIRD)], "1 5.4, 2 6.4, 3 6.6"
+    ),
+    "the last correction as final": ([GOOD, FIXED, told(result("6.4"), at=THIRD)], "1 5.4, 2 6.4, 3 6.4"),
+    "a correction to the first value": ([GOOD, FIXED, told(result("5.4", "C"), at=THIRD)], "1 5.4, 2 6.4, 3 5.4"),
+    "another value": ([GOOD, FIXED, told(result("5.5"), at=THIRD)], "1 5.4, 2 6.4, 3 5.5"),
+    "another time": ([GOOD, FIXED, told(result("5.4", at=LATE), at=THIRD)], "1 5.4, 2 6.4, 3 5.4"),
+    "cancelled since": ([GOOD, FIXED, told(result("5.4", "X"), at=THIRD)], "1 5.4, 2 6.4, 3 5.4"),
+    "another patient's": ([GOOD, FIXED, told(result("5.4"), at=THIRD, patient="4712")], "1 5.4, 2 6.4, 3 5.4"),
+    "another sample's": ([GOOD, FIXED, told(result("5.4"), at=THIRD, sample="B")], "1 5.4, 2 6.4, 3 5.4"),
+    "corrected in another sample": (
+        [GOOD, told(result("6.4", "C"), sample="B"), OLD], "1 5.4, 2 6.4, 3 5.4"
+    ),
+    "of another test": ([GOOD, told(result("4.1", "C", test="K")), OLD], "1 5.4, 2 4.1, 3 5.4"),
+    "first after the correction": ([FIXED, OLD, told(result("5.4"))], "1 6.4, 2 5.4, 3 5.4"),
+    "by the order's time": (
+        [told(result("5.4", at=""), collected=EARLY), told(result("6.4", "C", "")),
+         told(result("5.4", at=""), at=THIRD, collected=EARLY), told(result("5.4", at=""), at=THIRD, collected=LATE)],
+        "1 5.4, 2 6.4, 4 5.4",
+    ),
+    "by the header's time": (
+        [told(result("5.4", at="")), told(result("6.4", "C", ""), at=SECOND), told(result("5.4", at=""), K)],
+        "1 5.4, 2 6.4, 3 4.1",
+    ),
+}
+
+
+def keep(where, bodies, line="fire"):
+    """Puts complete messages into a store, after those that are there."""
+    store = open_store(where)
+    store.start("h")
+    for body in bodies:
+        at = 1767225600.0 + next(COUNT)
+        key = f"{int(at):016x}"
+        ended = [Add(key, 0, at, body), End(key, line, COMPLETE, "", str(body), len(body), at)]
+        store.commit([[Begin(key, line, "10.0.0.7", "latin-1", at), *ended]])
+    store.close()
+
+
+#: How many messages were put, and how many stores were made.
+COUNT, PLACES = itertools.count(), itertools.count()
+
+
+def results_of(form, data):
+    """The results in a file: value and status."""
+    if form == "csv":
+        return [(row["value"], row["status"]) for row in csv.DictReader(io.StringIO(data))]
+    if form == "oru":
+        cells = [row.split("|") for row in data.split("\r") if row.startswith("OBX|")]
+        return [(cell[5], cell[11]) for cell in cells]
+    found = [one["resource"] for one in json.loads(data)["entry"]]
+    return [(str(one["valueQuantity"]["value"]), _CODES.get(one["status"], one["status"]))
+            for one in found if one["resourceType"] == "Observation"]
+
+
+class Deliveries:
+    """Deliveries in this process, each as one that starts anew."""
+
+    def deliver(self, store, name, form, *words):
+        """Delivers what there is: how it ended, what it logged, and the results that went out, by their messages."""
+        cursor, folder, said = self.path(f"{name}.cursor"), self.path(f"{name}.d"), []
+        command = ["deliver", "--store", store, "--cursor", cursor, "--once", "--format", form, "--to", folder]
+        with unittest.mock.patch.object(cli_deliver, "say", said.append):
+            status = main.main([*command, *words])
+        out = []
+        for number, each in enumerate(sorted(os.listdir(folder)), 1):
+            with open(os.path.join(folder, each), encoding="utf-8", newline="") as file:
+                out.append((each.split("-")[0], results_of(form, file.read())))
+        return status, "\n".join(said), out, quarantine.held_of(cursor)
+
+
+class EachStore(Deliveries):
+    """What goes out of a store."""
+
+    def test_results(self):
+        """In each form, whether a delivery goes on or starts anew at each message, what goes out is what is new."""
+        for (name, (bodies, wanted)), form in itertools.product(CASES.items(), ("oru", "fhir", "csv")):
+            for parts in [bodies], [[body] for body in bodies]:
+                store, place = self.where(), f"{form} {len(parts)} {name}"
+                for part in parts:
+                    keep(store, part)
+                    status, said, found, held = self.deliver(store, place, form)
+                    self.same(f"{place}: it goes", (status, held), (0, []))
+                opened = open_store(store)
+                numbers = [f"{one.number:016}" for one in opened.messages()]
+                opened.close()
+                found = [f"{numbers.index(number) + 1} {value}" for number, results in found for value, _ in results]
+                self.same(f"{place}: what goes out", ", ".join(found), wanted)
+                if "5.4" not in wanted.rpartition("6.4")[2] and parts == [bodies]:
+                    self.has(f"{place}: it is said", said, "1 result is left out, corrected since by message ")
+                    self.has(f"{place}: it is counted", said, " results left out that were corrected since")
+
+
+class CorrectedOfSqlite(EachStore, HostTest):
+    """Out of an SQLite file."""
+
+    def where(self):
+        """A new store."""
+        return self.path(f"{next(PLACES)}.db")
+
+
+class CorrectedOfSpool(EachStore, HostTest):
+    """Out of a spool."""
+
+    def where(self):
+        """A new store."""
+        return "spool:" + self.path(f"{next(PLACES)}.spool")
+
+
+class Corrected(Deliveries, HostTest):
+    """What is left out, and how far it is looked back."""
+
+    def test_repeats(self):
+        """A repeat of a message that was corrected in the meantime would undo the correction, and is left out."""
+        other = FIXED.replace(b"O|1|A", b"O|1|B")
+        for name, bodies, wanted in (
+            ("corrected", [GOOD, FIXED, GOOD, GOOD], 2),
+            ("corrected again", [GOOD, GOOD, FIXED, GOOD, FIXED, GOOD], 4),
+            ("an old correction", [GOOD, FIXED, told(result("6.6", "C")), FIXED], 3),
+            ("another sample", [GOOD, other, GOOD], 3),
+            ("nothing new", [FIXED, GOOD, GOOD], 3),
+        ):
+            store = self.path(f"{name}.db")
+            keep(store, bodies)
+            status, said, found, held = self.deliver(store, name, "oru")
+            self.same(f"{name}: what goes out", (status, len(found), held), (0, wanted, []))
+            rows = [row for row in said.splitlines() if " is left out: it repeats 0" in row]
+            self.same(f"{name}: each is named", len(rows), len(bodies) - wanted)
+            if name == "corrected":
+                self.has("which message corrects it", rows[0], ", which message 2 corrects")
+                self.same("the correction is the last one", found[-1][1], [("6.4", "C")])
+
+    def test_doubt(self):
+        """Without a time of the result or of its order no one can say whether it is new: its message is quarantined,
+        unless it is set what the header's time says."""
+        plain, fixed = result("5.4", at=""), result("6.4", "C", "")
+        for name, bodies in (
+            ("another header", [told(plain), told(fixed, at=SECOND), told(plain, K, at=THIRD)]),
+            ("no header's time", [told(plain, at=""), told(fixed, at=""), told(plain, K, at="")]),
+        ):
+            for word, wanted, wanted_held in ((None, 2, ["3"]), ("ignored", 3, []), ("counts", 4, [])):
+                store = self.path(f"{name} {word}.db")
+                keep(store, bodies)
+                words = ["--set", f"H-14={word}"] if word else []
+                status, said, found, held = self.deliver(store, f"{name} {word}", "oru", *words)
+                self.same(f"{name} {word}: it is quarantined", [str(one.number) for one in held], wanted_held)
+                self.same(f"{name} {word}: what goes out", sum(len(results) for _, results in found), wanted)
+                if not word:
+                    self.has("why", said, "result, record 4 of the message: is it new, or the one that message 2")
+                    keep(store, [told(result("6.6", "C"), at=THIRD)])
+                    words = ["--set", "H-14=ignored", "--resend", "all"]
+                    status, said, found, held = self.deliver(store, f"{name} {word}", "oru", *words)
+                    self.same(f"{name}: sent again", (status, held, found[-1][1]), (0, [], [("4.1", "F")]))
+
+    def test_bounds(self):
+        """As many messages as that are looked at, by a delivery that begins late; and no others."""
+        store, others = self.path("bounds.db"), [told(result(str(at)), sample=f"S{at}") for at in range(6)]
+        keep(store, [GOOD, *others[:3], FIXED, *others[3:], OLD])
+        opened = open_store(store)
+        for most, wanted in ((8, True), (6, False), (5, False), (3, False)):
+            looked, read = [], opened.messages
+            with unittest.mock.patch.object(corrected, "LOOKED", most), unittest.mock.patch.object(
+                opened, "messages", lambda *words, looked=looked: (looked.append(one) or one for one in read(*words))
+            ):
+                one = corrected.Corrections(opened, lambda line: Reading(), None)
+                (out,) = [one.writer(lambda each: each.body)(each) for each in one.over(read(8))]
+            self.same(f"{most}: it is left out", b"R|" not in out, wanted)
+            self.true(f"{most}: no others are read", len(looked) <= 2 * most + 6, str(len(looked)))
+            with unittest.mock.patch.object(corrected, "MOST", 0):
+                one = corrected.Corrections(opened, lambda line: Reading(), None)
+                rows = [one.writer(lambda each: each.body)(each) for each in one.over(read(0))]
+            self.same("no corrections are held", rows[-1], OLD)
+        opened.close()
+
+    def test_random(self):
+        """Random messages, by what a person would say of each result; deliveries that start anew in between."""
+        rng, count, come, said = random.Random(7), 10_000, {}, []
+        store = open_store(self.path("random.db"))
+        store.start("h")
+        for start in range(1, count + 1, 500):
+            units = []
+            for number in range(start, start + 500):
+                plan = Plan(rng, number, come)
+                said.append(plan.old)
+                end = End(f"{number:06}", plan.line, COMPLETE, "", str(number), len(plan.body), 1.0)
+                units.append([Begin(end.key, plan.line, "p", "latin-1", 1.0), Add(end.key, 0, 1.0, plan.body), end])
+            store.commit(units)
+        one, left = corrected.Corrections(store, lambda line: Reading(), False), 0
+        for each in store.messages():
+            if rng.random() < 0.0006:
+                one = corrected.Corrections(store, lambda line: Reading(), False)
+            (each,) = one.over(iter([each]))
+            rows = one.writer(lambda rest: rest.body)(each).split(b"\r")
+            old = {row for row in each.body.split(b"\r") if row.startswith(b"R|")} - set(rows)
+            self.need({int(row.split(b"|")[1]) for row in old} == said[each.number - 1],
+                      lambda each=each, old=old: f"{each.number}: {each.body}: {old}, {said[each.number - 1]}")
+            left += len(old)
+        self.true("some are left out", 200 < left < count, str(left))
+        store.close()
+
+
+class Plan:
+    """A random message: what it says, and which of its results are old, by their numbers in it."""
+
+    def __init__(self, rng, number, come):
+        self.line, self.old, sample = rng.choice(("a", "b")), set(), f"S{rng.randrange(number // 40 + 3)}"
+        patient, rows = rng.choice(("", "1", "1", "1", "2")), []
+        for at in range(1, rng.choice((1, 1, 2, 3)) + 1):
+            test, value, time = rng.choice("GK"), str(rng.randrange(3)), rng.choice((EARLY, LATE, ""))
+            is_correction = rng.random() < 0.15
+            others = come.setdefault((self.line, sample, test), [])
+            if not is_correction and is_old(others, patient, (value, time)):
+                self.old.add(at)
+            others.append((patient, (value, time), is_correction))
+            rows.append(f"R|{at}|^^^{test}|{value}|||||{'C' if is_correction else rng.choice('FR')}||||{time}")
+        self.body = message(f"P|1|{patient}", f"O|1|{sample}", *rows, header=f"H|\\^&|||A|||||||P|1|{FIRST}{number:06}")
+
+
+def is_old(others, patient, content):
+    """Whether what a result says came before the last correction of its test that may be its patient's."""
+    alike = [one for one in others if one[0] == patient or not (one[0] and patient)]
+    last = max((at for at, one in enumerate(alike) if one[2]), default=0)
+    return any(one[1] == content for one in alike[:last])
