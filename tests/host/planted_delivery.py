@@ -174,7 +174,7 @@ FAULTS = {
         "outbound/fhir.py", 'f"identifier={_OF_TEST}|{test}" if is_correction else name.search', "name.search"
     ),
     "test_fhir.Fhir.test_without_times": (
-        "outbound/fhir.py", "if not any(map(_has_clock, times)):", "if any(map(_has_clock, times)):"
+        "outbound/fhir.py", "if not any(map(has_clock, times)):", "if any(map(has_clock, times)):"
     ),
     "test_fhir.Fhir.test_reports": (
         "outbound/fhir.py", "is_correction and not self._turn(of)", "False"
@@ -236,7 +236,29 @@ FAULTS = {
     "test_deliver.Deliver.test_letters": ("model/results.py", "self.marks += [why] if why else []", "del why"),
     "test_deliver.Deliver.test_left_out": ("outbound/deliver.py", "self.empty += not is_handed", "self.empty += 0"),
     "test_deliver.Deliver.test_filters": ("outbound/export.py", "line(_harmless(row) if form.safe else row)", "line(row)"),
-    "test_deliver.Deliver.test_corrected": ("outbound/corrected.py", "if first.number < number", "if number"),
+    "test_corrected.Corrected.test_repeats": (
+        "outbound/corrected.py", "if first.number < each < number)", "if each < number)"
+    ),
+    "test_corrected.Corrected.test_doubt": (
+        "outbound/corrected.py", "one.is_timed or (one.reported in told", "one.is_timed or (bool(told)"
+    ),
+    "test_corrected.Corrected.test_bounds": (
+        "outbound/corrected.py", "self._last = self._store.number_before(last, LOOKED)", "self._last = last"
+    ),
+    "test_corrected.Corrected.test_random": (
+        "outbound/corrected.py",
+        "return not (patient and self.patient) or bool(patient & self.patient)",
+        "return patient == self.patient",
+    ),
+    "test_corrected.CorrectedOfSqlite.test_results": (
+        "outbound/corrected.py", "            if not is_old:\n", "            if not has_lost:\n"
+    ),
+    "test_corrected.CorrectedOfSpool.test_results": (
+        "model/spool.py", "if at >= 0 else 0", "if at >= 0 else number"
+    ),
+    "test_postgres.CorrectedOfPostgres.test_results": (
+        "outbound/corrected.py", "                self._look(number - 1, number - 1)\n", "                pass\n"
+    ),
     "test_deliver.Deliver.test_ends_the_process": ("outbound/quarantine.py", "self._count(one.key, tries + 1)", "pass"),
     "test_deliver.Deliver.test_a_stop_is_no_try": (
         "outbound/deliver.py", "except (Unreachable, Stopped):", "except Unreachable:"

@@ -163,29 +163,6 @@ class Deliver(HostTest):
         self.has("a formula is none", files[1], "GLU,'=1+1,,,Q")
         self.has("a control's patient", self.deliver("all", [])[1][1], ",QC1,,GLU,")
 
-    def test_corrected(self):
-        """A repeat of a message that was corrected in the meantime would undo the correction, and is left out."""
-        late, other = GOOD.replace(b"R|1|^^^GLU|5.4|mmol/L", b"R|1|^^^GLU|6.4|mmol/L||||C"), b"O|1|B"
-        for name, bodies, wanted in (
-            ("corrected", [GOOD, late, GOOD, GOOD], 2),
-            ("corrected again", [GOOD, GOOD, late, GOOD, late, GOOD], 4),
-            ("another sample", [GOOD, late.replace(b"O|1|A", other), GOOD], 3),
-            ("nothing new", [late, GOOD, GOOD], 3),
-        ):
-            store = open_store(self.path(f"{name}.db"))
-            store.start("h")
-            for key, body in enumerate(bodies, 1):
-                added = [Add(str(key), 0, 1.0, body), End(str(key), "fire", COMPLETE, "", str(body), len(body), 2.0)]
-                store.commit([[Begin(str(key), "fire", "10.0.0.7", "latin-1", 1.0), *added]])
-            store.close()
-            done, files, held = self.deliver(name, [], "--format", "oru")
-            self.same(f"{name}: what goes out", (done.returncode, len(files), held), (0, wanted, []))
-            said = [row for row in done.stderr.splitlines() if " is left out: it repeats 1, which message " in row]
-            self.same(f"{name}: each is named", len(said), len(bodies) - wanted)
-            if name == "corrected":
-                self.has("which message corrects it", said[0], "message 3 3 is left out: it repeats 1, which message 2")
-                self.has("the correction is the last one", files[-1], "|6.4|mmol/L|||||C|")
-
     def test_ends_the_process(self):
         """A message that ends the delivery's process is counted before it is tried, and quarantined."""
         store, cursor = self.path("ends.db"), self.path("ends.cursor")

@@ -23,6 +23,7 @@ from lislab.model.stores import open_store
 from tests import kit
 from tests.host import hosts, test_schema
 from tests.host.hosts import ENV, Found, Host, HostTest, acknowledged, lislab, sending, wait_for
+from tests.host.test_corrected import EachStore
 from tests.host.test_kills import TROUBLE
 from tests.host.test_lines import TEXTS, Client, keeps_each_text
 from tests.host.test_fixes import fixes_again
@@ -140,15 +141,13 @@ class OutOfPostgres(OutOf, HostTest):
         return the_server().address("out")
 
 
-class RepeatsOfPostgres(EachWrite, Left, HostTest):
-    """In a database, whose tables are emptied for each fault."""
-
-    ways = (("full", True), ("after", False), ("killed", False))
+class Emptied:
+    """One database, whose tables are emptied for each store."""
 
     @classmethod
     def setUpClass(cls):
         super().setUpClass()
-        cls.address = the_server().address("repeats")
+        cls.address = the_server().address(cls.__name__.lower())
 
     def where(self):
         """The store."""
@@ -158,6 +157,16 @@ class RepeatsOfPostgres(EachWrite, Left, HostTest):
         store.run("TRUNCATE text, message")
         store.close()
         return self.address
+
+
+class RepeatsOfPostgres(Emptied, EachWrite, Left, HostTest):
+    """In a database, whose tables are emptied for each fault."""
+
+    ways = (("full", True), ("after", False), ("killed", False))
+
+
+class CorrectedOfPostgres(Emptied, EachStore, HostTest):
+    """Out of a database."""
 
 
 def started(store, name):

@@ -285,7 +285,7 @@ class SpoolStore(Store):
 
     def number_before(self, number: int, count: int) -> int:
         names = self._listed(COMPLETE)
-        at = bisect.bisect(names, f"{number:016}~") - count - 1
+        at = len(names) - self.count_after(number) - count - 1
         return int(names[at].split("-")[0]) if at >= 0 else 0
 
     def number_at(self, at: float) -> int:
