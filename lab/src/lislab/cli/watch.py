@@ -5,7 +5,7 @@ import shlex
 import sys
 import threading
 import time
-from typing import Iterator, List, Optional, Tuple
+from typing import List, Optional, Tuple
 
 from lislink.capture import Capture, write_lines
 from ..diagnosis.ring import capture_of
@@ -183,8 +183,8 @@ def _ladder_once(host: Host, line: str) -> int:
     return LOOKS_WRONG if any(look.level == "bad" for look in looks_of(ladder)) else GOOD
 
 
-def rows_as_they_come(host: Host, line: str, every: float) -> Iterator[str]:
-    """The rows of a line's ladder, as they are complete. It waits for a host that isn't there."""
+def _ladder(host: Host, line: str, every: float) -> int:
+    """Prints the rows of a line's ladder, as they are complete. It waits for a host that isn't there."""
     ladder, after = None, 0
     while True:
         try:
@@ -192,7 +192,7 @@ def rows_as_they_come(host: Host, line: str, every: float) -> Iterator[str]:
         except WatchError as error:
             if ladder is None:
                 raise
-            yield f"-- {shown(str(error))}"
+            _print([f"-- {shown(str(error))}"])
             time.sleep(every)
             after = 0
             continue
@@ -202,16 +202,7 @@ def rows_as_they_come(host: Host, line: str, every: float) -> Iterator[str]:
         if ladder is None:
             ladder = LiveLadder(int(head["frame"]))
         elif int(head["first"]) > after:
-            yield f"-- {int(head['first']) - after} pieces went by unseen"
+            _print([f"-- {int(head['first']) - after} pieces went by unseen"])
         after = int(head["next"])
-        for row in ladder.grow(pieces):
-            yield from row_text(row)
-        yield ""
+        _print([text for row in ladder.grow(pieces) for text in row_text(row)])
         time.sleep(every)
-
-
-def _ladder(host: Host, line: str, every: float) -> int:
-    for row in rows_as_they_come(host, line, every):
-        if row:
-            _print([row])
-    return GOOD
