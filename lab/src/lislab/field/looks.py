@@ -10,6 +10,7 @@ from ..diagnosis.faults import RecordCause, cause_of_record, code_of
 from ..diagnosis.log import SECOND
 from ..diagnosis.protocols import has_bare_frames, is_hl7, parity_of, telnet_in
 from ..diagnosis.verdicts import BAD, WARN, Meaning, Verdict, advice_on, is_way, plain_hint, way_of
+from ..model.said import many
 from .ladder import Ladder, Look, Row
 
 
@@ -40,7 +41,7 @@ def looks_of(ladder: Ladder) -> List[Look]:
 def look_of(verdict: Verdict, lines: List[int], count: int = 0, **values: Any) -> Look:
     """What a verdict says of so many rows, with their first lines, or with the values that are given."""
     said: Dict[str, Any] = {"count": count, "times": _times(count), "fixes": "", "plain": ""}
-    said.update({f"{name}s": _many(count, name) for name in ("frame", "byte", "answer")})
+    said.update({f"{name}s": many(count, name) for name in ("frame", "byte", "answer")})
     said.update(values)
     advice = verdict.advice.format(**said)
     return Look(verdict.key, verdict.level, verdict.sentence.format(**said), advice, lines[:5])
@@ -53,10 +54,6 @@ def meant(*meanings: Meaning) -> Callable[[Ladder], List[Row]]:
 
 def _times(count: int) -> str:
     return "once" if count == 1 else f"{count} times"
-
-
-def _many(count: int, name: str) -> str:
-    return f"{count} {name}" if count == 1 else f"{count} {name}s"
 
 
 def _lines(rows: List[Row]) -> List[int]:
@@ -134,7 +131,7 @@ def _none_accepted(ladder: Ladder) -> Iterator[Look]:
     if rows:
         why = {_key(row): row.cause.words if row.cause else "no LF ended it" for row in lost[::-1]}
         times = Counter(_key(row) for row in lost)
-        reasons = "; ".join(f"{_many(times[name], 'frame')}: {why[name]}" for name, _ in times.most_common(3))
+        reasons = "; ".join(f"{many(times[name], 'frame')}: {why[name]}" for name, _ in times.most_common(3))
         reasons += "; and others" if len(times) > 3 else ""
         where = "no frame of the session" if count == 1 else f"in {len(rows)} of {count} sessions no frame"
         yield look_of(Verdict.NONE_ACCEPTED, _lines(rows), where=where, reasons=reasons)
@@ -183,7 +180,7 @@ def _bad_frames(ladder: Ladder) -> Iterator[Look]:
     has_good = bool(_frames(ladder))
     for kind, count in Counter(_kind(row) for row in rows).most_common():
         mine = [row for row in rows if _kind(row) is kind]
-        share = f"all {count} frames" if count == len(frames) > 1 else f"{count} of {_many(len(frames), 'frame')}"
+        share = f"all {count} frames" if count == len(frames) > 1 else f"{count} of {many(len(frames), 'frame')}"
         why = mine[0].cause.words if mine[0].cause else ""
         if kind not in _KEPT and _is_noise(frames, mine):
             yield look_of(Verdict.NOISE, _lines(mine), share=share, why=why)
@@ -308,7 +305,7 @@ def _records(ladder: Ladder) -> Iterator[Look]:
     for fault in faults[:8]:
         yield _of_fault(ladder, fault)
     if len(faults) > 8:
-        yield look_of(Verdict.RECORDS, [], messages=_many(len(faults) - 8, "more message"))
+        yield look_of(Verdict.RECORDS, [], messages=many(len(faults) - 8, "more message"))
 
 
 def _of_fault(ladder: Ladder, fault: Fault) -> Look:
@@ -346,7 +343,7 @@ def rejected_at(stream: bytes, fault: Fault) -> Tuple[bytes, RecordCause]:
 def _sequence(ladder: Ladder) -> Iterator[Look]:
     count = sum(len(one.message.findings()) for one in ladder.messages if isinstance(one, Found))
     if count:
-        yield look_of(Verdict.SEQUENCE, [], numbers=_many(count, "sequence number"))
+        yield look_of(Verdict.SEQUENCE, [], numbers=many(count, "sequence number"))
 
 
 #: What is looked for, in the order in which looks that are as bad are shown.

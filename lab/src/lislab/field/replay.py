@@ -5,6 +5,7 @@ What `lislink replay` compares are the replies of a receiver: there a session of
 replies. Here it begins when the computer sends ENQ while the station has nothing to answer. Of its frames the number is
 compared: which bytes it sends is the computer's own affair.
 """
+import re
 from typing import Iterator, List, NamedTuple, Optional, Sequence, Tuple, Union
 
 from lislink.capture import Capture, Line
@@ -12,7 +13,7 @@ from lislink.codes import Phase, Role
 from lislink.link import LinkError
 from lislink.station import Answer, Station
 
-_STX, _LF, _ENQ, _EOT = 0x02, 0x0A, 0x05, 0x04
+_STX, _ENQ, _EOT = 0x02, 0x05, 0x04
 #: The line at which a capture ends.
 END = "end"
 
@@ -41,14 +42,14 @@ class Outgoing:
     def units(self, data: bytes) -> List[Unit]:
         """The units that further bytes end."""
         found: List[Unit] = []
-        for byte in data:
-            if not self._frame and byte != _STX:
-                found.append(byte)
-                continue
-            self._frame += bytes([byte])
-            if byte == _LF:
-                found.append(Frame((self._frame[1] - 48) % 8 if len(self._frame) > 2 else -1))
-                self._frame = b""
+        data, self._frame = self._frame + data, b""
+        for unit in re.findall(rb"\x02[^\n]*\n?|.", data, re.S):
+            if unit[0] != _STX:
+                found.append(unit[0])
+            elif unit.endswith(b"\n"):
+                found.append(Frame((unit[1] - 48) % 8 if len(unit) > 2 else -1))
+            else:
+                self._frame = unit
         return found
 
 
