@@ -30,7 +30,7 @@ from .faults import Cause, cause_of_frame
 from .notices import ACCEPTED, TAKEN
 from .protocols import has_bare_frames, is_hl7, parity_of, telnet_in
 from .ring import Ring
-from .verdicts import BAD, GOOD, Verdict, Ways, advice_on, is_way, plain_hint, way_of
+from .verdicts import BAD, GOOD, REJECTED, Verdict, Ways, advice_on, is_way, plain_hint, way_of
 
 #: For so many seconds nothing may follow an acknowledged ENQ, and stray bytes may be without an ENQ; after so many
 #: seconds without a message a line is quiet. They are as many times as long as the timers of a test.
@@ -55,13 +55,6 @@ _SIGNALS = bytes([4, 5, 6, 0x15])
 #: The steps with which a session begins or ends.
 _TIMED_OUT = Note.TIMED_OUT
 _SESSIONS = (Note.OPENED, Note.ENDED, _TIMED_OUT)
-_FRAMES = {
-    Note.OUT_OF_TURN: Verdict.OUT_OF_TURN,
-    Note.NO_ROOM: Verdict.NO_ROOM,
-    Note.TEXT_TOO_LONG: Verdict.TEXT_TOO_LONG,
-    Note.TOO_MANY: Verdict.TOO_MANY,
-    Note.OUT_OF_MEMORY: Verdict.MEMORY,
-}
 
 
 class Trouble:
@@ -354,7 +347,7 @@ class Probe:
             self._accept(note is ACCEPTED, raw)
         elif note in _SESSIONS:
             self._session(note, is_enq)
-        elif note is Note.REFUSED or note in _FRAMES:
+        elif note is Note.REFUSED or note in REJECTED:
             self.units += 1
             self._pulse.right("silent", "strange")
             self._reject(step, raw)
@@ -388,8 +381,8 @@ class Probe:
 
     def _reject(self, step: Step, raw: bytes) -> None:
         """A frame is rejected; the reason has the same name as in a ladder."""
-        if step.note in _FRAMES:
-            verdict = _FRAMES[step.note]
+        if step.note in REJECTED:
+            verdict = REJECTED[step.note]
             cause = Cause(verdict, verdict.live.format(due=self._due))
         else:
             # Where the line is heard carefully, a frame that another one began inside of goes on.

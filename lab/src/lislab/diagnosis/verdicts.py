@@ -4,6 +4,8 @@ import enum
 import re
 from typing import Any, FrozenSet, Iterable, Optional
 
+from lislink.codes import Note
+
 GOOD, PLAIN, WARN, BAD = "good", "plain", "warn", "bad"
 #: What to do about a rejected frame, if its verdict has no advice of its own; about a checksum that sums otherwise.
 _SENDER_WRONG = "the sender is wrong: a receiver must not take such a frame"
@@ -516,6 +518,14 @@ class Verdict(enum.Enum):
         self.live_advice = live_advice or advice
 
 
+#: Why the receiver rejects a frame that is one.
+REJECTED = {
+    Note.OUT_OF_TURN: Verdict.OUT_OF_TURN,
+    Note.NO_ROOM: Verdict.NO_ROOM,
+    Note.TEXT_TOO_LONG: Verdict.TEXT_TOO_LONG,
+    Note.TOO_MANY: Verdict.TOO_MANY,
+    Note.OUT_OF_MEMORY: Verdict.MEMORY,
+}
 #: Why a frame is rejected if damage did it, next to frames that are right.
 _BY_DAMAGE = (
     Verdict.SUM_NO_DIGITS,

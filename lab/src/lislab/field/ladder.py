@@ -10,7 +10,7 @@ from lislink.link import FRAME_TEXT, Receiver, Scanner, Signal, Step
 from lislink.message import Fault, Found, read_all
 from ..diagnosis.faults import Cause, Sum, cause_of_frame, checksum_of, words
 from ..diagnosis.log import SECOND
-from ..diagnosis.verdicts import BAD, Meaning, Verdict
+from ..diagnosis.verdicts import BAD, REJECTED, Meaning, Verdict
 
 ENQ, ACK, NAK, EOT, STX = 5, 6, 0x15, 4, 2
 
@@ -38,14 +38,6 @@ class Row(NamedTuple):
     meaning: Meaning = Meaning.NOTHING
 
 
-#: Why the receiver rejects a frame that is one.
-_REJECTED = {
-    Note.OUT_OF_TURN: Verdict.OUT_OF_TURN,
-    Note.NO_ROOM: Verdict.NO_ROOM,
-    Note.TEXT_TOO_LONG: Verdict.TEXT_TOO_LONG,
-    Note.TOO_MANY: Verdict.TOO_MANY,
-    Note.OUT_OF_MEMORY: Verdict.MEMORY,
-}
 _READY = {"ready": Meaning.READY, "busy": Meaning.IS_BUSY, "contending": Meaning.CONTENDING}
 
 
@@ -248,8 +240,8 @@ class Ladder:
         due = (self._receiver.accepted + 1) % 8
         bad = signal.kind is Kind.BAD_FRAME
         cause = cause_of_frame(body, signal.fault, signal.place, self.frame_limit) if bad else None
-        if cause is None and note in _REJECTED:
-            cause = Cause(_REJECTED[note], _REJECTED[note].live.format(due=due))
+        if cause is None and note in REJECTED:
+            cause = Cause(REJECTED[note], REJECTED[note].live.format(due=due))
         if cause is not None:
             meaning = Meaning.NOT_OPEN_WRONG if bad and note is not Note.REFUSED else Meaning.REJECTED
             return meaning, meaning.says(why=cause.words), cause
@@ -336,7 +328,7 @@ class Ladder:
             "frames": kinds.count("frame") + kinds.count("bad"),
             "accepted": self.notes.get(Note.ACCEPTED, 0),
             "duplicates": self.notes.get(Note.DUPLICATE, 0),
-            "rejected": sum(self.notes.get(one, 0) for one in (Note.REFUSED, *_REJECTED)),
+            "rejected": sum(self.notes.get(one, 0) for one in (Note.REFUSED, *REJECTED)),
             "texts": len(self.texts),
             "differences": len(self.differences),
             "messages": len(found),
