@@ -17,6 +17,11 @@ FORMS = ("csv", "tsv", "json")
 USUAL = ("sample", "patient", "test", "value", "unit", "range", "flag", "status", "date", "instrument")
 #: Those of a table of orders.
 OF_ORDERS = ("sample", "patient", "tests", "priority", "collected", "requested", "action", "report")
+#: Those of both that are a field as it is.
+_PLACES = {
+    **{"value": "R.4", "unit": "R.5", "range": "R.6", "flag": "R.7", "status": "R.9", "tests": "O.5", "priority": "O.6"},
+    **{"collected": "O.8", "requested": "O.7", "action": "O.12", "report": "O.26"},
+}
 #: A message, a patient, an order and a result; in a table of orders the order is in the result's place.
 Where = Tuple[Message, Entry, Entry, Entry]
 
@@ -60,19 +65,9 @@ def columns_of(
         "sample": lambda where: field(where[2], sample_from),
         "patient": lambda where: _patient(where[1], field),
         "test": lambda where: part(where[3], 3, 3) or field(where[3], 3),  # the maker's code, else the whole field
-        "value": lambda where: field(where[3], 4),
-        "unit": lambda where: field(where[3], 5),
-        "range": lambda where: field(where[3], 6),
-        "flag": lambda where: field(where[3], 7),
-        "status": lambda where: field(where[3], 9),
         "date": lambda where: field(where[3], 13) or field(where[3], 12),
         "instrument": lambda where: field(where[3], 14) or field(where[0].header, 5),
-        "tests": lambda where: field(where[2], 5),
-        "priority": lambda where: field(where[2], 6),
-        "collected": lambda where: field(where[2], 8),
-        "requested": lambda where: field(where[2], 7),
-        "action": lambda where: field(where[2], 12),
-        "report": lambda where: field(where[2], 26),
+        **{name: _of_field(place, field, part) for name, place in _PLACES.items()},
     }
     known.update(usual or {})
     if orders:
