@@ -1,4 +1,5 @@
 """Converts sniffers' logs to captures: finds a log's form, which side is the analyzer, and the lines of the capture."""
+import contextlib
 import gzip
 import re
 import shlex
@@ -159,20 +160,12 @@ def _read_log(data: bytes, ask: Options) -> Log:
     try:
         return FORMS[form].read(text, ask)
     except LogError:
-        if ask.form is not None or form not in ("tshark-fields", "csv-table", "hex", "blocks"):
-            raise
-        found = _trace(text)  # a table or blocks may be a trace with directions in words
-        if found is None:
-            raise
-        return found
-
-
-def _trace(text: str) -> Optional[Log]:
-    try:
-        log = traces.traces(text)
-    except LogError:
-        return None
-    return log if log.pieces and not any("no line has a direction" in one for one in log.remarks) else None
+        if ask.form is None and form in ("tshark-fields", "csv-table", "hex", "blocks"):
+            with contextlib.suppress(LogError):
+                log = traces.traces(text)  # a table or blocks may be a trace with directions in words
+                if log.pieces and not any("no line has a direction" in one for one in log.remarks):
+                    return log
+        raise
 
 
 def _unpacked(data: bytes) -> bytes:
