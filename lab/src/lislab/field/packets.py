@@ -6,13 +6,11 @@ from typing import Dict, Iterator, List, NamedTuple, Optional, Tuple
 
 from ..diagnosis.log import NEW, SECOND, Log, LogError, Piece, find_time, likeness
 
+#: The first bytes of a pcap: the order of its bytes, the nanoseconds of a tick, and the size of a packet's head.
 _PCAP = {
-    b"\xd4\xc3\xb2\xa1": ("<", 1000),
-    b"\xa1\xb2\xc3\xd4": (">", 1000),
-    b"\x4d\x3c\xb2\xa1": ("<", 1),
-    b"\xa1\xb2\x3c\x4d": (">", 1),
-    b"\x34\xcd\xb2\xa1": ("<", 1000),
-    b"\xa1\xb2\xcd\x34": (">", 1000),
+    struct.pack(order + "I", magic): (order, unit, head)
+    for order in "<>"
+    for magic, unit, head in ((0xA1B2C3D4, 1000, 16), (0xA1B23C4D, 1, 16), (0xA1B2CD34, 1000, 24))
 }
 _PCAPNG = b"\x0a\x0d\x0d\x0a"
 
@@ -54,11 +52,11 @@ _CUT = "the file ends within a packet, which was left out"
 
 
 def _pcap(data: bytes, remarks: List[str]) -> Iterator[Packet]:
-    order, unit = _PCAP[data[:4]]
+    order, unit, head = _PCAP[data[:4]]
     if len(data) < 24:
         raise LogError("the pcap ends within its head")
     link = struct.unpack_from(order + "I", data, 20)[0] & 0xFFFF
-    head, at = (24 if data[:4] in (b"\x34\xcd\xb2\xa1", b"\xa1\xb2\xcd\x34") else 16), 24
+    at = 24
     while at + head <= len(data):
         seconds, fraction, kept, length = struct.unpack_from(order + "IIII", data, at)
         if at + head + kept > len(data):
@@ -178,6 +176,7 @@ class Connection:
         self.ports = frozenset((segment.source_port, segment.target_port))
         self.addresses = frozenset((segment.source, segment.target))
         self.ends = (f"{segment.source}:{segment.source_port}", f"{segment.target}:{segment.target_port}")
+        self.name = " - ".join(self.ends)
         self.pieces: List[Piece] = []
         self.due: Dict[str, int] = {}
         self.waiting: Dict[str, List[Tuple[int, bytes]]] = {}
@@ -251,10 +250,6 @@ class Connection:
     def missing(self) -> int:
         """How many bytes wait for ones that aren't in the file."""
         return sum(len(data) for waiting in self.waiting.values() for _, data in waiting)
-
-    def name(self) -> str:
-        """The two ends, and when it began."""
-        return " - ".join(self.ends)
 
 
 def _starts_of(segments: List[Segment]) -> List[Segment]:
@@ -366,7 +361,7 @@ def _one_log(found: List[Connection], every: List[Connection], form: str) -> Log
     """The bytes of connections that follow one another, of which one is to be chosen if they don't. A remark says how
     many bytes the other ones have."""
     if len(found) > 1 and not _one_after_another(found):
-        names = "; ".join(f"--stream {every.index(one) + 1}: {one.name()}" for one in found)
+        names = "; ".join(f"--stream {every.index(one) + 1}: {one.name}" for one in found)
         raise LogError(f"{len(found)} connections have ENQ or STX, choose one: {names}")
     pieces: List[Piece] = []
     remarks = []
@@ -375,7 +370,7 @@ def _one_log(found: List[Connection], every: List[Connection], form: str) -> Log
     for number, one in enumerate(found):
         if one.missing():
             raise LogError(
-                f"bytes are missing in the file: {one.missing()} bytes of {one.name()} have none before them "
+                f"bytes are missing in the file: {one.missing()} bytes of {one.name} have none before them "
                 "(--skip-missing goes on without them)"
             )
         if number:
@@ -396,7 +391,7 @@ def _one_log(found: List[Connection], every: List[Connection], form: str) -> Log
     if others:
         count = sum(len(piece.data) for one in others for piece in one.pieces)
         remarks.append(f"other connections were left out, {len(others)} of them: {count} bytes")
-    remarks.append("connection " + found[0].name())
+    remarks.append("connection " + found[0].name)
     return Log(form, pieces, remarks)
 
 
