@@ -29,6 +29,22 @@ def timed_session():
     return [(line.mark, second, line.data) for line, second in zip(lines, seconds)]
 
 
+SOCAT = ("> 2026/11/20 23:59:59.900000  length=1 from=0 to=0\n 05\n"
+         "2026/11/21 00:00:01 socat[7] N a notice\n< 2026/11/21 00:00:02.100000  length=2 from=0 to=1\n 06 3e\n--\n"
+         "> 2026/11/21 00:00:32.000000  length=1 from=1 to=1\n 05\n")
+LONG = "> 2026/11/20 00:00:00.000000  length=2048 from=0 to=2047\n" + " 41" * 2048 + "\n"
+#: Logs, the options, and their captures.
+MADE = (
+    ("a notice", SOCAT, [], "> 05\n< 063e\n> 05\n"),
+    ("the analyzer second", SOCAT, ["--swap"], "< 05\n> 063e\n< 05\n"),
+    ("a timer that ran out", SOCAT, ["--timer", "30"], "> 05\n< 063e\nT\n> 05\n"),
+    ("a timer that did not", SOCAT, ["--timer", "33"], "> 05\n< 063e\n> 05\n"),
+    ("more bytes than a line has room for", LONG, [], "> " + "41" * 2047 + "\n> 41\n"),
+    ("a log of a sniffer", "09:15:02.000 TX: 05\n09:15:02.004 RX: 06\n-- idle\n09:15:02.101 TX: 02 31 03 33 34 0d 0a\n",
+     [], "> 05\n< 06\n> 02310333340d0a\n"),
+)
+
+
 def shown(data):
     return "".join(chr(byte) if 32 <= byte < 127 else "." for byte in data)
 
@@ -178,6 +194,11 @@ def errors():
     ("ASCII of Follow", b"Follow: tcp,ascii\nFilter: tcp.stream eq 0\n1\n.\n", "lost the control bytes"),
     ("socat -v alone", b"> 2026/11/20 09:15:02.000012  length=1 from=0 to=0\n.--\n", "use socat -x"),
     ("a block that lacks a byte", b"> 2026/11/20 09:15:02.000012  length=2 from=0 to=1\n 05\n", "lacks"),
+    (
+        "a byte too many",
+        b"> 2026/11/20 00:00:00.000000  length=2 from=0 to=1\n 05 06 04\n",
+        "line 2: the block has more bytes than its length",
+    ),
     ("a cut strace", b'1 read(5, "\\5", 4096) = 1\n1 read(5, "\\0021H|"..., 4096) = 40\n', "-s 4096"),
     ("a row that is missing", b"00000000  05 02 31\n00000010  48\n", "row is missing"),
     (
@@ -269,6 +290,17 @@ class Logs(FieldTest):
         mixed = self.path("mixed.bin", b"".join(data for _, _, data in timed_session()))
         self.same("both sides in one stream", lislab("capture", mixed, "--mixed", "--units").text, units)
         self.has("both sides in one stream, not told", lislab("capture", mixed).error, "--mixed takes them apart")
+
+    def test_made(self):
+        """The log of the sample, also without its column of text; and what options make of a log."""
+        log = kit.read("samples/session.socat")
+        bare = re.sub(r"(?m)^((  ?[0-9a-f]{2})+) .*$", r"\1", re.sub(r"(?m)^--\n", "", log))
+        for name, one, words, wanted in (
+            ("socat -x -v", log, [], kit.read("samples/session.capture")),
+            ("socat -x", bare, [], kit.read("samples/session.capture")),
+            *MADE,
+        ):
+            self.same(name, lislab("capture", *words, data=one.encode()).text, wanted)
 
     def test_packets(self):
         """Packet files in each form."""
