@@ -39,13 +39,13 @@ def alone(title: str, heading: str, top: str, main: str, foot: str, script: str 
 
 
 def table(heads: Sequence[str], rows: Sequence[str], kind: str = "") -> str:
-    """A table of these rows, with a heading above each column."""
+    """A table of these rows, with a heading above each column; `kind` is an attribute, with a blank before it."""
     head = "".join(f"<th>{one}</th>" for one in heads)
     return f"<table{kind}><thead><tr>{head}</tr></thead><tbody>{''.join(rows)}</tbody></table>"
 
 
-def row(*cells: object, kind: str = "") -> str:
-    """A row of cells, which are HTML."""
+def table_row(*cells: object, kind: str = "") -> str:
+    """A row of cells, which are HTML; `kind` is an attribute, as of a table."""
     return f"<tr{kind}>{''.join(f'<td>{one}</td>' for one in cells)}</tr>"
 
 
@@ -118,10 +118,12 @@ def _entry(entry: Entry, found: Found) -> Iterator[str]:
     cells = [(entry.row.first + at, entry.whole(entry.row.first + at)) for at in range(entry.row.count)]
     brief = escape("|".join(text for _, text in cells)[:140])
     names = {place: name.replace("_", " ") for place, name in NAMES.get(entry.letter, {}).items()}
-    fields = (row(place, escape(names.get(place, "")), f"<code>{escape(text)}</code>") for place, text in cells if text)
+    rows = (
+        table_row(place, escape(names.get(place, "")), f"<code>{escape(text)}</code>") for place, text in cells if text
+    )
     below = "".join("".join(_entry(one, found)) for one in entry.notes + entry.children)
     yield f"<li><details><summary>{entry.number} <b>{KINDS.get(entry.letter, entry.letter)}</b> <code>{brief}</code>"
-    yield f'{mark}</summary><table class="fields">{"".join(fields)}</table></details>'
+    yield f'{mark}</summary><table class="fields">{"".join(rows)}</table></details>'
     yield f"<ul class=tree>{below}</ul></li>" if below else "</li>"
 
 

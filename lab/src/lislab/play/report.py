@@ -7,7 +7,7 @@ from xml.sax.saxutils import quoteattr
 
 from ..diagnosis.faults import words
 from ..field.ladder import Row
-from ..field.page import alone, row, rows_of, table
+from ..field.page import alone, rows_of, table, table_row
 from .frames import WORDS, read_frame
 from .player import Event, Played, ranges
 
@@ -65,7 +65,7 @@ def _sums(plays: Sequence[Played]) -> str:
         level = "bad" if count or one.outcome.failed else ""
         end = ", and the play stopped" if one.outcome.failed else ""
         link = f'<a href="#{name}">{name}</a>'
-        rows.append(row(link, one.outcome.steps, f"{count}{end}", kind=f' class="{level}"'))
+        rows.append(table_row(link, one.outcome.steps, f"{count}{end}", kind=f' class="{level}"'))
     return table(("play", "steps", "differences"), rows, ' class="ladder"')
 
 
@@ -80,7 +80,8 @@ def page_of(plays: Sequence[Played]) -> str:
     sign = """<table class="sign"><tr><td></td><td></td></tr>
 <tr class="under"><td>for the laboratory: name, date, signature</td><td>for the maker: name, date, signature</td></tr>
 </table>"""
-    foot = "Made by lislab play, which is tested, and not proved. This page holds what was sent: keep it as patients' data."
+    foot = "Made by lislab play, which is tested, and not proved."
+    foot += " This page holds what was sent: keep it as patients' data."
     return alone(f"{title}: play", f"Acceptance test of a line: {title}", top, f"{sums}{sections}{sign}", foot)
 
 

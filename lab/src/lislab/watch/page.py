@@ -9,7 +9,7 @@ from urllib.parse import urlencode
 from lislink.message import KINDS, NAMES, Fault, Found, read_all
 from ..diagnosis.faults import words
 from ..diagnosis.pulse import PAST
-from ..field.page import framed, row, rows_of, table, text_of
+from ..field.page import framed, rows_of, table, table_row, text_of
 from ..model.book import Failed
 from ..model.said import many
 from ..model.store import COMPLETE, Head, Stored
@@ -75,7 +75,7 @@ def lines_page(data: Mapping[str, Any], tally: Tally, delivered: Mapping[str, Se
     bad = sum(one["state"] == "bad" for one in data["lines"].values())
     total = f"{many(len(data['lines']), 'interface')}, {bad} bad"
     shown = table(("interface", "state", "why", "connected", "last message"), rows, ' class="lines"')
-    rows = [row(safe(name), state(one), safe(one["says"])) for name, one in data.get("deliveries", {}).items()]
+    rows = [table_row(safe(name), state(one), safe(one["says"])) for name, one in data.get("deliveries", {}).items()]
     shown += table(("delivery", "state", "why"), rows, ' class="lines"') if rows else ""
     why = f'<p class="alarm">The store can\'t be read: {safe(tally.why)}</p>' if tally.why else ""
     past = [(name, *each) for name, one in data["lines"].items() for each in one.get("past", [])]
@@ -96,7 +96,8 @@ def past_table(past: Sequence[Any]) -> str:
         return ""
     last = sorted(past, key=lambda one: float(one[2]), reverse=True)[:PAST]
     rows = [
-        row(link("/line", name, name=name), when(since), when(until), safe(text)) for name, since, until, text in last
+        table_row(link("/line", name, name=name), when(since), when(until), safe(text))
+        for name, since, until, text in last
     ]
     shown = table(("interface", "bad since", "until", "why"), rows)
     return f'<h2>Earlier trouble since the host started</h2><div class="wide">{shown}</div>'
@@ -109,7 +110,7 @@ def _down(data: Mapping[str, Any]) -> str:
 def _line_row(name: str, one: Mapping[str, Any], last: Optional[float]) -> str:
     advice = f'<br><span class="note">{safe(one["advice"])}</span>' if one["state"] == "bad" and one["advice"] else ""
     cells = (link("/line", name, name=name), state(one), safe(one["says"]) + advice, one["connected"])
-    return row(*cells, when(one["last"] or last), kind=f' class="{one["state"]}"')
+    return table_row(*cells, when(one["last"] or last), kind=f' class="{one["state"]}"')
 
 
 def _plots(tally: Tally, line: Optional[str]) -> str:
@@ -147,7 +148,7 @@ def line_page(name: str, one: Mapping[str, Any], tally: Tally, more: LineData) -
     counts = [(words, one.get(key, 0)) for key, words in _COUNTED.items()]
     causes = [(f"rejected: {key}", count) for key, count in sorted(one.get("causes", {}).items())]
     ended = [(f"messages {key}", count) for key, count in sorted(one.get("ended", {}).items())]
-    cells = "".join(row(safe(key), value) for key, value in [*counts, *causes, *ended])
+    cells = "".join(table_row(safe(key), value) for key, value in [*counts, *causes, *ended])
     advice = f'<p class="note">{safe(one["advice"])}</p>' if one["advice"] else ""
     body = f"""<section data-live="state"><p>{state(one)} {safe(one["says"])}</p>{advice}
 {past_table([(name, *each) for each in one.get("past", [])])}
@@ -163,7 +164,7 @@ def line_page(name: str, one: Mapping[str, Any], tally: Tally, more: LineData) -
 def _took(found: Sequence[float]) -> str:
     if not found:
         return "<p>No message was counted.</p>"
-    cells = row(*(f"{share(found, part):.3f} s" for part in (0.5, 0.9, 0.99, 1.0)))
+    cells = table_row(*(f"{share(found, part):.3f} s" for part in (0.5, 0.9, 0.99, 1.0)))
     shown = table(("half within", "90 % within", "99 % within", "longest"), [cells])
     return f"{shown}<p class='note'>Of the last {len(found)} messages.</p>"
 
@@ -182,7 +183,7 @@ def heads_table(found: Sequence[Head]) -> str:
     for one in found:
         message = link("/message", one.number if one.number is not None else one.key[-8:], key=one.key)
         at, line = when(one.ended or one.began), safe(one.line, 200)
-        rows.append(row(message, at, line, safe(one.state), safe(one.reason), one.size))
+        rows.append(table_row(message, at, line, safe(one.state), safe(one.reason), one.size))
     shown = table(("message", "time", "interface", "state", "reason", "bytes"), rows)
     return f'<div class="wide">{shown}</div>' if rows else "<p>There is none.</p>"
 
@@ -194,7 +195,7 @@ def failed_table(found: Optional[Failed]) -> str:
     rows = []
     for one in found.newest:
         what = safe(one.order.sample, 200), safe(" ".join(one.order.tests), 200)
-        rows.append(row(one.number, when(one.changed), *what, one.tries, safe(one.reason)))
+        rows.append(table_row(one.number, when(one.changed), *what, one.tries, safe(one.reason)))
     shown = table(("order", "time", "sample", "tests", "tried", "reason"), rows)
     note = f'<p class="note">{many(found.many, "order")}; these are the last ones.</p>'
     return f'<h2>Failed orders</h2><div class="wide">{shown}</div>{note}'
@@ -224,7 +225,7 @@ def _records(found: Found) -> str:
 def _field(entry: Any, place: int) -> str:
     value = entry.whole(place)
     name = NAMES.get(entry.letter, {}).get(place, "").replace("_", " ")
-    return row(place, name, f"<code>{safe(value)}</code>") if value else ""
+    return table_row(place, name, f"<code>{safe(value)}</code>") if value else ""
 
 
 def _fault(fault: Fault) -> str:
