@@ -114,7 +114,6 @@ class Site:
 
     def close(self):
         """Ends it."""
-        self.pages.tally.stop()
         self.server.shutdown()
         self.server.server_close()
 

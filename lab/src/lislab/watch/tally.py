@@ -31,7 +31,7 @@ class Tally:
         self._all: "Counter[int]" = Counter()
         self._took: Dict[str, Deque[float]] = {}
         self._last: Dict[str, float] = {}
-        self._number, self._stop = -1, threading.Event()
+        self._number = -1
         #: Why the store can't be read, if it can't.
         self.why = ""
 
@@ -39,28 +39,21 @@ class Tally:
         """Counts from now on."""
         threading.Thread(target=self._run, name="tally", daemon=True).start()
 
-    def stop(self) -> None:
-        """Counts no more."""
-        self._stop.set()
-
     def _run(self) -> None:
-        while not self._stop.is_set():
+        while True:
             try:
                 self.count()
                 self.why = ""
             except (StoreError, OSError, ValueError) as error:
                 self.why = str(error)
-            self._stop.wait(EVERY)
+            time.sleep(EVERY)
 
     def count(self) -> None:
         """Counts what is new in the store."""
         with contextlib.closing(open_store(self._where)) as store:
             if self._number < 0:
                 self._number = store.number_at(time.time() - DAYS * DAY)
-            while not self._stop.is_set():
-                found = store.heads(self._number, AT_ONCE)
-                if not found:
-                    break
+            while found := store.heads(self._number, AT_ONCE):
                 self._take(found)
         self._forget(time.time() - DAYS * DAY)
 
