@@ -261,7 +261,7 @@ FAULTS = {
     ),
     "test_deliver.Deliver.test_ends_the_process": ("outbound/quarantine.py", "self._count(one.key, tries + 1)", "pass"),
     "test_deliver.Deliver.test_a_stop_is_no_try": (
-        "outbound/deliver.py", "except (Unreachable, Stopped):", "except Unreachable:"
+        "outbound/deliver.py", "except (Unreachable, StoreError, Stopped):", "except (Unreachable, StoreError):"
     ),
     "test_deliver.Deliver.test_killed": ("outbound/deliver.py", "() if lock is None else (lock,)", "()"),
     "test_deliver.Deliver.test_ahead": (

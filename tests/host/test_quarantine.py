@@ -175,6 +175,16 @@ class Quarantines(HostTest):
         self.same("nothing is in quarantine", quarantine.held_of(one.cursor), [])
         lislab(*one.words("--once"))
         self.same("it is delivered", one.taken(), [0])
+        store, cursor, fails = one.store, self.path("failing store.cursor"), [StoreError("the server is gone")] * 3
+
+        def take(_):
+            if fails:
+                raise fails.pop()
+            return True
+
+        for _ in range(4):
+            self.one_run(store, cursor, take, 1, False)
+        self.same("a store that fails: nothing is in quarantine", (fails, quarantine.held_of(cursor)), ([], []))
 
     def test_random(self):
         """Random messages and failures: in the end each was delivered once, those of a sample in order."""

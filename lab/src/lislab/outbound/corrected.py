@@ -21,8 +21,9 @@ from .export import Writer
 #: Among how many messages before one corrections are looked for, and the results that these correct. Of how many
 #: samples the corrections are held in memory, and how many results of such samples.
 LOOKED, MOST, RESULTS = 50_000, 10_000, 100_000
-#: A C by itself that begins no record, as each correction has it; the words of a message.
-_CORRECTION, _WORD = re.compile(rb"C(?<![0-9A-Za-z\r]C)(?![0-9A-Za-z])"), re.compile(rb"[0-9A-Za-z]+")
+#: A C by itself that begins no record, as each correction has it; blanks for what is in no word.
+_CORRECTION = re.compile(rb"C(?<![0-9A-Za-z\r]C)(?![0-9A-Za-z])")
+_WORDS = bytes(one if chr(one).isalnum() and one < 128 else 32 for one in range(256))
 #: When an order was requested, and its sample collected and received; when its results were reported.
 _TIMES, _REPORTED = (7, 8, 15), 23
 #: What is counted.
@@ -140,8 +141,9 @@ class Corrections:
         self._store, self._reading, self._header_time = store, reading, header_time
         #: All messages after the first number and up to the second one were looked at.
         self._first = self._last = -1
-        #: The corrections of each sample, in order; a word of each of these samples, which its messages have.
+        #: The corrections of each sample, in order; a word of each of these samples, which its messages have; all words.
         self._found: Dict[Key, List[_Result]] = {}
+        self._word_of: Dict[Key, bytes] = {}
         self._words: Set[bytes] = set()
         self._samples = _Samples(store, reading)
         self._histories: Dict[Key, _History] = {}
@@ -180,16 +182,19 @@ class Corrections:
         for result in _results_of(one, self._reading(one.line)):
             if result.is_correction:
                 bisect.insort(self._found.setdefault(result.key, []), result)
-                word = _WORD.search(result.key[1].encode(one.encoding, "replace"))
-                self._words.add(word[0] if word and word[0] in one.body else b"")
-        while len(self._found) > MOST:
-            del self._found[next(iter(self._found))]
+                words = _words_of(result.key[1].encode(one.encoding, "replace"))
+                self._word_of[result.key] = words[0] if words and words[0] in one.body else b""
+                self._words.add(self._word_of[result.key])
+        if len(self._found) > 2 * MOST:
+            for key in list(self._found)[: len(self._found) - MOST]:
+                del self._found[key], self._word_of[key]
+            self._words = set(self._word_of.values())
 
     def _may_have(self, body: bytes) -> bool:
         """Whether a message may be about a sample that has a correction."""
         if not self._words or b"" in self._words or len(body) > SMALL:
             return bool(self._words)
-        return not self._words.isdisjoint(_WORD.findall(body))
+        return not self._words.isdisjoint(_words_of(body))
 
     def writer(self, write: Writer) -> Writer:
         """Writes messages without what is old; nothing of those that are old."""
@@ -256,6 +261,11 @@ class Corrections:
     def said(self, key: str) -> Tuple[str, int]:
         """What was left out of a message that is delivered, and how many results; an empty text if nothing was."""
         return self._left.pop(key, ("", 0))
+
+
+def _words_of(data: bytes) -> List[bytes]:
+    """The words of a text: letters and digits of ASCII."""
+    return data.translate(_WORDS).split()
 
 
 def _without(one: Stored, records: Set[int]) -> bytes:

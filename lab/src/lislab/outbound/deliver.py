@@ -337,7 +337,7 @@ class _Round:
             return
         try:
             self._handed(self._delivered(one))
-        except (Unreachable, Stopped):
+        except (Unreachable, StoreError, Stopped):
             if kept is not None:
                 kept.takes_back(one)
             raise
