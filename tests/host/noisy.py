@@ -8,6 +8,8 @@ from tests.host.plain import ACK, ENQ, EOT, ETB, ETX, frame
 
 #: What a byte becomes, besides any other byte: the bytes that have a meaning on the link.
 MEANT = b"\x02\x03\x04\x05\x06\x0a\x0d\x15\x17"
+#: For how many seconds the first reply on a connection is waited for: a busy machine may first start the receiver.
+FIRST = 60.0
 
 
 def frames_of(texts):
@@ -34,15 +36,16 @@ class Analyzer:
     def damaged(self, data):
         """A frame with one other byte."""
         at = self.rng.randrange(len(data))
-        byte = self.rng.choice((self.rng.choice(MEANT), data[at] ^ (1 << self.rng.randrange(8)), self.rng.randrange(256)))
+        flipped = data[at] ^ (1 << self.rng.randrange(8))
+        byte = self.rng.choice((self.rng.choice(MEANT), flipped, self.rng.randrange(256)))
         return data[:at] + bytes([byte if byte != data[at] else byte ^ 1]) + data[at + 1 :]
 
-    async def reply(self, data):
-        """The reply to these bytes."""
+    async def reply(self, data, patience):
+        """The reply to these bytes, within so many seconds."""
         reader, writer = self.line
         writer.write(data)
         try:
-            found = await asyncio.wait_for(reader.read(1), self.patience)
+            found = await asyncio.wait_for(reader.read(1), patience)
         except (asyncio.TimeoutError, OSError):
             raise Silent from None
         if not found:
@@ -51,16 +54,17 @@ class Analyzer:
 
     async def session(self, texts):
         """Sends a session (6.2 to 6.4)."""
+        patience = self.patience
         if self.line is None:
-            self.line = await asyncio.open_connection("127.0.0.1", self.port)
-        while await self.reply(ENQ) != ACK:
+            self.line, patience = await asyncio.open_connection("127.0.0.1", self.port), FIRST
+        while await self.reply(ENQ, patience) != ACK:
             await asyncio.sleep(self.patience * 2 / 3)
         for data in frames_of(texts):
-            answer = await self.reply(self.damaged(data))
+            answer = await self.reply(self.damaged(data), self.patience)
             for _ in range(5):
                 if answer in (ACK, EOT):
                     break
-                answer = await self.reply(data)
+                answer = await self.reply(data, self.patience)
             else:
                 self.ends["given up after six tries"] += 1
                 raise Silent
