@@ -76,9 +76,7 @@ FAULTS = {
     "test_postgres.Postgres.test_a_unit_that_fails": Edit(
         "model/postgresql.py", "if is_answered and self._db", "if not is_answered and self._db"
     ),
-    "test_postgres.RepeatsOfPostgres.test_what_is_owed": Edit(
-        "model/sql.py", "if states[one.key] == OPEN]", "if states]"
-    ),
+    "test_postgres.RepeatsOfPostgres.test_what_is_owed": Edit("model/sql.py", " ON CONFLICT DO NOTHING", ""),
     "test_repeats.RepeatsOfSqlite.test_what_is_owed": Edit("model/sql.py", " ON CONFLICT DO NOTHING", ""),
     "test_repeats.RepeatsOfSpool.test_what_is_owed": Edit(
         "model/spool.py", "            self._ended.update(ended)\n", ""
