@@ -286,6 +286,10 @@ class Queries(HostTest):
         one.send(asked(b"^S1"))
         self.same("the command's", samples_of(one.take(400)), ["roche"])
         self.same("the store's", samples_of(Plain(ports["other"], SLOW).take(400)), ["S1"])
+        with open(lines, "w", encoding="utf-8") as out:
+            out.write("[roche]\nlisten = 127.0.0.1:0\norders = download\nquery-command = cat\n")
+        done = lislab("serve", "--store", store, "--lines", lines)
+        self.same("a line that downloads has none", (done.returncode, "query-command only answers" in done.stderr), (2, True))
 
     @staticmethod
     def played(store, play):

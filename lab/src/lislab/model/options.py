@@ -305,6 +305,8 @@ def check_settings(place: Place) -> None:
     if place.asks != Asks() and not place.orders:
         keys = ", ".join(asks.told(place.asks))
         raise OptionError(f"{keys}: a line that answers queries has orders = query or download")
+    if place.asks.command and place.orders == ORDERS[1]:
+        raise OptionError("a line with orders = download sends orders of the store: query-command only answers queries")
 
 
 def no_line(name: str, names: Iterable[str]) -> str:
