@@ -6,6 +6,11 @@ FAULTS = {
         "watch/deliveries.py", "(StoreError, WrongStore, OSError)", "(StoreError, OSError)"
     ),
     "test_deliveries.Deliveries.test_shown": ("watch/client.py", '*data["deliveries"].values()]\n    return', "]\n    return"),
+    "test_deliveries.Deliveries.test_days": (
+        "watch/plot.py",
+        "time.mktime((today - datetime.timedelta(back)).timetuple())",
+        "now - now % 86400 - back * 86400",
+    ),
     "test_deliveries.Deliveries.test_plot": (
         "watch/plot.py", "is_last = place + 1 == len(shown)", "is_last = place + every >= len(shown)"
     ),

@@ -4,6 +4,8 @@ import os
 import re
 import signal
 import sys
+import time
+import unittest.mock
 
 from lislab.model.stores import open_store
 from lislab.watch import client, metrics, notify, page, plot
@@ -28,6 +30,12 @@ class Deliveries(HostTest):
         finally:
             one.close()
 
+    @staticmethod
+    def told(store, cursor):
+        """Why nothing goes, as `lislab status` has it."""
+        done = lislab("status", "--store", store, "--cursor", cursor, "--json")
+        return json.loads(done.stdout)["undelivered"][0]["why"]
+
     def test_rows(self):
         """A delivery that isn't there, fails, goes on again, is stopped, has a quarantine."""
         store, cursor, bad = self.path("rows.db"), self.path("rows.cursor"), self.path("rows.bad")
@@ -48,8 +56,10 @@ class Deliveries(HostTest):
         self.has("since when, why, how many", re.sub(r"\d\d:\d\d(:\d\d)?", "TIME", says),
                  "nothing goes since TIME: nothing is delivered as long as this holds: ")
         self.has("how many", says, "; 3 messages not delivered")
+        self.has("status has the same reason", says, f": {self.told(store, cursor)}; 3 messages not delivered")
         os.unlink(bad)
         self.true("it goes on", wait_for(lambda: self.rows(store, cursor)[name][0] == "good", 60))
+        self.same("status has no reason any more", self.told(store, cursor), "")
         self.true("what is to be looked at is counted", wait_for(
             lambda: "1 tests twice in an order, with different values" in self.rows(store, cursor)[name][2], 60))
         rows = self.rows(store, cursor)
@@ -90,8 +100,12 @@ class Deliveries(HostTest):
         for one, status in ((cursor, 1), (good, 0)):
             done = lislab("status", "--store", store, "--cursor", one)
             self.same(f"status of {one}", (done.returncode, why in done.stdout.split("\n")), (status, status == 1))
-        done = lislab("status", *words, "--json")
-        self.same("as data", [one["why"] for one in json.loads(done.stdout)["undelivered"]], [why])
+        self.same("as data", self.told(store, cursor), why)
+        with open(good + ".state", "w", encoding="ascii") as file:
+            json.dump({"since": 1.0, "why": "it fails", "counts": {}}, file)
+        done = lislab("status", "--store", store, "--cursor", good)
+        self.same("status of one that fails", (done.returncode, done.stdout.split("\n")[-2][-10:]), (1, "; it fails"))
+        os.unlink(good + ".state")
         pages = Pages(client.Host(store, None, [cursor, good]), [cursor, good])
         found = pages.answer("/metrics", {}).text
         self.has("metrics", found, 'lislab_delivery_bad{delivery="delivery wrong.cursor"} 1\n')
@@ -126,3 +140,16 @@ class Deliveries(HostTest):
         labels = re.findall(r'<text x="([\d.]+)" y="\d+">(\d\d:\d\d)<', drawn)
         self.same("bars", len(slots), 24)
         self.same("hours", [(when, x) for x, when in labels], slots[::4])
+
+    def test_days(self):
+        """A message is in the bar of its day, as the clock on the wall has it, and so is now in the last one."""
+        self.addCleanup(time.tzset)
+        for zone in ("America/New_York", "Europe/Berlin", "Asia/Kolkata", "Australia/Sydney"):
+            with unittest.mock.patch.dict(os.environ, TZ=zone):
+                time.tzset()
+                moments = [f"2026-{one}" for one in ("10-24 23:50", "10-25 00:10", "11-01 12:00", "11-02 00:05", "11-02 17:12")]
+                times = [time.mktime(time.strptime(one, "%Y-%m-%d %H:%M")) for one in moments]
+                shown = plot.bars([(at // 900 * 900, 1) for at in times], plot.days(times[-1], 31))
+                found = [time.strftime("%Y-%m-%d", time.localtime(one.at)) for one in shown for _ in range(one.many)]
+                self.same(f"{zone}: days", found, [one[:10] for one in moments])
+                self.same(f"{zone}: of the whole month", (len(shown), shown[-1].many), (31, 2))

@@ -422,10 +422,10 @@ class Looks(HostTest):
                 fill(store, "b", [whole("y")] * 2, ago=7200.0, took=4.0)
             one.count()
             one.count()
-            self.same(f"{kind[:5]}: of all", sum(count for _, count in one.hours()), 3 + 2 * (kind == "tally.db"))
-            self.same(f"{kind[:5]}: of a line", sum(count for _, count in one.hours("a")), 3)
+            self.same(f"{kind[:5]}: of all", sum(count for _, count in one.counts()), 3 + 2 * (kind == "tally.db"))
+            self.same(f"{kind[:5]}: of a line", sum(count for _, count in one.counts("a")), 3)
             self.same(f"{kind[:5]}: how long", round(tally.share(one.took("a"), 0.5), 3), 0.5)
-            bars = plot.bars(one.hours(), time.time(), tally.HOUR, 24)
+            bars = plot.bars(one.counts(), plot.hours(time.time(), 24))
             self.same(f"{kind[:5]}: bars", sum(bar.many for bar in bars), 3 + 2 * (kind == "tally.db"))
             head = tally.each(store, lambda it: it.last_heads("a"))[0]
             self.same(f"{kind[:5]}: a message", tally.each(store, lambda it: it.message(head.key)).key, head.key)
@@ -434,7 +434,7 @@ class Looks(HostTest):
             self.same(f"{kind[:5]}: left", left, 3 + 2 * (kind == "tally.db"))
         self.same("a time", page.when(1.0), time_text(1.0)[:19].replace("T", " "))
         self.same("what is before the month isn't counted", sum(
-            bar.many for bar in plot.bars([(0.0, 7)], time.time(), tally.DAY, 31)), 0)
+            bar.many for bar in plot.bars([(0.0, 7)], plot.days(time.time(), 31))), 0)
 
     def test_pages_of_a_spool(self):
         """What a page lists is read without the messages' bytes, the newest first, and no more files than it lists."""

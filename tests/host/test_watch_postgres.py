@@ -39,7 +39,7 @@ class WatchPostgres(HostTest):
         one = tally.Tally(store)
         one.count()
         one.count()
-        bars = plot.bars(one.hours("fire"), time.time(), tally.HOUR, 24)
+        bars = plot.bars(one.counts("fire"), plot.hours(time.time(), 24))
         self.true("messages are counted", sum(bar.many for bar in bars) >= 3, str(bars))
         heads = tally.each(store, lambda it: it.last_heads("fire"))
         wait_for(lambda: tally.each(store, lambda it: it.not_complete("fire")), WAIT)  # after its fixes are tried

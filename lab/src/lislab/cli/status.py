@@ -20,8 +20,7 @@ def add_options(one: argparse.ArgumentParser) -> None:
 
 
 def run(ask: argparse.Namespace) -> int:
-    """Shows a host and its store; status 1 if the host isn't running, its state is old, or a cursor is of another
-    store."""
+    """Shows a host and its store; status 1 if the host isn't running, its state is old, or a delivery fails."""
     with contextlib.closing(open_store(ask.store)) as store:
         data = status.data_of(store, status.read_state(state_file(ask.store, ask.status)), ask.cursor)
     sys.stdout.write(json.dumps(data) + "\n" if ask.json else status.text_of(data))

@@ -43,7 +43,7 @@ def _row(state: str, verdict: str, since: float, says: str, waiting: int) -> Dic
 def _delivery(store: Store, path: str) -> Dict[str, Any]:
     waiting, found = undelivered(store, path), read_state(path)
     wait = f"; {many(waiting, 'message')} not delivered" if waiting else ""
-    is_running = os.path.exists(path + ".lock") and is_locked(path + ".lock")
+    is_running = is_locked(path + ".lock")
     if is_running and found.why:
         return _row("bad", FAILS, found.since, f"nothing goes since {clock(found.since)}: {found.why}{wait}", waiting)
     if not is_running and waiting:

@@ -15,7 +15,7 @@ from ..model.said import many
 from ..model.store import COMPLETE, Head, Stored
 from ..outbound.export import time_text
 from . import plot
-from .tally import DAY, HOUR, Tally, share
+from .tally import DAYS, Tally, share
 
 #: The most characters that are shown of a value; the most bytes of a message whose records are shown.
 VALUE, RECORDS = 2000, 1 << 20
@@ -114,9 +114,9 @@ def _line_row(name: str, one: Mapping[str, Any], last: Optional[float]) -> str:
 
 
 def _plots(tally: Tally, line: Optional[str]) -> str:
-    hours, now = tally.hours(line), time.time()
-    day = plot.svg("messages an hour, last day", plot.bars(hours, now, HOUR, 24), "%H:%M")
-    month = plot.svg("messages a day, last month", plot.bars(hours, now, DAY, 31), "%m-%d")
+    counts, now = tally.counts(line), time.time()
+    day = plot.svg("messages an hour, last day", plot.bars(counts, plot.hours(now, 24)), "%H:%M")
+    month = plot.svg("messages a day, last month", plot.bars(counts, plot.days(now, DAYS)), "%m-%d")
     return f"<h2>Messages per hour, last day</h2>{day}<h2>Messages per day, last month</h2>{month}"
 
 

@@ -1,9 +1,11 @@
 """A plot of counts over time as SVG inside a page: a bar for each span of time, with its number in words."""
+import bisect
+import datetime
 import time
 from typing import List, NamedTuple, Sequence
 
-#: The size of a plot, and where its bars are in it.
-WIDTH, HEIGHT, LEFT, FOOT = 720, 140, 44, 22
+#: The size of a plot, and where its bars are in it; seconds of an hour.
+WIDTH, HEIGHT, LEFT, FOOT, HOUR = 720, 140, 44, 22, 3600.0
 
 
 class Bar(NamedTuple):
@@ -13,15 +15,25 @@ class Bar(NamedTuple):
     many: int
 
 
-def bars(times: Sequence["tuple[float, int]"], now: float, span: float, count: int) -> List[Bar]:
-    """So many bars of this span up to now, with the sums of what is in them."""
-    end = now - now % span + span
-    found = [Bar(end - (count - place) * span, 0) for place in range(count)]
+def hours(now: float, count: int) -> List[float]:
+    """When each of the last hours began."""
+    return [now - now % HOUR - back * HOUR for back in reversed(range(count))]
+
+
+def days(now: float, count: int) -> List[float]:
+    """When each of the last days began, by the clock on the wall."""
+    today = datetime.date.fromtimestamp(now)
+    return [time.mktime((today - datetime.timedelta(back)).timetuple()) for back in reversed(range(count))]
+
+
+def bars(times: Sequence["tuple[float, int]"], starts: Sequence[float]) -> List[Bar]:
+    """Bars that begin at these times, each up to the next one, with the sums of what is in them."""
+    counts = [0] * len(starts)
     for at, number in times:
-        place = int((at - found[0].at) // span)
-        if 0 <= place < count:
-            found[place] = found[place]._replace(many=found[place].many + number)
-    return found
+        place = bisect.bisect(starts, at) - 1
+        if place >= 0:
+            counts[place] += number
+    return [Bar(at, many) for at, many in zip(starts, counts)]
 
 
 def svg(label: str, shown: Sequence[Bar], form: str) -> str:

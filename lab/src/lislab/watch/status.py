@@ -5,10 +5,11 @@ from typing import Any, Dict, Iterator, List, NamedTuple, Optional
 
 from ..model.book import Failed
 from ..model.books import reading_book
+from ..model.files import is_locked
 from ..model.said import many, shown
 from ..model.store import LineCount, Store
+from ..outbound import deliver
 from ..outbound.quarantine import held_of
-from ..outbound.deliver import WrongStore, checked_number
 from ..outbound.export import time_text
 
 #: A state that was written longer ago than this, in seconds, is old; so many failed orders of a line are named.
@@ -26,7 +27,7 @@ class Waiting(NamedTuple):
     messages: int
     oldest: Optional[float]
     quarantined: List[Dict[str, Any]]
-    #: Why nothing can go, if that is so: the cursor is of another store.
+    #: Why nothing goes, as the delivery said last, or because the cursor is of another store; empty if it goes.
     why: str = ""
 
 
@@ -59,12 +60,13 @@ def runs(store: Store, state: Dict[str, Any]) -> bool:
 
 def waiting_of(store: Store, path: str, most: int = 1000) -> Waiting:
     """How much a delivery with this cursor has still to do; it counts up to a limit."""
-    oldest, count, why = None, 0, ""
+    oldest, count = None, 0
     try:
-        for one in store.messages(checked_number(store, path), most):
+        for one in store.messages(deliver.checked_number(store, path), most):
             oldest = one.ended if count == 0 else oldest
             count += 1
-    except WrongStore as error:
+        why = deliver.read_state(path).why if count or is_locked(path + ".lock") else ""
+    except deliver.WrongStore as error:
         why = str(error)
     held = [{"key": one.key, "number": one.number, "tries": one.tries, "why": one.why} for one in held_of(path)]
     return Waiting(path, count, oldest, held, why)
@@ -142,7 +144,9 @@ def text_of(data: Dict[str, Any]) -> str:
     for one in data["undelivered"]:
         oldest = f", the oldest of {one['oldest']}" if one["messages"] else ""
         held = f"; {len(one['quarantined'])} in quarantine" if one["quarantined"] else ""
-        rows.append(one["why"] or f"{one['cursor']}: {many(one['messages'], 'message')} not delivered{oldest}{held}")
+        why = f"; {one['why']}" if one["why"] else ""
+        left = f"{one['cursor']}: {many(one['messages'], 'message')} not delivered{oldest}{held}{why}"
+        rows.append(left if one["messages"] else one["why"] or left)
         for each in one["quarantined"]:
             rows += [f"  {each['key']} failed {many(each['tries'], 'time')}: {each['why']}"] if each["tries"] else []
     for name, settings in sorted(data["would"].items()):

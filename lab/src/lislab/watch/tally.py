@@ -1,5 +1,5 @@
-"""What a store has, for a page: messages an hour of each line, how long they took, and single messages. A thread counts
-each message once, from its number on, so that no page waits for a store that is large."""
+"""What a store has, for a page: messages over time of each line, how long they took, and single messages. A thread
+counts each message once, from its number on, so that no page waits for a store that is large."""
 import contextlib
 import threading
 import time
@@ -13,7 +13,8 @@ from ..outbound.deliver import checked_number
 #: What is counted: the messages of so many days; how many are read at once; how often new ones are looked for, in
 #: seconds; how many of the last ones say how long they take.
 DAYS, AT_ONCE, EVERY, TIMED = 31, 5000, 2.0, 5000
-HOUR, DAY = 3600, 86400
+#: The seconds of a span in which messages are counted, a quarter of an hour, as zones differ; and of a day.
+SPAN, DAY = 900, 86400
 
 
 def undelivered(store: Store, cursor: str) -> int:
@@ -22,12 +23,12 @@ def undelivered(store: Store, cursor: str) -> int:
 
 
 class Tally:
-    """Messages an hour of each line in the last month, and how long the last ones took to be kept."""
+    """Messages over the last month of each line, and how long the last ones took to be kept."""
 
     def __init__(self, where: str) -> None:
         self._where, self._lock = where, threading.Lock()
-        #: Messages by their hour, of each line and of all.
-        self._hours: "Dict[str, Counter[int]]" = {}
+        #: Messages by their span, of each line and of all.
+        self._lines: "Dict[str, Counter[int]]" = {}
         self._all: "Counter[int]" = Counter()
         self._took: Dict[str, Deque[float]] = {}
         self._last: Dict[str, float] = {}
@@ -61,24 +62,24 @@ class Tally:
         with self._lock:
             for one in found:
                 ended = one.began if one.ended is None else one.ended
-                hour = int(ended // HOUR)
+                span = int(ended // SPAN)
                 self._last[one.line] = max(ended, self._last.get(one.line, 0.0))
-                self._hours.setdefault(one.line, Counter())[hour] += 1
-                self._all[hour] += 1
+                self._lines.setdefault(one.line, Counter())[span] += 1
+                self._all[span] += 1
                 self._took.setdefault(one.line, deque(maxlen=TIMED)).append(max(0.0, ended - one.began))
         self._number = found[-1].number or self._number
 
     def _forget(self, before: float) -> None:
         with self._lock:
-            for hours in [self._all, *self._hours.values()]:
-                for hour in [one for one in hours if one < before // HOUR]:
-                    del hours[hour]
+            for counts in [self._all, *self._lines.values()]:
+                for span in [one for one in counts if one < before // SPAN]:
+                    del counts[span]
 
-    def hours(self, line: Optional[str] = None) -> List[Tuple[float, int]]:
-        """The hours of a line, or of all, with how many messages were kept in them."""
+    def counts(self, line: Optional[str] = None) -> List[Tuple[float, int]]:
+        """When the spans of a line, or of all, began, and how many messages were kept in each."""
         with self._lock:
-            hours = self._all if line is None else self._hours.get(line, Counter())
-            return [(hour * HOUR, count) for hour, count in hours.items()]
+            counts = self._all if line is None else self._lines.get(line, Counter())
+            return [(span * SPAN, count) for span, count in counts.items()]
 
     def last(self, line: str) -> Optional[float]:
         """When the last message of a line was kept, among those that are counted."""
