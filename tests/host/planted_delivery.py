@@ -12,10 +12,9 @@ FAULTS = {
     ),
     "test_quarantine.Quarantines.test_each_write": (
         "outbound/deliver.py",
-        "            if self._to.wants(one) and (self._quarantine is None or not self._quarantine.takes(one)):\n"
+        "            if self._to.wants(one) and not self._waits(one):\n"
         "                self._next(one)\n            self._note(one)\n",
-        "            self._note(one)\n            if self._quarantine is None or not self._quarantine.takes(one):\n"
-        "                self._next(one)\n",
+        "            self._note(one)\n            if not self._waits(one):\n                self._next(one)\n",
     ),
     "test_quarantine.Quarantines.test_random": (
         "outbound/deliver.py",
@@ -231,6 +230,9 @@ FAULTS = {
     "test_makers.Makers.test_fhir": ("model/results.py", "len(text) < 12 or not self", "len(text) < 12 or self"),
     "test_deliver.Deliver.test_quarantine": (
         "outbound/deliver.py", "isinstance(error, Quarantined) or kept.failed", "kept.failed"
+    ),
+    "test_deliver.Deliver.test_corrected_setting": (
+        "outbound/deliver.py", "        self._quarantine.name(self._find)\n        return", "        return"
     ),
     "test_deliver.Deliver.test_reasons": ("model/results.py", "            if not code:\n", "            if 0:\n"),
     "test_deliver.Deliver.test_letters": ("model/results.py", "self.marks += [why] if why else []", "del why"),

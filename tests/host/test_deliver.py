@@ -16,12 +16,12 @@ import threading
 import time
 import unittest.mock
 
-from lislab.outbound import quarantine, https, oru
+from lislab.outbound import deliver, export, https, oru, quarantine
+from lislab.outbound.tables import Tables
 from lislab.model.failures import Refused, Unreachable
-from lislab.outbound import deliver
 from lislab.model.store import COMPLETE, Add, Begin, End
 from lislab.model.stores import open_store
-from tests.host import hosts
+from tests.host import hosts, test_corrected
 from tests.host.hosts import ENV, HostTest, lislab, process, wait_for
 from tests.host.test_quarantine import keep, records
 from tests.host.test_fhir import Certified
@@ -85,6 +85,47 @@ class Deliver(HostTest):
         done, files, held = self.deliver("oru", [], "--format", "oru", "--lines", file, "--resend", "all")
         self.same("with the setting it is delivered", (done.returncode, len(files), held), (0, 3, []))
         self.has("under its sample", files[0], "OBR|1||A|")
+
+    def test_corrected_setting(self):
+        """What comes about a sample after one in quarantine waits, also once the setting that was wrong is corrected:
+        while the delivery runs, or before it starts again."""
+        for is_restarted in (False, True):
+            store, cursor, file = (self.path(f"setting {is_restarted}.{what}") for what in ("db", "cursor", "lines"))
+            taken, opened = [], None
+            for rack, setting, wanted in (
+                ("2001^05^A", "", []), ("2002^01^A", "sample = O.4.3", []), ("2002^02^B", "sample = O.4.3", [3])
+            ):
+                with open(file, "w", encoding="ascii") as out:
+                    out.write(f"[fire]\nlisten = 1\n{setting}\n")
+                test_corrected.keep(store, [message("P|1", f"O|1||{rack}", "R|1|^^^GLU|1")])
+                if opened is None or is_restarted:
+                    self.close(opened)
+                    opened = self.opened(store, cursor, file, taken)
+                deliver.run(opened, True)
+                self.same(f"{is_restarted} {rack}: what goes out", taken, wanted)
+            self.true("sent again", deliver.run_again(opened, "all"))
+            self.same("in order", taken, [3, 1, 2])
+            self.close(opened)
+
+    @staticmethod
+    def opened(store, cursor, file, taken):
+        """A delivery that notes the numbers of messages that can go out."""
+        tables = Tables(None, file, lambda text: None)
+        write, kept = export.writer_of(export.Form("oru", tables)), quarantine.Quarantine(cursor, 0, tables.reading)
+
+        def take(one):
+            is_there = bool(write(one))
+            taken.append(one.number)
+            return is_there
+
+        return deliver.Delivery(open_store(store), deliver.Cursor(cursor), take, lambda text: None, quarantine=kept)
+
+    @staticmethod
+    def close(opened):
+        """Ends a delivery, if there is one."""
+        if opened is not None:
+            opened.cursor.close()
+            opened.store.close()
 
     def test_reasons(self):
         """Each reason why a message isn't sure."""

@@ -316,13 +316,20 @@ class _Round:
         self._cursor.check(self._to.store)
         for one in self._to.over(self._to.store.messages(self._cursor.number, 100)):
             found += 1
-            if self._to.wants(one) and (self._quarantine is None or not self._quarantine.takes(one)):
+            if self._to.wants(one) and not self._waits(one):
                 self._next(one)
             self._note(one)
             self.done += 1
         if not found:
             self._cursor.settle()
         return found
+
+    def _waits(self, one: Stored) -> bool:
+        """Whether a message waits in quarantine, because one about its sample does."""
+        if self._quarantine is None:
+            return False
+        self._quarantine.name(self._find)
+        return self._quarantine.takes(one)
 
     def _note(self, one: Stored) -> None:
         self._unnoted = one
@@ -363,6 +370,7 @@ class _Round:
         """Sends a quarantined message, with those of its samples, in order; whether none of them is left. One that
         fails holds up those of its samples."""
         assert self._quarantine is not None
+        self._quarantine.name(self._find)
         blocked: Set[str] = set()
         asked = self._quarantine.together(key)
         for held in asked:
@@ -385,10 +393,14 @@ class _Round:
         return not {held.key for held in asked} & {held.key for held in self._quarantine.held}
 
     def _found(self, held: Held) -> Stored:
-        one = next(iter(self._to.store.messages(held.number - 1, 1)), None)
-        if one is None or one.key != held.key:
+        one = self._find(held)
+        if one is None:
             raise Refused("the store no longer has this message")
         return one
+
+    def _find(self, held: Held) -> Optional[Stored]:
+        one = next(iter(self._to.store.messages(held.number - 1, 1)), None)
+        return one if one is not None and one.key == held.key else None
 
 
 class Count(NamedTuple):

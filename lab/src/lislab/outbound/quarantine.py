@@ -7,7 +7,7 @@ import json
 import os
 import re
 import time
-from typing import Any, Callable, Dict, FrozenSet, List, NamedTuple, Sequence, Tuple
+from typing import Any, Callable, Dict, FrozenSet, List, NamedTuple, Optional, Sequence, Tuple
 
 from ..model.files import Unsynced, sync_folder, write_synced
 from ..model.results import Reading
@@ -45,8 +45,9 @@ class Quarantine:
         #: Which message is tried, and for which time: a try that ends the process is counted too.
         self._trying = Unsynced(cursor + ".trying")
         self._key, self._tries = _trying_of(cursor + ".trying")
-        #: How the records of a line are read.
+        #: How the records of a line are read; and how they were when the samples of its messages were named.
         self._reading = reading
+        self._named: Optional[Dict[str, Reading]] = None
 
     def _write(self, held: Sequence[Held]) -> None:
         """Writes them to the disk first, then keeps them here. StoreError if they can't be written."""
@@ -97,7 +98,26 @@ class Quarantine:
         self._put(one, self._samples(one), 0, why)
 
     def _samples(self, one: Stored) -> FrozenSet[str]:
-        return samples_of(one, self._reading(one.line))
+        reading = self._reading(one.line)
+        if self._named is not None:
+            self._named.setdefault(one.line, reading)
+        return samples_of(one, reading)
+
+    def name(self, found: Callable[[Held], Optional[Stored]]) -> None:
+        """Names the samples of the messages in quarantine as their lines' settings have them now: what comes later
+        about one of them waits, also if it was a setting that was wrong."""
+        named = self._named
+        if not self.held or (named is not None and all(self._reading(line) == one for line, one in named.items())):
+            return
+        self._named, held = {}, []
+        for one in self.held:
+            stored = found(one)
+            if stored is not None:
+                samples = sorted(self._samples(stored))
+                one = one if samples == one.samples else one._replace(samples=samples)
+            held.append(one)
+        if held != self.held:
+            self._write(held)
 
     def takes(self, one: Stored) -> bool:
         """Whether a message is about a sample in quarantine; then it is quarantined too."""

@@ -66,12 +66,12 @@ class Tables:
 
     def reading(self, line: str) -> Reading:
         """How the records of a line are read."""
+        self._look()
         return self._read.readings.get(line, Reading())
 
     def applied(self, one: Stored) -> Coded:
         """A message by the settings and the table of its line; as it is, if that has none or the message isn't
         complete. It fails as `applied` of a table does."""
-        self._look()
         reading, table = self.reading(one.line), self._read.lines.get(one.line, self._read.others)
         one = in_its_letters(one, reading)
         return Coded(one, reading) if table is None or one.state != COMPLETE else table.applied(one, reading)
