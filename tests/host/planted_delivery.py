@@ -85,6 +85,7 @@ FAULTS = {
     "test_fhir.Fhir.test_structure": (
         "outbound/fhir.py", '_STATUS.get(result.status, "unknown")', "_STATUS.get(result.status, result.status)"
     ),
+    "test_fhir.Fhir.test_searches": ("outbound/fhir.py", "[\\\\$,|]", "[\\\\$|]"),
     "test_fhir.Https.test_answers": ("outbound/https.py", "422, 500)", "422, 500, 503)"),
     "test_fhir.Https.test_certificate": (
         "outbound/https.py",
@@ -170,7 +171,7 @@ FAULTS = {
         "one.value.quantize(decimal.Decimal(1).scaleb(-digits), decimal.ROUND_HALF_UP)",
     ),
     "test_fhir.Fhir.test_names": (
-        "outbound/fhir.py", 'f"identifier={_OF_TEST}|{test}" if is_correction else name.search', "name.search"
+        "outbound/fhir.py", "_search(_OF_TEST, test) if is_correction else name.search", "name.search"
     ),
     "test_fhir.Fhir.test_without_times": (
         "outbound/fhir.py", "if not any(map(has_clock, times)):", "if any(map(has_clock, times)):"

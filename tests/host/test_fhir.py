@@ -117,6 +117,13 @@ class Fhir(HostTest):
         self.same("a correction", (request["method"], request["url"], names[1]),
                   ("PUT", f"Observation?identifier=urn:lislab:test|{first[1][1]}", first[1][1]))
         self.true("another patient's", not set(named(*timed, identity="4712")[1]) & set(first[1]))
+        rows = ("^^^16^GLU^UNDILUTED^P^lot 1|5.4|mmol/L", "^^^16^GLU^1:5^P^lot 1|5.4|mmol/L",
+                "^^^16^GLU^UNDILUTED^P^lot 2|5.4|mmol/L", "^^^16^GLU^UNDILUTED^P^lot 1|97|mg/dL",
+                "^^^17^K^UNDILUTED^P^lot 1|5.4|mmol/L")
+        *alike, other = (self.known("P|1|4711", "O|1|S7", f"R|1|{row}||||C", settings={"test": "4"})["Observation"]
+                         for row in rows)
+        self.same("a correction of another dilution, of another reagent, in another unit", alike, alike[:1] * 4)
+        self.true("of another test", other != alike[0])
         self.same("without a time", named(*plain, key="k2"), named(*plain))
         self.same("a repeat of it changes nothing", named(*plain, key="k2", again_of="k1")[0]["ifNoneExist"],
                   f"identifier=urn:lislab:result|{named(*plain)[1][0]}")
@@ -124,11 +131,11 @@ class Fhir(HostTest):
         self.same("two in a message are two", len(observations(both)), 2)
 
     @staticmethod
-    def known(*rows, at="", key="k1", wishes=oru.Wishes(), **how):
+    def known(*rows, at="", key="k1", wishes=oru.Wishes(), settings=None, **how):
         """How the server finds what is in the Bundle of a message whose header has a time, by the kinds."""
         body = message(*rows, header=f"H|\\^&|||A||||||||1|{at}")
         found = {}
-        for one in json.loads(bundle_of(stored(body, key, **how), wishes))["entry"]:
+        for one in json.loads(bundle_of(stored(body, key, **how), wishes, **(settings or {})))["entry"]:
             asked = one["request"]
             search = asked.get("ifNoneExist") or asked["url"].partition("?")[2]
             found.setdefault(one["resource"]["resourceType"], []).append((asked["method"], search))
@@ -287,6 +294,23 @@ class Fhir(HostTest):
             (one,), who = observations(out), observations(out, "Patient")
             self.same(f"no fault: {field}", fhir_r4.faults(out), [])
             self.same(field, who[0]["identifier"][0] if who else one["subject"]["identifier"], wanted)
+
+    def test_searches(self):
+        """A search finds what has this identifier and nothing else, whatever its characters mean in a search (a comma is
+        OR) or in an address."""
+        wishes = oru.wishes_of(["practice=urn:p,q?r=1&s=2#t%2C", "sample=http://s/$"])
+        for each in ("47,11", "47$11", "47&F&11", "47&R&11", "47&R&,11", "a&E&b=c#d", "\xe4 b%2C+", "1/2:3",
+                     "4711^^^urn:x|y"):
+            body = message(f"P|1|{each.replace('|', '&F&')}", f"O|1|{each.partition('^')[0]}", "R|1|^^^A|1")
+            for one in json.loads(bundle_of(stored(body), wishes))["entry"]:
+                asked = one["request"]
+                search = asked.get("ifNoneExist") or asked["url"].partition("?")[2]
+                self.true(f"{each}: an address", re.match(r"[!-~]+$", search), search)
+                ((name, text),) = urllib.parse.parse_qsl(search)
+                parts = re.findall(r"(?:[^\\,|$]|\\.)+|[,|$]", text)
+                self.same(f"{each}: one identifier", (name, len(parts), parts[1]), ("identifier", 3, "|"))
+                system, value = (re.sub(r"\\(.)", r"\1", part) for part in parts[::2])
+                self.has(f"{each}: it has it", one["resource"]["identifier"], {"system": system, "value": value})
 
     def test_structure(self):
         """Random messages are as published; and what isn't, is noticed."""

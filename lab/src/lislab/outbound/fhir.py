@@ -34,8 +34,8 @@ _TERMS = "http://terminology.hl7.org/CodeSystem/"
 _UCUM, _SYSTEMS = "http://unitsofmeasure.org", {"LN": "http://loinc.org", "SCT": "http://snomed.info/sct"}
 _LABORATORY = {"system": _SYSTEMS["SCT"], "code": "108252007", "display": "Laboratory procedure"}
 _CONTROL = "a control, and no sample of a patient"
-#: An address, which can be the system of identifiers.
-_ADDRESS = re.compile(r"[A-Za-z][A-Za-z0-9+.-]*:\S+$")
+#: An address, which can be the system of identifiers; the characters that have a meaning in a search (R4, 3.1.1.4).
+_ADDRESS, _MEANING = re.compile(r"[A-Za-z][A-Za-z0-9+.-]*:\S+$"), re.compile(r"[\\$,|]")
 #: The flags that have the same meaning as codes of v3-ObservationInterpretation.
 _FLAGS = ("L", "H", "LL", "HH", "<", ">", "N", "A", "AA", "U", "D", "B", "W")
 #: An element that is plain data.
@@ -142,7 +142,7 @@ class _Made:
     def _own(self, system: str, value: str, *more: Data, updates: bool = False) -> _Name:
         """The name of what is known by an identifier of this host's; it is updated unless the message is a repeat."""
         identifiers = [*more, {"system": system, "value": value}]
-        return _Name(identifiers, f"identifier={system}|{value}", updates and self._told.one.again_of is None)
+        return _Name(identifiers, _search(system, value), updates and self._told.one.again_of is None)
 
     def _name(self, case: Case, order: Ordered, test: List[str], at: str = "", value: str = "") -> _Name:
         """The name of a result. It depends on its time; without a time of day on its value, and on what else says which
@@ -164,12 +164,13 @@ class _Made:
         return times
 
     def _result_name(self, case: Case, order: Ordered, result: Result) -> _Name:
-        """The identifier of a result, and of its test, by which a correction finds the result that it corrects."""
-        who, test = _who(case), [result.field, result.code, result.unit]
-        name = self._name(case, order, test, result.at, result.value)
+        """The identifier of a result, and of its test, by which a correction finds the result that it corrects, also if
+        it comes from another dilution or reagent, or in another unit."""
+        who = _who(case)
+        name = self._name(case, order, [result.field, result.code, result.unit], result.at, result.value)
         if not (who and order.sample and result.turn == 0):
             return name
-        of = _digest(self._told.one.line, order.sample, *who, "", *test)
+        of = _digest(self._told.one.line, order.sample, *who, "", result.code)
         is_first = result.status == "C" and not self._turn(of)  # a server that has two rejects this
         return self._also(name, of, is_first)
 
@@ -177,7 +178,7 @@ class _Made:
     def _also(name: _Name, test: str, is_correction: bool) -> _Name:
         """What is known by its test too: a correction is found by that."""
         by_test = {"system": _OF_TEST, "value": test}
-        search = f"identifier={_OF_TEST}|{test}" if is_correction else name.search
+        search = _search(_OF_TEST, test) if is_correction else name.search
         return name._replace(identifiers=[*name.identifiers, by_test], search=search)
 
     def _turn(self, *texts: str) -> int:
@@ -196,7 +197,7 @@ class _Made:
         known = next((one for one in named if "system" in one), None)
         if known is None:
             return {"type": "Patient", "identifier": named[0]}
-        name = _Name(named, f"identifier={known['system']}|{quote(known['value'], safe='')}")
+        name = _Name(named, _search(known["system"], known["value"]))
         return {"reference": self._add(name, _patient(case, named))}
 
     def _specimen(self, case: Case, order: Ordered, subject: Optional[Data]) -> Optional[Data]:
@@ -206,7 +207,7 @@ class _Made:
             return None
         told, record, system = self._told, order.record, self._wishes.samples
         number = {"system": system, "value": order.sample} if _ADDRESS.match(system) else {"value": order.sample}
-        name = _Name([number], f"identifier={system}|{quote(order.sample, safe='')}")
+        name = _Name([number], _search(system, order.sample))
         whose = self._whose.setdefault(order.sample, (subject, order.control))
         if "system" not in number or whose != (subject, order.control):  # two of one number are two, whatever is set
             what = [told.one.line, order.sample, *_who(case), "Q" if order.control else "", record.text(8).strip()]
@@ -350,6 +351,12 @@ class _Made:
                 "conclusion": "; ".join(each.text for each in order.comments) if not results else "",
             },
         )
+
+
+def _search(system: str, value: str) -> str:
+    """The search for what has an identifier: whatever characters this has, none of them has a meaning."""
+    system, value = (quote(_MEANING.sub(r"\\\g<0>", one), safe=":/") for one in (system, value))
+    return f"identifier={system}|{value}"
 
 
 def _digest(*texts: str) -> str:
