@@ -238,6 +238,7 @@ FAULTS = {
     "test_deliver.Deliver.test_reasons": ("model/results.py", "            if not code:\n", "            if 0:\n"),
     "test_deliver.Deliver.test_letters": ("model/results.py", "self.marks += [why] if why else []", "del why"),
     "test_deliver.Deliver.test_left_out": ("outbound/deliver.py", "self.empty += not is_handed", "self.empty += 0"),
+    "test_deliver.Deliver.test_counted_once": ("cli/deliver.py", "form, say)._replace(written={})", "form, say)"),
     "test_deliver.Deliver.test_filters": ("outbound/export.py", "line(_harmless(row) if form.safe else row)", "line(row)"),
     "test_corrected.Corrected.test_repeats": (
         "outbound/corrected.py", "if first.number < each < number)", "if each < number)"

@@ -172,6 +172,29 @@ class Deliver(HostTest):
         self.same("what is said", done.stderr.replace("lislab: ", ""),
                   "1 message delivered\n1 message had nothing to deliver\n1 orders left out, without a result\n")
 
+    def test_counted_once(self):
+        """What is left out is counted once, when its message is delivered, however often that is tried; not of one in
+        quarantine, and not of another line's."""
+        store, cursor = self.path("once.db"), self.path("once.cursor")
+        for at, line in enumerate(("fire", "other", "fire", "other")):
+            body = message("P|1", f"O|1|S{at}||^^^GLU", "R|1|^^^A|1", f"O|2|T{at}||^^^K")
+            test_corrected.keep(store, [body], line)
+        one = Scripted(lambda at, key: ack(b"AE" if at < 3 else b"AA", key))
+        self.addCleanup(one.close)
+        words = ["deliver", "--store", store, "--to", f"mllp://127.0.0.1:{one.port}", "--line", "fire", "--cursor"]
+        done = lislab(*words, self.path("once.other"), "--once", "--quarantine", "2")
+        self.same("all tries but the last one fail", (done.returncode, len(one.taken)), (1, 1))
+        delivery = process(["-m", "lislab", *words, cursor])
+        self.true("it fails", wait_for(lambda: deliver.read_state(cursor).why, 30))
+        self.true("it goes", wait_for(lambda: not deliver.read_state(cursor).why, 30))
+        delivery.terminate()
+        self.same("it ends", delivery.wait(30), 128 + signal.SIGTERM)
+        name = "orders left out, without a result"
+        self.same("counted once", deliver.read_state(cursor).counts[name], 2)
+        one.answer = lambda at, key: ack(b"AE" if at == 5 else b"AA", key)
+        done = lislab(*words, self.path("once.third"), "--once", "--quarantine", "1")
+        self.has("one of two", done.stderr, f"1 message delivered\nlislab: 1 {name}\nlislab: 1 message is in quarantine\n")
+
     def test_filters(self):
         """One line, no repeats, controls, columns, cells that are no formulas."""
         control = message("P|1|QCLOT", "O|1|QC1|||||||||Q", "R|1|^^^GLU|=1+1")

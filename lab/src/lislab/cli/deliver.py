@@ -82,7 +82,7 @@ def _form_of(ask: argparse.Namespace) -> export.Form:
     form: str = ask.format or _SCHEMES.get(scheme, "records")
     if scheme in ("mllp", "mllps") and form != "oru":
         raise OptionError(f"MLLP carries messages of HL7, --format oru, and not {form}")
-    return form_asked(ask, form, say)
+    return form_asked(ask, form, say)._replace(written={})
 
 
 class _Outbound(NamedTuple):
@@ -105,6 +105,18 @@ def _outbound_of(ask: argparse.Namespace, form: export.Form, store: Store, lock:
 
 
 def _receiver_of(ask: argparse.Namespace, form: export.Form, lock: int, ahead: Ahead) -> deliver.Target:
+    """A function that delivers a message to whom the options name, and then counts what was left out of it."""
+    target = _target_of(ask, form, lock, ahead)
+
+    def take(one: Stored) -> bool:
+        is_handed = target(one)
+        form.counts.update((form.written or {}).pop(one.key, {}))
+        return is_handed
+
+    return take
+
+
+def _target_of(ask: argparse.Namespace, form: export.Form, lock: int, ahead: Ahead) -> deliver.Target:
     """A function that delivers a message to whom the options name."""
     where: str = ask.to or ask.directory or ""
     scheme, slashes, rest = where.partition("://")

@@ -74,8 +74,10 @@ class Form(NamedTuple):
     wishes: Optional[Wishes] = None
     #: Whether a table is kept back too, as the forms of HL7 are, if a result has no sample or no test.
     is_strict: bool = True
-    #: What was left out, and what else is to be looked at, is counted here.
+    #: What was left out, and what else is to be looked at, is counted here; or first by the keys of the last two messages
+    #: that were written, if it counts only once they are delivered.
     counts: "Counter[str]" = Counter()
+    written: Optional[Dict[str, "Counter[str]"]] = None
 
 
 def writer_of(form: Form) -> Writer:
@@ -110,14 +112,21 @@ def _message_writer(form: Form, coded: Callable[[Stored], Coded]) -> Writer:
 def _told(form: Form, coded: Coded) -> Told:
     """A message as its receiver gets it. What is left out is counted."""
     told = Told(coded)
+    counts: "Counter[str]" = Counter()
     if form.controls != "with":
         wanted = [one for one in told.cases if one.is_control is (form.controls == "only")]
-        form.counts["orders left out by --controls"] += sum(len(one.orders) for one in told.cases if one not in wanted)
+        counts["orders left out by --controls"] += sum(len(one.orders) for one in told.cases if one not in wanted)
         told.cases = wanted
-    form.counts["results left out by a table"] += coded.left_out
-    form.counts["orders left out, without a result"] += told.orders_left_out
-    form.counts["tests twice in an order, with different values"] += told.twice
-    form.counts["messages with letters of another encoding"] += told.has_other_letters
+    counts["results left out by a table"] += coded.left_out
+    counts["orders left out, without a result"] += told.orders_left_out
+    counts["tests twice in an order, with different values"] += told.twice
+    counts["messages with letters of another encoding"] += told.has_other_letters
+    if form.written is None:
+        form.counts.update(counts)
+        return told
+    form.written[told.one.key] = counts
+    for key in list(form.written)[:-2]:
+        del form.written[key]
     return told
 
 
