@@ -193,6 +193,9 @@ class Deliver(HostTest):
         self.same("counted once", deliver.read_state(cursor).counts[name], 2)
         one.answer = lambda at, key: ack(b"AE" if at == 5 else b"AA", key)
         done = lislab(*words, self.path("once.third"), "--once", "--quarantine", "1")
+        wrong = lislab(*words, self.path("once.wrong"), "--once", "--line", "ifre")
+        self.same("a line that isn't there is said", wrong.stderr.splitlines()[0],
+                  f"lislab: {store}: there is no line ifre, but fire, other")
         self.has("one of two", done.stderr, f"1 message delivered\nlislab: 1 {name}\nlislab: 1 message is in quarantine\n")
 
     def test_filters(self):

@@ -15,6 +15,7 @@ from ..model.results import Reading
 from ..model.said import many, say
 from ..model.store import Store, Stored, StoreError
 from ..model.stores import open_store
+from ..model.unix import shown
 from ..outbound import deliver, export, https, mllp, quarantine
 from ..outbound.ahead import Ahead
 from ..outbound.corrected import Corrections, without
@@ -153,7 +154,7 @@ def run(ask: argparse.Namespace) -> int:
             outbound.target,
             say,
             quarantine=kept,
-            wants=_wants(ask),
+            wants=_wants(ask, store),
             counts=lambda: dict(form.counts),
             over=outbound.over,
         )
@@ -181,9 +182,12 @@ def _stop(number: int, frame: Optional[FrameType]) -> None:
     raise deliver.Stopped
 
 
-def _wants(ask: argparse.Namespace) -> "deliver.Wants":
-    """Which messages are delivered at all."""
+def _wants(ask: argparse.Namespace, store: Store) -> "deliver.Wants":
+    """Which messages are delivered at all. A line that no message came from is said: its name may be wrong."""
     line, repeats = ask.line, not ask.without_repeats
+    names = [one.line for one in store.counts()] if line is not None else []
+    if names and line not in names:
+        say(f"{ask.store}: {shown(options.no_line(line, names))}")
     return lambda one: (line is None or one.line == line) and (repeats or one.again_of is None)
 
 
