@@ -278,6 +278,7 @@ FAULTS = {
     ),
     "test_deliver.Killed.test_https": ("outbound/https.py", '"X-Request-ID": key}', '"X-Request-ID": str(id(data))}'),
     "test_deliver.Answers.test_breaks_off": ("outbound/https.py", "self.fp = _Head(whole)", "self.fp = whole"),
+    "test_deliver.Answers.test_which_message": ("outbound/https.py", "return bool(poll.poll(0))", "return False"),
     "test_deliver.Answers.test_drips": ("outbound/https.py", "        timer.start()\n", ""),
     "test_deliver.Answers.test_again": (
         "outbound/https.py", '(_wait_of(answer.getheader("Retry-After") or "")', "(0.0"

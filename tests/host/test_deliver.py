@@ -425,18 +425,38 @@ class Raw:
             line.recv(1)
 
 
+class Kept(Raw):
+    """The same over a connection that stays open, with bytes for each request."""
+
+    def answer(self, line):
+        """Takes requests and answers them."""
+        data = b""
+        while more := line.recv(4096):
+            data += more
+            if data.endswith(b"\r\n\r\n{}"):
+                self.heads.append(data.decode())
+                data = b""
+                for part in self.parts.pop(0):
+                    line.sendall(part)
+                    time.sleep(self.pause)
+
+
 class Answers(HostTest):
     """Answers of an HTTP server that break off, drip, or say when to come again."""
 
     def told(self, raw, seconds=60.0, headers=None):
         """What became of a message."""
-        one = https.Https(f"http://127.0.0.1:{raw.port}/", seconds, https.context_of(None), headers)
+        found = self.told_of(https.Https(f"http://127.0.0.1:{raw.port}/", seconds, https.context_of(None), headers))
+        raw.socket.close()
+        return found
+
+    @staticmethod
+    def told_of(one):
+        """The same of the next message to a server."""
         try:
             one.deliver(b"{}", "k", "text/plain")
         except Refused as error:
             return type(error).__name__, getattr(error, "wait", None), str(error).split(": ", 1)[-1]
-        finally:
-            raw.socket.close()
         return "", None, ""
 
     def test_breaks_off(self):
@@ -449,6 +469,22 @@ class Answers(HostTest):
                      b"HTTP/1.1 204 No Content\r\n\r\n",
                      b"HTTP/1.1 200 OK\r\nTransfer-Encoding: chunked\r\n\r\n2\r\nab\r\n0\r\n\r\n"):
             self.same(str(part), self.told(Raw(part))[0], "")
+
+    def test_which_message(self):
+        """An answer is that of the message before it, whatever comes before the answer or after it; the reason has no
+        words of the server."""
+        fine, bad = (f"HTTP/1.1 {status}\r\nContent-Length: 0\r\n\r\n".encode() for status in ("200 OK", "400 Bad"))
+        for name, answers in (("announced", [[b"HTTP/1.1 102 Processing\r\n\r\n", fine], [bad], [fine]]),
+                              ("before it is asked", [[fine, bad], [bad, fine], [fine]])):
+            raw = Kept(*answers, pause=0.2)
+            one = https.Https(f"http://127.0.0.1:{raw.port}/", 60.0, https.context_of(None))
+            found = []
+            for _ in range(3):
+                found.append(self.told_of(one)[2])
+                time.sleep(0.5)
+            self.same(name, (found, len(raw.heads)), (["", "400 Bad Request", ""], 3))
+            raw.socket.close()
+        self.same("no words of the server", self.told(Raw(b"Doe^Jane\r\n\r\n"))[2], "an answer that can't be read")
 
     def test_drips(self):
         """An answer that drips has an end at --seconds."""

@@ -4,6 +4,7 @@ import contextlib
 import datetime
 import http.client
 import re
+import select
 import socket
 import ssl
 import threading
@@ -75,11 +76,14 @@ class _Answer(http.client.HTTPResponse):
     """An answer whose head is whole."""
 
     def begin(self) -> None:
-        """Reads the head."""
+        """Reads the head of the last answer: those before it only say that there will be one (RFC 9110, 15.2)."""
         whole = self.fp
         self.fp = _Head(whole)  # type: ignore[assignment]
         try:
             super().begin()
+            while 100 <= self.status < 200:
+                self.headers = self.msg = None  # type: ignore[assignment]
+                super().begin()
         finally:
             if isinstance(self.fp, _Head):  # it is closed if there is no body
                 self.fp = whole
@@ -119,7 +123,7 @@ class Https:
             self._line.close()
             if self._is_late or fresh:
                 late = f"no answer within {self._seconds:g} seconds" if self._is_late else ""
-                raise Refused(f"{self._where}: {late or error or type(error).__name__}") from None
+                raise Refused(f"{self._where}: {late or _said(error)}") from None
             self.deliver(data, key, kind)
         except socket.timeout:
             self._line.close()
@@ -156,6 +160,8 @@ class Https:
 
     def _post(self, data: bytes, key: str, kind: str) -> None:
         given = self._given()
+        if self._line.sock is not None and _has_more(self._line.sock):
+            self._line.close()
         if self._line.sock is None:
             try:
                 self._line.connect()
@@ -175,6 +181,20 @@ class Https:
         if answer.status in _OF_MESSAGE:
             raise Refused(why)
         raise Unreachable(why, min(_wait_of(answer.getheader("Retry-After") or ""), _LONGEST))
+
+
+def _has_more(line: socket.socket) -> bool:
+    """Whether something came after an answer, or the end of the connection: nothing there answers what comes next."""
+    poll = select.poll()
+    poll.register(line, select.POLLIN)
+    return bool(poll.poll(0))
+
+
+def _said(error: Exception) -> str:
+    """Why an answer is none, in words that aren't the server's."""
+    if isinstance(error, OSError):
+        return error.strerror or "the connection was closed without an answer"
+    return "the answer breaks off" if isinstance(error, http.client.IncompleteRead) else "an answer that can't be read"
 
 
 def _wait_of(text: str) -> float:
