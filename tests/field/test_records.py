@@ -209,7 +209,7 @@ class Records(FieldTest):
         cut = GOOD[: GOOD.index(b"L|1")]
         ran, rows = table(cut + GOOD)
         self.same("table: a message without L tells no result", (len(rows), ran.status), (2, 1))
-        self.has("table: how many results were left", ran.error, "1 results before it aren't told")
+        self.has("table: how many results were left", ran.error, "1 result before it isn't told")
         gbk = GOOD.replace(b"4711", "病人".encode("gbk"))
         ran, rows = table(gbk)
         ran, rows = table(gbk, "--encoding", "utf-8")

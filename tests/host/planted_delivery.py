@@ -246,6 +246,9 @@ FAULTS = {
     "test_corrected.Corrected.test_doubt": (
         "outbound/corrected.py", "one.is_timed or (one.reported in told", "one.is_timed or (bool(told)"
     ),
+    "test_corrected.Corrected.test_orders": (
+        "outbound/fhir.py", "came = self._came(case, order) or results", "came = results"
+    ),
     "test_corrected.Corrected.test_bounds": (
         "outbound/corrected.py", "self._last = self._store.number_before(last, LOOKED)", "self._last = last"
     ),

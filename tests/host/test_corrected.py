@@ -12,9 +12,11 @@ import unittest.mock
 from lislab.cli import deliver as cli_deliver
 from lislab.cli import main
 from lislab.model.results import Reading
+from lislab.model.said import many
 from lislab.model.store import COMPLETE, Add, Begin, End
 from lislab.model.stores import open_store
 from lislab.outbound import corrected, quarantine
+from lislab.outbound.export import Form
 from tests.host.hosts import HostTest
 from tests.host.test_told import message
 
@@ -64,6 +66,25 @@ CASES = {
         [GOOD, FIXED, told(result("6.6", "C"), at=THIRD), told(result("6.4"), at=THIRD)], "1 5.4, 2 6.4, 3 6.6"
     ),
     "the last correction as final": ([GOOD, FIXED, told(result("6.4"), at=THIRD)], "1 5.4, 2 6.4, 3 6.4"),
+    "the last correction again": (
+        [GOOD, FIXED, told(result("6.4", "C"), K, at=THIRD)], "1 5.4, 2 6.4, 3 6.4, 3 4.1"
+    ),
+    "an old correction, by its time": (
+        [GOOD, FIXED, told(result("6.6", "C", LATE), at=SECOND), told(result("6.4", "C"), K, at=THIRD)],
+        "1 5.4, 2 6.4, 3 6.6, 4 4.1",
+    ),
+    "an old correction, by the header's time": (
+        [GOOD, FIXED, told(result("6.6", "C"), at=THIRD), told(result("6.4", "C"), K, at=SECOND)],
+        "1 5.4, 2 6.4, 3 6.6, 4 4.1",
+    ),
+    "a correction to an earlier one, later": (
+        [GOOD, FIXED, told(result("6.6", "C", LATE), at=SECOND), told(result("6.4", "C", THIRD), at=THIRD)],
+        "1 5.4, 2 6.4, 3 6.6, 4 6.4",
+    ),
+    "another patient's old correction": (
+        [FIXED, told(result("6.6", "C", LATE), at=SECOND), told(result("6.4", "C"), at=THIRD, patient="4712")],
+        "1 6.4, 2 6.6, 3 6.4",
+    ),
     "a correction to the first value": ([GOOD, FIXED, told(result("5.4", "C"), at=THIRD)], "1 5.4, 2 6.4, 3 5.4"),
     "another value": ([GOOD, FIXED, told(result("5.5"), at=THIRD)], "1 5.4, 2 6.4, 3 5.5"),
     "another time": ([GOOD, FIXED, told(result("5.4", at=LATE), at=THIRD)], "1 5.4, 2 6.4, 3 5.4"),
@@ -134,11 +155,14 @@ class Deliveries:
 class EachStore(Deliveries):
     """What goes out of a store."""
 
+    #: In how many forms each case goes out at once; in one more a delivery starts anew at each message.
+    forms = 1
+
     def test_results(self):
         """In each form what goes out is what is new; so it is in one of them if a delivery starts anew at each message."""
         forms = itertools.cycle(("oru", "fhir", "csv"))
         for name, (bodies, wanted) in CASES.items():
-            for form, is_each in ((next(forms), False), (next(forms), False), (next(forms), False), (next(forms), True)):
+            for form, is_each in [*((next(forms), False) for _ in range(self.forms)), (next(forms), True)]:
                 parts, place = [[body] for body in bodies] if is_each else [bodies], f"{form} {is_each} {name}"
                 store = self.where()
                 for part in parts:
@@ -154,11 +178,14 @@ class EachStore(Deliveries):
                     counts = [int(count) for count in re.findall(r"(\d+) results? (?:is|are) left out", said)]
                     missing = b"".join(bodies).count(b"\rR|") - len(found) - said.count(" is left out: it repeats ")
                     self.same(f"{place}: each is logged", sum(counts), missing)
-                    self.same(f"{place}: and counted", f"{missing} {corrected.COUNTED}" in said, missing > 0)
+                    counted = many(missing, "result") + " left out, corrected since"
+                    self.same(f"{place}: and counted", counted in said.splitlines(), missing > 0)
 
 
 class CorrectedOfSqlite(EachStore, HostTest):
     """Out of an SQLite file."""
+
+    forms = 3
 
     def where(self):
         """A new store."""
@@ -203,6 +230,7 @@ class Corrected(Deliveries, HostTest):
         for name, bodies in (
             ("another header", [told(plain), told(fixed, at=SECOND), told(plain, K, at=THIRD)]),
             ("no header's time", [told(plain, at=""), told(fixed, at=""), told(plain, K, at="")]),
+            ("a correction", [told(result("6.2", "C")), FIXED, told(result("6.2", "C"), K, at=THIRD)]),
         ):
             for word, wanted, wanted_held in ((None, 2, ["3"]), ("ignored", 3, []), ("counts", 4, [])):
                 store = self.path(f"{name} {word}.db")
@@ -213,10 +241,28 @@ class Corrected(Deliveries, HostTest):
                 self.same(f"{name} {word}: what goes out", sum(len(results) for _, results in found), wanted)
                 if not word:
                     self.has("why", said, "result, record 4 of the message: is it new, or the one that message 2")
-                    keep(store, [told(result("6.6", "C"), at=THIRD)])
+                    keep(store, [told(result("6.6", "C", LATE), at=THIRD)])
                     words = ["--set", "H-14=ignored", "--resend", "all"]
                     status, said, found, held = self.deliver(store, f"{name} {word}", "oru", *words)
                     self.same(f"{name}: sent again", (status, held, found[-1][1]), (0, [], [("4.1", "F")]))
+
+    def test_orders(self):
+        """A result that is left out counts for the status of its order: nothing of it is awaited any more."""
+        ordered = "O|1|A||^^^GLU\\^^^K"
+        for name, rows, wanted in (
+            ("left out", [ordered, result("5.4"), K], "completed"),
+            ("below no test", ["O|1|A", result("5.4"), K], "completed"),
+            ("another is awaited", [ordered + "\\^^^NA", result("5.4"), K], "active"),
+            ("of another patient", [ordered, K, "P|2|4712", ordered, result("5.4"), result("4", test="NA")], "active"),
+        ):
+            store = self.path(f"{name}.db")
+            keep(store, [GOOD, FIXED, message("P|1|4711", *rows, header="H|\\^&|||A")])
+            self.deliver(store, name, "fhir")
+            folder = self.path(f"{name}.d")
+            with open(os.path.join(folder, sorted(os.listdir(folder))[-1]), encoding="utf-8") as file:
+                made = [one["resource"] for one in json.load(file)["entry"]]
+            found = [one["status"] for one in made if one["resourceType"] == "ServiceRequest"]
+            self.same(f"{name}: the order", found[0], wanted)
 
     def test_bounds(self):
         """As many messages as that are looked at, by a delivery that begins late; and no others."""
@@ -229,12 +275,12 @@ class Corrected(Deliveries, HostTest):
                 opened, "messages", lambda *words, looked=looked: (looked.append(one) or one for one in read(*words))
             ):
                 one = corrected.Corrections(opened, lambda line: Reading(), None)
-                (out,) = [one.writer(lambda each: each.body)(each) for each in one.over(read(8))]
+                (out,) = [one.writer(Form("records"))(each) for each in one.over(read(8))]
             self.same(f"{most}: it is left out", b"R|" not in out, wanted)
             self.true(f"{most}: no others are read", len(looked) <= 2 * most + 6, str(len(looked)))
             with unittest.mock.patch.object(corrected, "MOST", 0):
                 one = corrected.Corrections(opened, lambda line: Reading(), None)
-                rows = [one.writer(lambda each: each.body)(each) for each in one.over(read(0))]
+                rows = [one.writer(Form("records"))(each) for each in one.over(read(0))]
             self.same("no corrections are held", rows[-1], OLD)
         opened.close()
 
@@ -256,7 +302,7 @@ class Corrected(Deliveries, HostTest):
             if rng.random() < 0.0006:
                 one = corrected.Corrections(store, lambda line: Reading(), False)
             (each,) = one.over(iter([each]))
-            rows = one.writer(lambda rest: rest.body)(each).split(b"\r")
+            rows = one.writer(Form("records"))(each).split(b"\r")
             old = {row for row in each.body.split(b"\r") if row.startswith(b"R|")} - set(rows)
             self.need({int(row.split(b"|")[1]) for row in old} == said[each.number - 1],
                       lambda each=each, old=old: f"{each.number}: {each.body}: {old}, {said[each.number - 1]}")
@@ -275,15 +321,18 @@ class Plan:
             test, value, time = rng.choice("GK"), str(rng.randrange(3)), rng.choice((EARLY, LATE, ""))
             is_correction = rng.random() < 0.1
             others = come.setdefault((self.line, sample, test), [])
-            if not is_correction and is_old(others, patient, (value, time)):
+            if is_old(others, patient, (value, time), is_correction):
                 self.old.add(at)
             others.append((patient, (value, time), is_correction))
             rows.append(f"R|{at}|^^^{test}|{value}|||||{'C' if is_correction else rng.choice('FR')}||||{time}")
         self.body = message(f"P|1|{patient}", f"O|1|{sample}", *rows, header=f"H|\\^&|||A|||||||P|1|{FIRST}{number:06}")
 
 
-def is_old(others, patient, content):
-    """Whether what a result says came before the last correction of its test that may be its patient's."""
+def is_old(others, patient, content, is_correction):
+    """Whether what a result says came before the last correction of its test that may be its patient's. A correction is
+    old if it was one before, and another one came since."""
     alike = [one for one in others if one[0] == patient or not (one[0] and patient)]
     last = max((at for at, one in enumerate(alike) if one[2]), default=0)
+    if is_correction:
+        return any(one[1] == content and one[2] for one in alike[:last]) and alike[last][1] != content
     return any(one[1] == content for one in alike[:last])

@@ -170,7 +170,7 @@ class Deliver(HostTest):
         done, files, _ = self.deliver("left", [query, order], "--format", "oru")
         self.same("one file", (done.returncode, len(files)), (0, 1))
         self.same("what is said", done.stderr.replace("lislab: ", ""),
-                  "1 message delivered\n1 message had nothing to deliver\n1 orders left out, without a result\n")
+                  "1 message delivered\n1 message had nothing to deliver\n1 order left out, without a result\n")
 
     def test_counted_once(self):
         """What is left out is counted once, when its message is delivered, however often that is tried; not of one in

@@ -61,7 +61,7 @@ class Deliveries(HostTest):
         self.true("it goes on", wait_for(lambda: self.rows(store, cursor)[name][0] == "good", 60))
         self.same("status has no reason any more", self.told(store, cursor), "")
         self.true("what is to be looked at is counted", wait_for(
-            lambda: "1 tests twice in an order, with different values" in self.rows(store, cursor)[name][2], 60))
+            lambda: "1 test twice in an order, with different values" in self.rows(store, cursor)[name][2], 60))
         rows = self.rows(store, cursor)
         self.same("what is in quarantine is a row", rows[f"{name}: quarantine"][:2], ("bad", "quarantined"))
         self.has("why", rows[f"{name}: quarantine"][2], "1 message in quarantine; message 2: order, record 3 of the message")

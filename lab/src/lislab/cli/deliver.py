@@ -12,7 +12,7 @@ from ..model.failures import Refused
 from ..model.files import is_locked
 from ..model.options import OptionError, split_peer
 from ..model.results import Reading
-from ..model.said import many, say
+from ..model.said import counted, many, say
 from ..model.store import Store, Stored, StoreError
 from ..model.stores import open_store
 from ..model.unix import shown
@@ -100,7 +100,7 @@ def _outbound_of(ask: argparse.Namespace, form: export.Form, store: Store, lock:
         return _Outbound(_receiver_of(ask, form, lock, ahead), ahead.over)
     reading = form.tables.reading if form.tables else lambda line: Reading()
     corrections = Corrections(store, reading, form.wishes.header_time if form.wishes else None)
-    ahead = Ahead(corrections.writer(export.writer_of(form)))
+    ahead = Ahead(corrections.writer(form))
     target = without(_receiver_of(ask, form, lock, ahead), corrections, form.counts, say)
     return _Outbound(target, lambda messages: ahead.over(corrections.over(messages)))
 
@@ -163,7 +163,7 @@ def run(ask: argparse.Namespace) -> int:
         say(f"{many(count.delivered, 'message')} delivered")
         if count.empty:
             say(f"{many(count.empty, 'message')} had nothing to deliver")
-        for text in export.counted_texts(form):
+        for text in counted(form.counts):
             say(text)
         if kept.held:
             say(f"{many(len(kept.held), 'message is', 'messages are')} in quarantine")

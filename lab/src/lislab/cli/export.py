@@ -11,7 +11,7 @@ from ..model import options, renamed
 from ..model.failures import Quarantined
 from ..model.files import Output, writing
 from ..model.options import OptionError
-from ..model.said import say
+from ..model.said import counted, say
 from ..model.store import COMPLETE, INCOMPLETE, INVALID
 from ..model.stores import open_store
 from ..model.unix import shown
@@ -94,7 +94,7 @@ def run(ask: argparse.Namespace) -> int:
                     say(f"message {one.number} {one.key} is left out: {error}")
                     status = LOOKS_WRONG
         names = [] if is_named else [one.line for one in store.counts()]
-    for text in export.counted_texts(form):
+    for text in counted(form.counts):
         say(text)
     if is_named or ask.line in names:
         return status

@@ -9,6 +9,7 @@ from lislink.message import NAMES, Entry, Fault, Message, read_all
 from lislink.rows import Row
 from lislink.shown import as_parts, as_text, component_text
 from ..diagnosis.faults import code_of
+from ..model.said import many
 from .looks import rejected_at
 
 #: The forms of a table.
@@ -118,16 +119,15 @@ def rows_of(
 ) -> Iterator["Tuple[Optional[List[Any]], str]"]:
     """A row for each result, or for each order; None and why for a message that can't be read, of which no result is
     given."""
-    number, letter = 0, "O" if orders else "R"
+    number, (letter, what) = 0, ("O", "order") if orders else ("R", "result")
     for one in read_all(stream, encoding):
         number += 1
         if isinstance(one, Fault):
             _, cause = rejected_at(stream, one)
             lost = sum(row.letter == letter for row in one.rows)
-            yield None, (
-                f"message {number}: record {one.error.number} is rejected ({code_of(one.error)}): {cause.words}"
-                + (f"; {lost} {'orders' if orders else 'results'} before it aren't told" if lost else "")
-            )
+            more = "; " + many(lost, f"{what} before it isn't told", f"{what}s before it aren't told") if lost else ""
+            why = f"record {one.error.number} is rejected ({code_of(one.error)}): {cause.words}"
+            yield None, f"message {number}: {why}{more}"
             continue
         for where in _orders(one.message) if orders else one.message.results():
             yield [column.text((one.message, *where)) for column in columns], ""

@@ -6,7 +6,7 @@ import os
 import select
 import socket
 import sys
-from typing import Any, Iterator
+from typing import Any, Iterator, List, Mapping
 
 #: The most bytes of a line: a pipe that is writable has room for so many.
 MOST = 2000
@@ -36,6 +36,12 @@ def shown(text: str) -> str:
 def many(count: int, name: str, names: str = "") -> str:
     """So many of something: of a `name`, or of `names`, where these aren't just one with an s."""
     return f"{count} {name}" if count == 1 else f"{count} {names or name + 's'}"
+
+
+def counted(counts: Mapping[str, int]) -> List[str]:
+    """What was counted, as `1 order left out`. Each name begins with a plural that ends with s."""
+    found = [(count, name.partition(" ")) for name, count in counts.items() if count]
+    return [f"{many(count, names[:-1])} {rest}" for count, (names, _, rest) in found]
 
 
 def _number(code: int) -> str:

@@ -16,7 +16,7 @@ from ..model.samples import sample_or_patient, samples_of
 from ..model.store import COMPLETE, Store, Stored
 from .ahead import SMALL
 from .deliver import Target
-from .export import Writer
+from .export import Form, Writer, writer_of
 
 #: Among how many messages before one corrections are looked for, and the results that these correct. Of how many
 #: samples the corrections are held in memory, and how many results of such samples.
@@ -27,21 +27,24 @@ _WORDS = bytes(one if chr(one).isalnum() and one < 128 else 32 for one in range(
 #: When an order was requested, and its sample collected and received; when its results were reported.
 _TIMES, _REPORTED = (7, 8, 15), 23
 #: What is counted.
-COUNTED = "results left out that were corrected since"
+COUNTED = "results left out, corrected since"
 #: The number of a message and that of a record in it. A line and a sample of it, or a patient without a sample.
 Place = Tuple[int, int]
 Key = Tuple[str, str]
+#: What a result says: its test, value and unit, whether it is cancelled, and its times.
+_Content = Tuple[Tuple[str, ...], Tuple[str, ...]]
 
 
 class _Result(NamedTuple):
-    """A result: where it is, its sample, the identities of its patient, its test, what it says, whether that has a time
-    of day, and when it was reported (O-23, H-14), which is another time if it is sent again."""
+    """A result: where it is, its sample, the identities of its patient, its test, what it says, its times, whether one
+    of these has a time of day, and when it was reported (O-23, H-14), which is another time if it is sent again."""
 
     place: Place
     key: Key
     patient: FrozenSet[str]
     test: str
-    content: Tuple[str, ...]
+    value: Tuple[str, ...]
+    times: Tuple[str, ...]
     is_correction: bool
     is_timed: bool
     reported: Tuple[str, str]
@@ -49,6 +52,20 @@ class _Result(NamedTuple):
     def may_be_of(self, patient: FrozenSet[str]) -> bool:
         """Whether it may be a result of this patient: one of the two has no identity, or they share one."""
         return not (patient and self.patient) or bool(patient & self.patient)
+
+    def says(self, one: "_Result") -> bool:
+        """Whether it says the same as another result."""
+        return (self.value, self.times) == (one.value, one.times)
+
+    def was_before(self, last: "_Result", earlier: "Iterator[_Result]") -> Optional[bool]:
+        """Whether this correction came before the last one, among the earlier ones: None if none of these says the
+        same, or the last one does. It did if it has another time than the last one; else if it was reported at the same
+        time as an earlier one."""
+        reported = [] if self.says(last) else [one.reported for one in earlier if self.says(one)]
+        if not reported:
+            return None
+        has_own_time = self.is_timed and self.times != last.times
+        return has_own_time or (self.reported in reported and any(map(has_clock, self.reported)))
 
 
 def _results_of(one: Stored, reading: Reading) -> Iterator[_Result]:
@@ -78,7 +95,8 @@ def _result_of(place: Place, line: str, records: Tuple[Entry, Entry, Entry, Entr
         (line, sample_or_patient(order, above, reading)),
         frozenset(one.value for one in identities_of(above).values()) if above.letter == "P" else frozenset(),
         code_of(entry, 3, reading),
-        (*value, *times),
+        tuple(value),
+        tuple(times),
         status == "C",
         any(map(has_clock, times)),
         (field_text(order, _REPORTED), field_text(header, 14)),
@@ -120,16 +138,17 @@ class _History:
 
     def __init__(self) -> None:
         self.last = 0
-        self._firsts: Dict[Tuple[str, ...], Dict[Tuple[FrozenSet[str], Tuple[str, str]], Place]] = {}
+        self._firsts: Dict[_Content, Dict[Tuple[FrozenSet[str], Tuple[str, str]], Place]] = {}
 
     def add(self, one: _Result) -> None:
         """Adds a result."""
-        self._firsts.setdefault(one.content, {}).setdefault((one.patient, one.reported), one.place)
+        firsts = self._firsts.setdefault((one.value, one.times), {})
+        firsts.setdefault((one.patient, one.reported), one.place)
 
     def had(self, one: _Result, place: Place) -> Optional[bool]:
         """Whether the same result came before a place: None if none did that says the same. By a time of day it is the
         same; without one only if it was reported at the same time."""
-        found = self._firsts.get(one.content, {}).items()
+        found = self._firsts.get((one.value, one.times), {}).items()
         told = [reported for (patient, reported), first in found if first < place and one.may_be_of(patient)]
         return one.is_timed or (one.reported in told and any(map(has_clock, one.reported))) if told else None
 
@@ -196,12 +215,15 @@ class Corrections:
             return bool(self._words)
         return not self._words.isdisjoint(_words_of(body))
 
-    def writer(self, write: Writer) -> Writer:
-        """Writes messages without what is old; nothing of those that are old."""
+    def writer(self, form: Form) -> Writer:
+        """Writes messages in a form without what is old; nothing of those that are old."""
+        write = writer_of(form)
 
         def made(one: Optional[Stored]) -> bytes:
             rest = one if one is None or one.state != COMPLETE else self._rest(one)
-            return b"" if rest is not None and not rest.body else write(rest)
+            if rest is one or rest is None:
+                return write(one)
+            return writer_of(form._replace(whole=one))(rest) if rest.body else b""
 
         return made
 
@@ -234,15 +256,18 @@ class Corrections:
         """The number of the message that corrects a result, if the result is old; else 0. `Quarantined` if no one can
         say whether it is."""
         found = (each for each in reversed(self._found[one.key]) if each.place < one.place and each.test == one.test)
-        place = next((each.place for each in found if each.may_be_of(one.patient)), None)
-        had = None if place is None or one.is_correction else self._history(one).had(one, place)
-        if place is None or had is None or (not had and self._header_time):
+        before = (each for each in found if each.may_be_of(one.patient))
+        last = next(before, None)
+        if last is None:
+            return 0
+        had = one.was_before(last, before) if one.is_correction else self._history(one).had(one, last.place)
+        if had is None or (not had and self._header_time):
             return 0
         if not had and self._header_time is None:
-            what = f"is it new, or the one that message {place[0]} corrects?"
-            which = "It has no time of its own: set H-14=counts or H-14=ignored"
+            what = f"is it new, or the one that message {last.place[0]} corrects?"
+            which = "Its times don't tell: set H-14=counts or H-14=ignored"
             raise Quarantined(f"result, record {one.place[1]} of the message: {what} {which}")
-        return place[0]
+        return last.place[0]
 
     def _history(self, one: _Result) -> _History:
         """The results of a result's sample, up to its message."""

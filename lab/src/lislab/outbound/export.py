@@ -1,4 +1,5 @@
 """`lislab export`: prints messages from a store."""
+import contextlib
 import datetime
 import json
 import re
@@ -8,6 +9,7 @@ from typing import Callable, Dict, Iterator, List, NamedTuple, Optional, Sequenc
 from lislink.message import Fault, read_all
 from ..field import table
 from ..model.codes import mark_of
+from ..model.failures import Quarantined
 from ..model.results import Coded, Told, code_of, content_of, field_text, identities_of, is_control, sample_of
 from ..model.store import COMPLETE, INCOMPLETE, INVALID, Store, Stored
 from . import fhir, oru
@@ -78,6 +80,8 @@ class Form(NamedTuple):
     #: that were written, if it counts only once they are delivered.
     counts: "Counter[str]" = Counter()
     written: Optional[Dict[str, "Counter[str]"]] = None
+    #: The message as it came, if results were left out of what is written.
+    whole: Optional[Stored] = None
 
 
 def writer_of(form: Form) -> Writer:
@@ -92,11 +96,6 @@ def writer_of(form: Form) -> Writer:
     return _message_writer(form, coded) if form.form in ("oru", "fhir") else _table_writer(form, coded)
 
 
-def counted_texts(form: Form) -> List[str]:
-    """What was left out so far, and what else is to be looked at."""
-    return [f"{count} {name}" for name, count in form.counts.items() if count]
-
-
 def _json(data: object) -> str:
     return json.dumps(data, ensure_ascii=False)
 
@@ -104,9 +103,19 @@ def _json(data: object) -> str:
 def _message_writer(form: Form, coded: Callable[[Stored], Coded]) -> Writer:
     """What writes each message by itself in a form of HL7. One that isn't complete, or says nothing of a patient or a
     control, gives nothing."""
-    write = oru.oru_of if form.form == "oru" else fhir.bundle_of
     wishes = form.wishes or oru.Wishes()
-    return lambda one: b"" if one is None or one.state != COMPLETE else write(_told(form, coded(one)), wishes)
+
+    def write(one: Optional[Stored]) -> bytes:
+        if one is None or one.state != COMPLETE:
+            return b""
+        told, whole = _told(form, coded(one)), None
+        if form.form == "oru":
+            return oru.oru_of(told, wishes)
+        with contextlib.suppress(Quarantined):
+            whole = Told(coded(form.whole)) if form.whole is not None else None
+        return fhir.bundle_of(told, wishes, whole)
+
+    return write
 
 
 def _told(form: Form, coded: Coded) -> Told:

@@ -10,6 +10,7 @@ from collections import Counter
 from typing import Any, Dict, List, NamedTuple, Optional, Tuple, Union
 from urllib.parse import quote
 
+from lislink.message import Entry
 from ..model.numbers import Number, number_of, range_of
 from ..model.results import Case, Coding, Identity, Ordered, Result, Told
 from ..model.results import field_text, has_clock, identities_of, parts_of, report_of
@@ -71,9 +72,10 @@ class _About(NamedTuple):
     request: List[Data]
 
 
-def bundle_of(told: Told, wishes: Wishes = Wishes()) -> bytes:
-    """The Bundle in one row; empty if the message has no patient and no control, for example a query."""
-    made = _Made(told, wishes)
+def bundle_of(told: Told, wishes: Wishes = Wishes(), whole: Optional[Told] = None) -> bytes:
+    """The Bundle in one row; empty if the message has no patient and no control, for example a query. `whole` is the
+    message as it came, if results were left out of it: they count for what is said of their orders."""
+    made = _Made(told, wishes, whole)
     for case in told.cases:
         made.add_case(case)
     if not made.entries:
@@ -97,8 +99,8 @@ def _instant(told: Told) -> str:
 class _Made:
     """The entries of a Bundle."""
 
-    def __init__(self, told: Told, wishes: Wishes) -> None:
-        self._told, self._wishes = told, wishes
+    def __init__(self, told: Told, wishes: Wishes, whole: Optional[Told]) -> None:
+        self._told, self._wishes, self._whole = told, wishes, whole
         self.entries: List[Data] = []
         #: The addresses of resources by how they are found, and the other way.
         self._urls: Dict[str, str] = {}
@@ -133,11 +135,21 @@ class _Made:
         for order in case.orders:
             results = list(self._told.results(order))
             specimen = self._specimen(case, order, subject)
-            one = _About(case, order, subject, specimen, self._request(case, order, results, subject, specimen))
+            came = self._came(case, order) or results
+            one = _About(case, order, subject, specimen, self._request(case, order, came, subject, specimen))
             urls = [self._observation(one, each) for each in results]
             if not results and report_of(order.record):
                 urls = [self._missing(one, at) for at in range(len(order.tests))]
             self._report(one, results, urls)
+
+    def _came(self, case: Case, order: Ordered) -> List[Result]:
+        """The results of an order in the message as it came; none if nothing was left out of the message."""
+        if self._whole is None:
+            return []
+        others = [(each, one) for each in self._whole.cases for one in each.orders]
+        same = [one for each, one in others if _text(each.patient) == _text(case.patient)]
+        same = [one for one in same if _text(one.record) == _text(order.record)]
+        return [result for one in same for result in self._whole.results(one)]
 
     def _own(self, system: str, value: str, *more: Data, updates: bool = False) -> _Name:
         """The name of what is known by an identifier of this host's; it is updated unless the message is a repeat."""
@@ -228,7 +240,8 @@ class _Made:
     def _request(
         self, case: Case, order: Ordered, results: List[Result], subject: Optional[Data], specimen: Optional[Data]
     ) -> List[Data]:
-        """The order, which is somebody's: there is none without a patient who has an identity."""
+        """The order, which is somebody's: there is none without a patient who has an identity. Its results are those
+        that came, also those that were left out."""
         if subject is None:
             return []
         told, record = self._told, order.record
@@ -357,6 +370,10 @@ def _search(system: str, value: str) -> str:
     """The search for what has an identifier: whatever characters this has, none of them has a meaning."""
     system, value = (quote(_MEANING.sub(r"\\\g<0>", one), safe=":/") for one in (system, value))
     return f"identifier={system}|{value}"
+
+
+def _text(record: Optional[Entry]) -> bytes:
+    return b"" if record is None else record.row.text
 
 
 def _digest(*texts: str) -> str:

@@ -6,7 +6,7 @@ from typing import Any, Dict, Sequence
 
 from ..diagnosis.pulse import clock
 from ..model.files import is_locked
-from ..model.said import many
+from ..model.said import counted, many
 from ..model.store import Store, StoreError
 from ..outbound.quarantine import held_of
 from ..outbound.deliver import WrongStore, read_cursor, read_state
@@ -52,6 +52,6 @@ def _delivery(store: Store, path: str) -> Dict[str, Any]:
         why = f": {found.why}" if found.why else ""
         state = "bad" if time.time() - since > PATIENCE else "quiet"
         return _row(state, DOWN, since, f"the delivery isn't running{why}{wait}", waiting)
-    more = "".join(f"; {count} {name}" for name, count in found.counts.items() if count)
+    more = "".join(f"; {one}" for one in counted(found.counts))
     says = f"all is delivered{more}" if not waiting else f"it goes on{wait}{more}"
     return _row("good" if is_running else "quiet", GOOD, found.since, says, waiting)
