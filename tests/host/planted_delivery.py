@@ -249,6 +249,9 @@ FAULTS = {
     "test_corrected.Corrected.test_orders": (
         "outbound/fhir.py", "came = self._came(case, order) or results", "came = results"
     ),
+    "test_corrected.Corrected.test_another_setting": (
+        "outbound/corrected.py", "if self._readings.setdefault(one.line, reading) == reading:", "if reading is not None:"
+    ),
     "test_corrected.Corrected.test_bounds": (
         "outbound/corrected.py", "self._last = self._store.number_before(last, LOOKED)", "self._last = last"
     ),

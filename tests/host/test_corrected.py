@@ -17,6 +17,7 @@ from lislab.model.store import COMPLETE, Add, Begin, End
 from lislab.model.stores import open_store
 from lislab.outbound import corrected, quarantine
 from lislab.outbound.export import Form
+from lislab.outbound.tables import Tables
 from tests.host.hosts import HostTest
 from tests.host.test_told import message
 
@@ -283,6 +284,28 @@ class Corrected(Deliveries, HostTest):
                 rows = [one.writer(Form("records"))(each) for each in one.over(read(0))]
             self.same("no corrections are held", rows[-1], OLD)
         opened.close()
+
+    def test_another_setting(self):
+        """A correction holds also once the line's setting names the sample or the test otherwise, as the delivery goes
+        on."""
+        for at, (rack, setting) in enumerate((("A", "test = 4"), ("2001^05^A", "test = 4\nsample = O.3.3"))):
+            store, file = self.path(f"settings {at}.db"), self.path(f"settings {at}.lines")
+            with open(file, "w", encoding="ascii") as out:
+                out.write("[fire]\nlisten = 1\n")
+            keep(store, [told(result(value, status, test="16^GLU^lot 1"), sample=rack) for value, status in
+                         (("5.4", "F"), ("6.4", "C"))])
+            opened, tables = open_store(store), Tables(None, file, lambda text: None)
+            one = corrected.Corrections(opened, tables.reading, None)
+            write, out = one.writer(Form("records", tables)), []
+            for each in one.over(opened.messages()):
+                out.append(write(each).count(b"\rR|"))
+            with open(file, "a", encoding="ascii") as more:
+                more.write(f"{setting}\n")
+            keep(store, [told(result("5.4", test="16^GLU^lot 1"), K, at=THIRD, sample=rack),
+                         told(result("5.5", test="16^GLU^lot 1"), at=THIRD, sample=rack)])
+            out += [write(each).count(b"\rR|") for each in one.over(opened.messages(2))]
+            self.same(f"{setting}: results that go out", out, [1, 1, 1, 1])
+            opened.close()
 
     def test_random(self):
         """Random messages, by what a person would say of each result; deliveries that start anew in between."""

@@ -169,18 +169,32 @@ class Corrections:
         self._held = 0
         #: What is left out of a message, by its key, and how many results.
         self._left: Dict[str, Tuple[str, int]] = {}
+        #: How the records of lines were read.
+        self._readings: Dict[str, Reading] = {}
 
     def over(self, messages: Iterator[Stored]) -> Iterator[Stored]:
         """The messages of a store from one on, in turn: each is looked at first."""
         is_first = True
         for one in messages:
             number = one.number or 0
+            self._renew(one)
             if is_first:
                 self._look(number - 1, number - 1)
             if number > self._last:
                 self._note(one)
             is_first = False
             yield one
+
+    def _renew(self, one: Stored) -> None:
+        """Looks at all messages up to this one anew if the settings of its line have changed: samples and tests may have
+        other names by them."""
+        reading, number = self._reading(one.line), one.number or 0
+        if self._readings.setdefault(one.line, reading) == reading:
+            return
+        self._found, self._word_of, self._words, self._readings = {}, {}, set(), {one.line: reading}
+        self._samples, self._histories, self._held = _Samples(self._store, self._reading), {}, 0
+        self._first = self._last = -1
+        self._look(number - 1, number)
 
     def _look(self, first: int, last: int) -> None:
         """Looks at the messages between two, as far as none did; the first time at those before them, too."""
@@ -230,6 +244,7 @@ class Corrections:
     def _rest(self, one: Stored) -> Stored:
         """A message without its old results; without any bytes if it is an old repeat."""
         self._left.pop(one.key, None)
+        self._renew(one)
         number, first = one.number or 0, None if one.again_of is None else self._store.message(one.again_of)
         start = number - 1 if number > self._first else self._store.number_before(number - 1, LOOKED)
         self._look(start if first is None or first.number is None else first.number, number - 1)
