@@ -192,9 +192,10 @@ class Fhir(HostTest):
                 self.same(f"{kind}: of a correction", (method, system), ("PUT", "urn:lislab:test"))
                 self.has(f"{kind}: the first one has its name", names, (kind, {"system": system, "value": value}))
             again = told(*more, glu="9.9", status="C", at="20261127113500", again_of="k1")
-            self.same("a correction that is repeated changes nothing",
+            plain = told(*more, glu="9.9", status="F", at="20261127113500")
+            self.same("a correction that is repeated changes nothing, also next to another result of the test",
                       [again[kind][0] for kind in ("Observation", "DiagnosticReport")],
-                      [("POST", fixed[kind][0][1]) for kind in ("Observation", "DiagnosticReport")])
+                      [("POST", plain[kind][0][1]) for kind in ("Observation", "DiagnosticReport")])
             self.true("of another time", told(*more, at="20261127113500")["DiagnosticReport"][0][1] !=
                       told(*more)["DiagnosticReport"][0][1])
         for rows in (["O|1|S7||^^^GLU" + "|" * 21 + "X"], ["O|1|S7", "C|1|I|no material"]):

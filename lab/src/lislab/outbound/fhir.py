@@ -183,7 +183,9 @@ class _Made:
         if not (who and order.sample and result.turn == 0):
             return name
         of = _digest(self._told.one.line, order.sample, *who, "", result.code)
-        is_first = result.status == "C" and not self._turn(of)  # a server that has two rejects this
+        # A server that has two of the test rejects this. What a correction updated has its own identifier after that, by
+        # which its repeat finds it.
+        is_first = result.status == "C" and self._told.one.again_of is None and not self._turn(of)
         return self._also(name, of, is_first)
 
     @staticmethod
