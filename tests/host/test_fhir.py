@@ -20,6 +20,7 @@ from lislab.outbound import quarantine, fhir, https, mllp, oru
 from lislab.model.results import Coded, Reading, Told
 from tests.host import fhir_r4
 from tests.host.hosts import HostTest, lislab
+from tests.host.told import cell, segments_of
 from tests.host.test_quarantine import keep, records
 from tests.host.test_mllp import Scripted, WithLibrary, ack, message, stored
 
@@ -206,6 +207,20 @@ class Fhir(HostTest):
         rows = ["O|1|S7", "R|1|^^^A|1|||||C", "R|2|^^^B|1", "O|2|S7", "R|1|^^^A|2|||||C", "R|2|^^^B|2|||||C"]
         twice = self.known("P|1|4711", *rows)["DiagnosticReport"]
         self.same("two corrections in a message are two", len(set(twice)), 2)
+
+    def test_statuses(self):
+        """The status of a report without a type is that of its results; without any it isn't final."""
+        for statuses, segment, report in (
+            ("F", "F", "final"), ("FC", "C", "corrected"), ("CP", "P", "preliminary"), ("FI", "P", "partial"),
+            ("XX", "X", "cancelled"), ("FX", "F", "final"), ("", "I", "registered"),
+        ):
+            rows = [f"R|{at}|^^^{at}|1|||||{one}" for at, one in enumerate(statuses, 1)]
+            one = stored(message("P|1|4711", "O|1|S7||^^^GLU", "C|1|I|x", *rows))
+            (segments,) = segments_of(oru.oru_of(Told(Coded(one))))
+            self.same(f"OBR-25 of {statuses}", [cell(each, 25) for each in segments if each[0] == "OBR"], [segment])
+            found = bundle_of(one)
+            self.same(f"of {statuses}", [each["status"] for each in observations(found, "DiagnosticReport")], [report])
+            self.same(f"no fault of {statuses}", fhir_r4.faults(found), [])
 
     def test_resources(self):
         """Codes and units by their systems, the patient, reports, orders that were cancelled."""

@@ -344,8 +344,10 @@ class _Made:
         """A DiagnosticReport of an order."""
         order = about.order
         named, found = report_of(order.record), {_STATUS.get(one.status, "unknown") for one in results}
-        usual = next((one for one in ("unknown", "preliminary", "registered", "corrected") if one in found), "final")
-        status = _REPORT.get(named, "unknown") if named else "partial" if usual == "registered" else usual
+        others = "cancelled" if found == {"cancelled"} else "final" if found else ""
+        usual = next((one for one in ("unknown", "preliminary", "registered", "corrected") if one in found), others)
+        usual = "partial" if usual == "registered" else usual or "registered"
+        status = _REPORT.get(named, "unknown") if named else usual
         name = self._report_name(about, urls)
         codes = [*(one.code for one in order.tests), *(one.code for one in results)]
         texts = " ".join(dict.fromkeys(codes)) or "laboratory report"

@@ -318,11 +318,10 @@ def specimen_of(record: Entry) -> Tuple[str, str]:
 
 
 def _report(order: Ordered, results: List[Result]) -> str:
-    """The status of an order's report; without one, the status of its results."""
-    named = report_of(order.record)
+    """The status of an order's report; without one, the status of its results: without any it isn't final."""
     found = {_status(one) for one in results}
-    usual = "P" if found & set("PSI") else "C" if "C" in found else "X" if found == {"X"} else "F"
-    return named or usual
+    usual = "P" if found & set("PSI") else "C" if "C" in found else "X" if found == {"X"} else "F" if found else "I"
+    return report_of(order.record) or usual
 
 
 def _status(result: Result) -> str:
