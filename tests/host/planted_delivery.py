@@ -136,7 +136,7 @@ FAULTS = {
     "test_fixes.Fixes.test_long_random": (
         "field/normalize.py", 'is_of_one or letter == b"R"', 'is_of_one or letter in (b"R", b"C", b"M", b"S")'
     ),
-    "test_mllp.Oru.test_fields": ("outbound/oru.py", "{control_id(one.key, place)}", "{one.line}"),
+    "test_mllp.Oru.test_fields": ("outbound/oru.py", "{control_id(one.key, case.place)}", "{one.line}"),
     "test_mllp.Oru.test_page": (
         "outbound/oru.py", '"", _report(order, results), ""]', '_report(order, results), "", ""]'
     ),

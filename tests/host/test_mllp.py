@@ -233,6 +233,11 @@ class Oru(WithLibrary):
         self.true("20 of them", all(re.fullmatch(r"[0-9A-Z]{20}", one) for one in found))
         self.same("none is there twice", len(set(found)), len(found))
         self.same("the same again", [oru.control_id(*one) for one in named], found)
+        rows = [row for at in (1, 2, 3) for row in (f"P|{at}|{at}", f"O|1|S{at}{'|' * 9}{'Q' * (at == 1)}", "R|1|^^^A|1")]
+        made = [export.writer_of(export.Form("oru", controls=which))(stored(message(*rows))) for which in
+                ("with", "only", "without")]
+        ids = [[told.cell(one[0], 10) for one in told.segments_of(each)] for each in made]
+        self.same("the same without controls", (len(ids[0]), ids[1] + ids[2]), (3, ids[0]))
 
     def test_codes(self):
         """OBX-3.3 is the table's system, OBX-6 its code of UCUM; without a table the code is local."""
@@ -267,6 +272,10 @@ class Oru(WithLibrary):
             out = self.read(oru_of(stored(message("P|1", "O|1|S7", f"R|1|^^^A|1|||||{status}"))))
             found = (str(out["OBX"][0](11)), str(out["OBR"][0](25)), "NTE" in str(out))
             self.same(f"status {status}", found, (wanted, report, status in ("W", "N")))
+        for flags, wanted, note in (("H\\A", "H~A", []), ("^H", "H", []), ("H^L\\!", "H~L", ["flag !"])):
+            out = self.read(oru_of(stored(message("P|1", "O|1|S7", f"R|1|^^^A|1|||{flags}"))))
+            found = str(out["OBX"][0](8)), [str(one[3]) for one in out if str(one[0]) == "NTE"]
+            self.same(f"flags {flags}", found, (wanted, note))
         twice = self.read(oru_of(stored(message("P|1", "O|1|S7", "R|1|^^^A|1", "R|2|^^^B|1", "R|3|^^^A|2"))))
         self.same("codes that are there twice", [str(one(4)) for one in twice["OBX"]], ["1", "", "2"])
         control = self.read(oru_of(stored(message("P|1", "O|1|QC1|||||||||Q", "R|1|^^^A|1"))))

@@ -113,6 +113,8 @@ class Case(NamedTuple):
     patient: Optional[Entry]
     orders: List[Ordered]
     comments: List[Comment]
+    #: Which case of its message it is.
+    place: int = 1
 
     @property
     def is_control(self) -> bool:
@@ -144,7 +146,8 @@ class Told:
         self.message = coded.message or message_of(self.one)
         #: How many orders are left out because they have no content; how many codes an order has twice.
         self.orders_left_out = self.twice = 0
-        self.cases = [case for entry in self.message.entries if entry.letter in "PQ" for case in self._cases(entry)]
+        found = [case for entry in self.message.entries if entry.letter in "PQ" for case in self._cases(entry)]
+        self.cases = [case._replace(place=place) for place, case in enumerate(found, 1)]
 
     def _look_at_letters(self) -> None:
         why = letters_fault(self.one.body, self.one.encoding)
@@ -225,7 +228,8 @@ class Told:
 
     def _result(self, entry: Entry, test: Tuple[str, str, Coding, str], turn: int) -> Result:
         (_, field, coding, name), texts = test, entry.row.texts(entry.encoding)
-        flags = [texts[6] or ""] if len(texts) > 6 and texts[6] is not None else repeated(entry, 7)
+        is_plain = len(texts) > 6 and texts[6] is not None
+        flags = [texts[6] or ""] if is_plain else [each for parts in repeats_of(entry, 7) for each in parts]
         cells = [_READ[at](entry, at) if one is None and at in _READ else one or "" for at, one in enumerate(texts, 1)]
         value, unit, usual, _, nature, status, _, operator, started, completed, last = (cells + _EMPTY)[3:14]
         return Result(
@@ -388,11 +392,6 @@ def text_of(entry: Entry, field: int) -> str:
 def first_text(entry: Entry, field: int) -> str:
     """The first component of a field without blanks around it."""
     return entry.text(field).strip()
-
-
-def repeated(entry: Entry, field: int) -> List[str]:
-    """The same of each repeat of a field."""
-    return [entry.text(field, at).strip() for at in range(len(entry.row.field(field)))]
 
 
 def field_text(entry: Entry, field: int) -> str:

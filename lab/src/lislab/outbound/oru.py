@@ -136,8 +136,8 @@ def control_id(key: str, place: int = 1) -> str:
 def oru_of(told: Told, wishes: Wishes = Wishes()) -> bytes:
     """The messages, one after another; empty if there is no patient and no control, for example in a query."""
     out = bytearray()
-    for place, case in enumerate(told.cases, 1):
-        for one in _segments(told, place, case, wishes):
+    for case in told.cases:
+        for one in _segments(told, case, wishes):
             out += one.encode()
     return bytes(out)
 
@@ -149,12 +149,12 @@ def messages_of(data: bytes) -> List[bytes]:
     return [one + b"\r" for one in rows[:-1]] + [one for one in rows[-1:] if one]
 
 
-def _segments(told: Told, place: int, case: Case, wishes: Wishes) -> Iterator[str]:
+def _segments(told: Told, case: Case, wishes: Wishes) -> Iterator[str]:
     """The segments of a patient, in turn."""
     mode, one = told.message.header.text(12).strip(), told.one
     to, kind, rest = _head(one.line, mode if mode in ("D", "T") else "P", tuple(wishes.header.items()))
     time_of_it = _stamp(one.began if one.ended is None else one.ended)
-    yield f"{to}|{time_of_it}||{kind}|{control_id(one.key, place)}|{rest}\r"
+    yield f"{to}|{time_of_it}||{kind}|{control_id(one.key, case.place)}|{rest}\r"
     yield from _patient(case, wishes)
     marks = [Comment("L", mark) for mark in told.marks]
     reports = [(order, list(told.results(order))) for order in case.orders]
