@@ -19,6 +19,7 @@ import unittest.mock
 from lislab.outbound import deliver, export, https, oru, quarantine
 from lislab.outbound.tables import Tables
 from lislab.model.failures import Refused, Unreachable
+from lislab.model.said import many
 from lislab.model.store import COMPLETE, Add, Begin, End
 from lislab.model.stores import open_store
 from tests.host import hosts, test_corrected
@@ -171,6 +172,10 @@ class Deliver(HostTest):
         self.same("one file", (done.returncode, len(files)), (0, 1))
         self.same("what is said", done.stderr.replace("lislab: ", ""),
                   "1 message delivered\n1 message had nothing to deliver\n1 order left out, without a result\n")
+        gone = message("P|1", f"O|1|S1||^^^GLU{'|' * 21}X", "O|2|S2||^^^K", "C|1|I|clot", "O|3|S3||^^^NA")
+        for form, count in (("oru", 1), ("csv", 3), ("tsv", 3)):
+            done, _, _ = self.deliver(f"gone {form}", [gone], "--format", form)
+            self.has(f"{form}: what it has no room for", done.stderr, f"lislab: {many(count, 'order')} left out, without")
 
     def test_counted_once(self):
         """What is left out is counted once, when its message is delivered, however often that is tried; not of one in
@@ -196,7 +201,7 @@ class Deliver(HostTest):
         wrong = lislab(*words, self.path("once.wrong"), "--once", "--line", "ifre")
         self.same("a line that isn't there is said", wrong.stderr.splitlines()[0],
                   f"lislab: {store}: there is no line ifre, but fire, other")
-        self.has("one of two", done.stderr, f"1 message delivered\nlislab: 1 {name}\nlislab: 1 message is in quarantine\n")
+        self.has("one of two", done.stderr, "1 message delivered\nlislab: 1 order left out, without a result\n")
 
     def test_filters(self):
         """One line, no repeats, controls, columns, cells that are no formulas."""

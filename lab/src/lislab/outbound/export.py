@@ -128,6 +128,9 @@ def _told(form: Form, coded: Coded) -> Told:
         told.cases = wanted
     counts["results left out by a table"] += coded.left_out
     counts["orders left out, without a result"] += told.orders_left_out
+    if form.form in ("csv", "tsv"):  # a table has rows of results alone
+        orders = [order for case in told.cases for order in case.orders]
+        counts["orders left out, without a result"] += sum(not order.record.results for order in orders)
     counts["tests twice in an order, with different values"] += told.twice
     counts["messages with letters of another encoding"] += told.has_other_letters
     if form.written is None:
