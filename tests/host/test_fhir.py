@@ -268,6 +268,11 @@ class Fhir(HostTest):
         self.same("no Patient", [len(observations(known, kind)) for kind in ("Patient", "ServiceRequest")], [0, 1])
         walk_in = bundle_of(stored(message("P|1", *rows)))
         self.same("no order", [len(observations(walk_in, kind)) for kind in ("ServiceRequest", "Specimen")], [0, 1])
+        named = bundle_of(stored(message("P|1||||Doe^Jane^B", *rows)))
+        self.same("by a name", [one["subject"] for kind in ("Observation", "Specimen", "DiagnosticReport")
+                                for one in observations(named, kind)], [{"type": "Patient", "display": "Jane B Doe"}] * 3)
+        self.same("no order of a name", observations(named, "ServiceRequest"), [])
+        self.same("no fault", fhir_r4.faults(named), [])
 
     def test_samples(self):
         """A sample whose number has no system is that of its line, its patient and its time; an order whose tests

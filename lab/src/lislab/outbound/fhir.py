@@ -201,10 +201,14 @@ class _Made:
         return self._turns[texts] - 1
 
     def _subject(self, case: Case) -> Optional[Data]:
-        """The patient: in the Bundle if the system of an identity is set, otherwise only by its first identity."""
-        identities = {} if case.patient is None else identities_of(case.patient)
-        if case.patient is None or not identities:
+        """The patient: in the Bundle if the system of an identity is set, otherwise only by its first identity, and
+        without one by its name."""
+        if case.patient is None:
             return None
+        identities, (family, *given) = identities_of(case.patient), [*parts_of(case.patient, 6), ""]
+        name = " ".join(filter(None, [*given, family]))
+        if not identities:
+            return {"type": "Patient", "display": name} if name else None
         named = [
             _identifier(one, self._wishes.authorities.get(field, ("", ""))[0]) for field, one in identities.items()
         ]
@@ -244,7 +248,7 @@ class _Made:
     ) -> List[Data]:
         """The order, which is somebody's: there is none without a patient who has an identity. Its results are those
         that came, also those that were left out."""
-        if subject is None:
+        if subject is None or "display" in subject:
             return []
         told, record = self._told, order.record
         tests = order.tests or [Coding(one.code, one.system) for one in results]
