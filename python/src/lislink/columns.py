@@ -62,9 +62,9 @@ class _Columns(Reader):
         found: List[List[Optional[bytes]]] = [[] for _ in wanted]
         self._add(data)
         while self._at < len(data):
-            read = self._read("columns", data, self._at, *taken)
+            read = self._read("columns", *taken)
             self._put(ctypes.string_at(out, size.value), found)
-            self._at, self._taken = self._at + read, self._taken + read
+            self._taken += read
             if read == 0:
                 self._is_ended(_library.Found())
         self.finish()

@@ -169,13 +169,15 @@ class Owner:
             self._owned()
         return self._calls[name](self._pointer, *words)
 
-    def _read(self, name: str, data: bytes, at: int, *words: Any) -> int:
-        """Has a call of the library read these bytes from a place on; returns how many it read."""
+    def _read(self, name: str, *words: Any) -> int:
+        """Has a call of the library read bytes that are left; returns how many it read."""
         if self._handle is None or self._thread != threading.get_ident():
             self._owned()
-        size = len(data) - at
+        piece, at = self._piece, self._at
+        size = len(piece) - at
         call = self._calls[name] if size <= _SHORT else self._long_calls[name]
-        count: int = call(self._pointer, address(data) + at if at else data, size, *words)
+        count: int = call(self._pointer, address(piece) + at if at else piece, size, *words)
+        self._at = at + count
         return count
 
     def _set_limit(self, limit: int) -> None:
@@ -207,12 +209,6 @@ class Owner:
             self._owned()
         self._piece, self._at = (self._piece[self._at :] + data if left else data), 0
         return left
-
-    def _read_on(self, name: str, out: Any) -> int:
-        """Reads bytes that are left by a call of the library; returns how many it read."""
-        count = self._read(name, self._piece, self._at, ctypes.byref(out))
-        self._at += count
-        return count
 
     @property
     def waiting(self) -> int:
@@ -393,7 +389,7 @@ class Scanner(Owner):
     def _signals(self, left: int) -> Iterator[Tuple[int, Signal]]:
         out = _library.SignalOut()
         while self._at < len(self._piece):
-            self._read_on("feed", out)
+            self._read("feed", ctypes.byref(out))
             if out.kind:
                 is_long = out.kind == _LONG_FRAME
                 yield self._at - 1 - left, Signal(
@@ -487,7 +483,7 @@ class Receiver(ReceivingEnd[Step]):
         out = _library.StepOut()
         told = ctypes.byref(out)
         while self._at < len(self._piece):
-            self._at += self._read("hear", self._piece, self._at, told)
+            self._read("hear", told)
             if out.note:
                 yield self._at - 1 - left, self._told(out)
 

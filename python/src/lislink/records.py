@@ -187,11 +187,11 @@ class Reader(Owner):
         """Reads records that are whole in the piece by one call; whether there are any."""
         if self._held:
             return False
-        room, piece, at = _ROOM, self._piece, self._at
-        read = self._read("records", piece, at, *room.words)
-        found = room.bytes[: _ENTRY.size * room.count.value].tobytes()
-        self._left, self._source = _ENTRY.iter_unpack(found), (piece, at, self._taken)
-        self._at, self._taken = at + read, self._taken + read
+        room = _ROOM
+        self._source = self._piece, self._at, self._taken
+        read = self._read("records", *room.words)
+        self._left = _ENTRY.iter_unpack(room.bytes[: _ENTRY.size * room.count.value].tobytes())
+        self._taken += read
         return read > 0
 
     def _read_on_by_itself(self) -> Optional[Row]:
@@ -203,7 +203,7 @@ class Reader(Owner):
     def _is_ended(self, out: _library.Found) -> bool:
         """Reads bytes up to a CR, or a CR; whether that ends a record."""
         at = self._at
-        self._taken += self._read_on("read", out)
+        self._taken += self._read("read", ctypes.byref(out))
         if out.kind == 2:
             self.read = self._taken - len(self._held)
             raise MessageError(out.number, out.reason, out.detail, out.place)

@@ -77,7 +77,7 @@ class Station(SendingEnd, ReceivingEnd[Answer]):
     def _heard(self, left: int) -> Iterator[Tuple[int, Answer]]:
         out = _library.AnswerOut()
         while self._at < len(self._piece):
-            self._read_on("hear", out)
+            self._read("hear", ctypes.byref(out))
             if out.step.note or not out.is_step:
                 yield self._at - 1 - left, self._told(out)
 
