@@ -145,7 +145,7 @@ def suspended():
         except FileNotFoundError:
             return 0.0
 
-    wires._awake = lambda: wires.clock() + drift()
+    wires.Asleep.__init__.__defaults__ = (lambda: wires.clock() + drift(),)
 
 
 FAULTS = {

@@ -168,7 +168,7 @@ FAULTS = {
         "host/line.py", "(self._is_cut or not self._is_busy())", "not self._is_busy()"
     ),
     "test_late.Suspended.test_a_reply_that_was_asleep": Edit(
-        "host/line.py", "- arrived + self._asleep.seconds()", "- arrived"
+        "host/line.py", "now = clock()\n        if reply", "now = asyncio.get_running_loop().time()\n        if reply"
     ),
     "test_late.Suspended.test_clocks": Edit("host/wires.py", "        self._noted += found\n", ""),
     "test_lines.Lines.test_cuts": Edit(
@@ -203,7 +203,9 @@ FAULTS = {
     "test_lines.Lines.test_enq_behind_eot": Edit(
         "host/line.py", "            if self._stopping and self._is_through():\n                return\n", ""
     ),
-    "test_lines.Lines.test_calls_of_a_text": Edit("host/line.py", "if note in _AFTER_NOISE:", "if note:"),
+    "test_lines.Lines.test_calls_of_a_text": Edit(
+        "host/line.py", "RECEIVER * self._limits.scale\n", "RECEIVER * self._limits.scale * self._receiver.is_open\n"
+    ),
     "test_lines.Lines.test_closed_lines": Edit(
         "host/storing.py", "        self._took_fixed = lambda key, changes: None\n", ""
     ),
@@ -212,7 +214,7 @@ FAULTS = {
     ),
     "test_lines.Lines.test_observers": Edit("diagnosis/events.py", "except Exception as error:", "except OSError as error:"),
     "test_lines.Lines.test_giving_way": Edit(
-        "host/line.py", "while not (self._stopping and", "while not (self._stopping and not self.inbox.pieces and"
+        "host/line.py", "return self._is_through() or (", "return self._is_through() and not self.inbox.pieces or ("
     ),
     "test_lines_file.LinesFile.test_enq_behind_eot": Edit(
         "host/line.py", "            if self._stopping and self._is_through():\n                return\n", ""
@@ -254,9 +256,9 @@ FAULTS = {
     ),
     "test_load.Load.test_memory": Edit(
         "model/sql.py",
-        "            self.apply(units)\n",
-        "            self.apply(units)\n"
-        '            self.__dict__.setdefault("units", []).append((units, bytes(1 << 17)))\n',
+        "            self.apply(rows)\n",
+        "            self.apply(rows)\n"
+        '            self.__dict__.setdefault("rows", []).append((rows, bytes(1 << 17)))\n',
     ),
     "test_renamed.Renamed.test_keys": Edit("model/renamed.py", "    if old not in _REPORTED:\n", "    if True:\n"),
     "test_renamed.Renamed.test_states": Edit("model/renamed.py", 'report(f"--state {word}"', 'report(f"{word}"'),
@@ -499,8 +501,8 @@ FAULTS = {
     ),
     "test_turns.Turns.test_parts": Edit(
         "host/storing.py",
-        "one = [self._long.popleft()] if self._long else []",
-        "one = [self._long.popleft() for _ in range(len(self._long))]",
+        "            if self._long:\n                batch.append",
+        "            while self._long:\n                batch.append",
     ),
     "test_turns.Turns.test_spool": Edit(
         "host/storing.py", "if len(part) + len(changes) > self._committer.part:", "if len(part) > 60:"
@@ -509,13 +511,13 @@ FAULTS = {
         "host/turns.py", "return more > HEARS or (", "return not self and ("
     ),
     "test_turns.Turns.test_who_works_now_and_then": Edit(
-        "host/turns.py", "min(now - self._since, MOST)", "now - self._since"
+        "host/turns.py", "min(now - turns.charged, MOST)", "now - turns.charged"
     ),
     "test_turns.Turns.test_work_of_others": Edit(
         "host/turns.py", "= time.thread_time) -> None", "= time.monotonic) -> None"
     ),
     "test_turns.Turns.test_many_connections_of_a_peer": Edit(
-        "host/turns.py", "turns.account(peer), turns", "Account(turns.had), turns"
+        "host/turns.py", "turns, turns.account(peer)", "turns, Account(turns.had)"
     ),
     "test_turns.Turns.test_connections_of_a_line": Edit(
         "diagnosis/pulse.py", "if time.monotonic() - pulse.good_at < PATIENCE * pulse.scale:", "if pulse.good_at < 0:"
@@ -553,7 +555,7 @@ FAULTS = {
         "diagnosis/pulse.py", "            raw = bytes(self._carry) + raw\n", "            pass\n"
     ),
     "test_watch.Watch.test_ring": Edit(
-        "diagnosis/ring.py", "if len(self._held) > self._most:", "if len(self._held) > 2 * self._most:"
+        "diagnosis/ring.py", "if len(held) > self._most:", "if len(held) > 2 * self._most:"
     ),
     "test_watch.Watch.test_rows": Edit(
         "cli/watch.py", "return LOOKS_WRONG if client.is_bad(data) else GOOD", "return GOOD"

@@ -422,7 +422,8 @@ class Lines(HostTest):
             one = line.Line(line.Parts(wire, intake, observers, print, Counter(), fixer, committer, line.Turns()))
             task = asyncio.ensure_future(one.run())
             await asyncio.sleep(0.01)
-            one.inbox.add(ENQ, asyncio.get_running_loop().time())
+            loop = asyncio.get_running_loop()
+            loop.call_soon(one.inbox.add, ENQ, loop.time())
             one.stop("for another connection")
             await asyncio.wait_for(task, 60)
 
@@ -441,9 +442,10 @@ class Lines(HostTest):
             observers = Observers(every, lambda text, _: said.append(text))
             one = line.Line(line.Parts(wire, intake, observers, print, Counter(), fixer, committer, line.Turns()))
             task = asyncio.ensure_future(one.run())
+            loop = asyncio.get_running_loop()
             for unit in (ENQ, frames(TEXTS)[0], EOT):
-                one.inbox.add(unit, asyncio.get_running_loop().time())
-            one.lost()
+                loop.call_soon(one.inbox.add, unit, loop.time())
+            loop.call_soon(one.lost)
             await asyncio.wait_for(task, 60)
             return sent, [type(event) for event in heard], said
 
@@ -485,7 +487,7 @@ class Lines(HostTest):
         self.same("calls", heard, [events[1], events[1], events[2]])
 
     def test_calls_of_a_text(self):
-        """A text of one frame takes five calls of the library, sets no timer of the loop, and reading goes on."""
+        """A text of one frame takes four calls of the library, sets no timer of the loop, and reading goes on."""
         calls, alarms = [], []
 
         async def runs():
@@ -500,7 +502,7 @@ class Lines(HostTest):
             for number, unit in enumerate([ENQ, *frames(TEXTS)]):
                 calls.append([])
                 alarms.append([])
-                one.inbox.add(unit, loop.time())
+                loop.call_soon(one.inbox.add, unit, loop.time())
                 while wire.write.call_count <= number and not task.done():
                     await asyncio.sleep(0)
                 await asyncio.sleep(0)
@@ -517,7 +519,7 @@ class Lines(HostTest):
                 patched.enter_context(unittest.mock.patch.dict(one, those))
             patched.enter_context(unittest.mock.patch.object(asyncio.BaseEventLoop, "call_at", timed))
             paused = asyncio.run(runs())
-        self.same("calls of a text", calls[2], ["hear", "text_len", "text", "records", "is_open"])
+        self.same("calls of a text", calls[2], ["hear", "text_len", "text", "records"])
         self.same("timers", [len(some) for some in alarms[2:-1]], [0] * (len(alarms) - 3))
         self.same("pauses", paused, 0)
 

@@ -61,13 +61,13 @@ class Side:
     async def asks(self, unit):
         """What is answered to bytes."""
         self.reply = self.loop.create_future()
-        self.line.inbox.add(unit, self.loop.time())
+        self.loop.call_soon(self.line.inbox.add, unit, self.loop.time())
         return await self.reply
 
     async def ends(self):
         """Ends the session and the line."""
-        self.line.inbox.add(EOT, self.loop.time())
-        self.line.lost()
+        self.loop.call_soon(self.line.inbox.add, EOT, self.loop.time())
+        self.loop.call_soon(self.line.lost)
         await self.task
 
 
@@ -141,7 +141,6 @@ def shared(busy, times, long):
     async def has_work(name):
         share = turn.Share(turns, name)
         while not over:
-            share.goes_on()
             worked[0] += 0.0007
             done[name] += 1
             await (share.wait() if share.is_over() else asyncio.sleep(0))
@@ -153,7 +152,6 @@ def shared(busy, times, long):
                 loops[0] += 1
                 await asyncio.sleep(0)
             before = sum(done.values())
-            share.goes_on()
             worked[0] += long.get(time_, 0.0007)
             if share.is_over():
                 await share.wait()
@@ -220,7 +218,6 @@ class Turns(HostTest):
         """A line isn't charged for the time in which other threads and processes work."""
         turns = turn.Turns()
         share = turn.Share(turns, "x")
-        share.goes_on()
         time.sleep(10 * turn.HEARS)
         share.rests()
         self.true("charged", turns.account("x").had < turn.HEARS, turns.account("x").had)

@@ -200,11 +200,12 @@ class Watch:
         """Bytes are heard from here on."""
         self._before += len(self._data)
         self._data = data = came.data
-        self._first = self._first or data[:1]
-        if self._start is not None:
+        if not self.sessions:
+            self._first = self._first or data[:1]
+            if self._before >= BYTES:
+                self._no_session(self._before)
+        elif not self._accepted and self._start is not None:
             self._second = self._second or data[:1]
-        if self._before >= BYTES:
-            self._no_session(self._before)
 
     def meant(self, meant: Meant) -> None:
         """What a byte meant."""

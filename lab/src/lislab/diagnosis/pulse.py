@@ -313,12 +313,13 @@ class Probe:
 
     def _hears(self, came: Came) -> None:
         """Bytes are heard from here on."""
-        data = came.data
-        if self._sent and data.startswith(self._sent):
-            self._pulse.wrong("echo", Verdict.ECHO)
-        elif self._sent and self._pulse.troubles:
-            self._pulse.right("echo")
-        self._sent = b""
+        data, sent = came.data, self._sent
+        if sent:
+            self._sent = b""
+            if data.startswith(sent):
+                self._pulse.wrong("echo", Verdict.ECHO)
+            elif self._pulse.troubles:
+                self._pulse.right("echo")
         if self._start < len(self._now):
             self._carry += self._now[self._start :]
             del self._carry[: -(self._pulse.frame + BESIDES)]
@@ -340,8 +341,9 @@ class Probe:
         note, raw = step.note, self._now[self._start : place + 1]
         if self._carry:
             raw = bytes(self._carry) + raw
+            if note is not _TIMED_OUT:
+                self._carry.clear()
         if note is not _TIMED_OUT:
-            self._carry.clear()
             self._start = place + 1
         if note in TAKEN:
             self._accept(note is ACCEPTED, raw)
@@ -359,11 +361,9 @@ class Probe:
             self._first_frame()
         self.units, self._good = self.units + 1, self._good + 1
         if pulse.troubles:
-            pulse.right("silent", "strange")
+            pulse.right("silent", "strange", *(("frames", "hopeless") if is_new else ()))
         if is_new:
             self._due, pulse.polls, pulse.good_at = (self._due + 1) % 8, 0, time.monotonic()
-            if pulse.troubles:
-                pulse.right("frames", "hopeless")
             self._frame = raw
         elif self._frame and raw[raw.rfind(2) :] != self._frame[self._frame.rfind(2) :]:
             pulse.wrong("lost", Verdict.LOST)

@@ -34,11 +34,10 @@ class Ring:
 
     def add(self, connection: int, mark: bytes, piece: Union[Came, Sent] = Came(b"")) -> None:
         """Adds a piece that comes or goes now; without bytes, an event."""
-        data = piece.data if len(piece.data) <= self._most // 2 else piece.data[-(self._most // 2) :]
-        self._held += HEAD.pack(time.time_ns(), connection, mark, len(data))
-        self._held += data
+        held, data = self._held, piece.data[-(self._most // 2) :]
+        held += HEAD.pack(time.time_ns(), connection, mark, len(data)) + data
         self.next += 1
-        if len(self._held) > self._most:
+        if len(held) > self._most:
             self._drop()
 
     def _drop(self) -> None:

@@ -18,7 +18,7 @@ from .intake import FIRST, Intake, Pool, TextRoom, TooLong
 from .fix import LINE_FEEDS
 from .fixer import Fixer
 from .turns import Share, Turns
-from .wires import Asleep, Inbox, Wire, clock
+from .wires import Inbox, Wire, clock
 
 #: An analyzer that sends EOT so many seconds after the last reply has probably heard no reply.
 BROKEN = 10.0
@@ -62,8 +62,7 @@ class Parts:
     limits: Limits = Limits()
     frame: int = FRAME_TEXT
     is_careful: bool = True
-    #: Whether the machine was suspended, and nobody took note of it yet; the room for texts that aren't complete.
-    asleep: Asleep = field(default_factory=Asleep)
+    #: The room for texts that aren't complete.
     room: Pool = field(default_factory=lambda: Pool(1 << 40))
 
 
@@ -91,7 +90,7 @@ class Line:
 
     def __init__(self, parts: Parts) -> None:
         self._wire, self._limits, self._counts = parts.wire, parts.limits, parts.counts
-        self._tell, self._asleep, self.inbox = parts.observers.tell, parts.asleep, Inbox(parts.wire)
+        self._tell, self.inbox = parts.observers.tell, Inbox(parts.wire)
         self._share = Share(parts.turns, parts.intake.peer, self.inbox.pause)
         shared = parts.committer, parts.fixer, self._share, parts.observers, parts.counts, parts.say
         self.keeper = Keeper(parts.intake, *shared, self._took_fixed)
@@ -101,7 +100,7 @@ class Line:
         self._room = TextRoom(parts.room, self._has_room)
         #: When the timer is over; when the last frame was acknowledged, long ago if it was rejected.
         self._due, self._acknowledged = NEVER, -NEVER
-        #: When bytes came last, by the loop's clock; whether there was a session; how many ENQ and STX were noise.
+        #: When bytes came last; whether there was a session; how many ENQ and STX were noise.
         self.last_byte, self.had_session, self._noise = clock(), False, 0
         #: Whether the connection is gone; whether the line is to be closed between sessions, or at once; and why.
         self._lost = self._stopping = self._is_cut = False
@@ -123,8 +122,8 @@ class Line:
         self._receiver.restart()
 
     def _set_timer(self, now: float) -> None:
-        """Starts the timer, if the analyzer has the line."""
-        self._due = now + RECEIVER * self._limits.scale if self._receiver.is_open else NEVER
+        """Starts the timer."""
+        self._due = now + RECEIVER * self._limits.scale
 
     def _end(self) -> None:
         """The line is closed."""
@@ -134,10 +133,12 @@ class Line:
         self._receiver.set_room(is_there)
 
     async def _timed(self, now: float) -> None:
-        """The timer is over."""
-        self._tell(TimerOver())
-        await self._step(self._receiver.timer(), now)
-        self._room.look(self._ear.held)
+        """The timer is over, which means nothing unless the analyzer has the line."""
+        self._due = NEVER
+        if self._receiver.is_open:
+            self._tell(TimerOver())
+            await self._step(self._receiver.timer(), now)
+            self._room.look(self._ear.held)
 
     async def _heard(self, data: bytes, arrived: float) -> None:
         """Passes bytes to the receiver, and does what each of its steps asks for."""
@@ -181,7 +182,7 @@ class Line:
         """Hears the line until it is closed."""
         why = "the line was closed before its L record"
         try:
-            while not (self._stopping and self._is_through()) and (self.inbox.pieces or not self._lost):
+            while not self._closed or not self._is_over():
                 now = clock()
                 if self.inbox.pieces:
                     await self._hear(now)
@@ -196,7 +197,6 @@ class Line:
                 else:
                     self._share.rests()
                     await self.inbox.wait(min(self._due, start, idle))
-                    self._share.goes_on()
         except asyncio.CancelledError:
             why = "the host was stopped"
             self._closed = self._closed or "since the host stops"
@@ -210,6 +210,10 @@ class Line:
             self._tell(Closed(self._closed or "after a fault"))
             self._wire.close()
             self.inbox.stop()
+
+    def _is_over(self) -> bool:
+        """Returns whether the line is to be closed now, or is lost and all that came is heard."""
+        return self._is_through() or (self._lost and not self.inbox.pieces)
 
     def _is_through(self) -> bool:
         """Returns whether the line is to be closed now. Bytes that came since, as ENQ, are not heard."""
@@ -239,9 +243,22 @@ class Line:
     async def _step(self, step: Step, arrived: float, place: int = 0, is_enq: bool = False) -> None:
         """Does what a step asks for: stores its text, then sends its reply."""
         self._tell(Meant(place, step, is_enq))
-        note, has_text = step.note, step.text is not None
+        reply, text, note, *_ = step
         if note in _COUNTED:
             self._counts[_COUNTED[note]] += 1
+        if note not in TAKEN:
+            self._without_frame(note, arrived, is_enq)
+        if text is not None and not await self._keep(text):
+            return
+        now = clock()
+        if reply and not self._answer(reply, arrived, now, text is not None):
+            return
+        if note in TAKEN:
+            self._acknowledged = now
+        self._set_timer(now)
+
+    def _without_frame(self, note: Note, arrived: float, is_enq: bool) -> None:
+        """A session begins or ends, or a frame is rejected."""
         if note in _AFTER_NOISE:
             self._note_noise()
         if note in _ENDS:
@@ -249,29 +266,21 @@ class Line:
             is_over = arrived - self._acknowledged < BROKEN * self._limits.scale
             is_over = is_over and note is Note.ENDED and not is_enq
             self.keeper.drop(_NOISE if is_enq and note is Note.ENDED else _ENDS[note], is_over)
-        if step.text is not None and not await self._keep(step.text):
-            return
-        now = clock()
-        if step.reply and not self._answer(step.reply, arrived, now, has_text):
-            return
-        if note in TAKEN:
-            self._acknowledged = now
         elif note in REJECTED:
             self._acknowledged = -NEVER
-        self._set_timer(now)
 
     def _answer(self, reply: bytes, arrived: float, now: float, is_kept: bool) -> bool:
         """Sends a reply, unless it would be late. `is_kept` says whether it acknowledges a text that is stored."""
         if self._is_cut:
             self._restart(self._closed)
             return False
-        age = now - arrived + self._asleep.seconds()
+        age = now - arrived
         if age > self._limits.reply * self._limits.scale:
             self._counts["late"] += 1
             self._tell(Late(age, is_kept))
             self._restart("the reply would have been late")
             return False
-        self._tell(Sent(reply, now - arrived, is_kept))
+        self._tell(Sent(reply, age, is_kept))
         self._wire.write(reply)
         return True
 

@@ -86,7 +86,7 @@ class Host:
         those = [*([tape.sees()] if tape else []), Watch(notice).sees(), *self.board.observers(place, is_careful)]
         observers = Observers([*those, unknown.sees(counts, notice)], notice)
         given = wire, intake, observers, notice, counts, self._fixes.of(place), self.committer, self._turns
-        more = self.limits, place.frame, is_careful, self._asleep, self._texts
+        more = self.limits, place.frame, is_careful, self._texts
         line = self._line(place, peer, Parts(*given, *more))
         notice("connected" if wire.is_tcp else "open", CONNECTION)
         task = asyncio.ensure_future(line.run())

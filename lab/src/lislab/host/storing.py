@@ -15,7 +15,7 @@ from ..model.store import COMPLETE, FIXED, INCOMPLETE, Add, Change, End, Store, 
 from .fix import Ended
 from .fixer import Bodies, Fixer, fixed_ends
 from .intake import Intake
-from .turns import Share
+from .turns import Rest, Share
 
 #: How many bytes of a long text one row has.
 ROW = 1 << 14
@@ -29,7 +29,7 @@ class _Waiting(NamedTuple):
     """A unit that is to be stored, and its future. An error ends the future, unless the unit is owed."""
 
     unit: Unit
-    done: "asyncio.Future[None]"
+    done: Rest
     is_long: bool
     is_owed: bool
 
@@ -40,8 +40,9 @@ class Committer:
     def __init__(self, store: Store, say: Callable[[str], None]) -> None:
         self._store, self._say = store, say
         self._loop = asyncio.get_running_loop()
-        #: What the lines put; None at the end.
-        self._put: "SimpleQueue[Optional[_Waiting]]" = SimpleQueue()
+        #: What the lines put in this turn of the loop; what they put in each turn before, None at the end.
+        self._new: List[_Waiting] = []
+        self._put: "SimpleQueue[Optional[List[_Waiting]]]" = SimpleQueue()
         #: What the thread has taken from there: units, parts of long texts, and units that could not be stored.
         self._waiting: Deque[_Waiting] = deque()
         self._long: Deque[_Waiting] = deque()
@@ -50,17 +51,26 @@ class Committer:
         self.part = store.part
         #: When what is owed is tried again, and how many changes then; whether the host stops.
         self._next_try, self._some, self._stopping = 0.0, 1, False
-        #: How many commits were made, and how many failed.
-        self.commits = self.failed = 0
+        #: How many commits were made, and how many failed; whether the last one had a single unit.
+        self.commits, self.failed, self._is_alone = 0, 0, True
         self._thread = threading.Thread(target=self._run, name="commits", daemon=True)
         self._thread.start()
 
-    def put(self, unit: Unit, is_long: bool = False, is_owed: bool = False) -> "asyncio.Future[None]":
+    def put(self, unit: Unit, is_long: bool = False, is_owed: bool = False) -> Rest:
         """Returns a future, which is done when the unit is on the disk; StoreError if it can't be. A commit has at most
         one part of a long text, so that other lines don't wait for all of it."""
-        done = self._loop.create_future()
-        self._put.put(_Waiting(unit, done, is_long, is_owed))
+        done = Rest(loop=self._loop)
+        self._new.append(_Waiting(unit, done, is_long, is_owed))
+        if self._is_alone:
+            self._hand_over()
+        elif len(self._new) == 1:
+            self._loop.call_soon(self._hand_over)
         return done
+
+    def _hand_over(self) -> None:
+        """Hands over to the thread what the lines put in a turn of the loop, so that one commit stores it."""
+        new, self._new = self._new, []
+        self._put.put(new)
 
     def put_later(self, unit: Unit, is_long: bool = False) -> "asyncio.Future[None]":
         """The same for a unit for which no reply waits. If it can't be stored, it is owed: it is tried again until it
@@ -69,6 +79,7 @@ class Committer:
 
     async def stop(self) -> None:
         """Stores what is still waiting, and ends the thread."""
+        self._hand_over()
         self._put.put(None)
         while self._thread.is_alive():
             await asyncio.sleep(0.01)
@@ -76,8 +87,9 @@ class Committer:
 
     def _run(self) -> None:
         while self._take():
-            one = [self._long.popleft()] if self._long else []
-            batch = [*_some_of(self._waiting, TOGETHER), *one]
+            batch = _some_of(self._waiting, TOGETHER)
+            if self._long:
+                batch.append(self._long.popleft())
             if (not batch or self._commit(batch)) and self._owed:
                 self._commit_owed()
         tries = LAST_TRIES
@@ -91,13 +103,12 @@ class Committer:
         is_idle = not (self._waiting or self._long or self._stopping)
         while is_idle or not self._put.empty():
             try:
-                one = self._put.get(timeout=max(0.0, self._next_try - time.monotonic()) if self._owed else None)
+                new = self._put.get(timeout=max(0.0, self._next_try - time.monotonic()) if self._owed else None)
             except Empty:
                 break
             is_idle = False
-            if one is None:
-                self._stopping = True
-            else:
+            self._stopping = self._stopping or new is None
+            for one in new or ():
                 (self._long if one.is_long else self._waiting).append(one)
         return bool(self._waiting or self._long or not self._stopping)
 
@@ -117,6 +128,7 @@ class Committer:
         """Stores a batch, and ends its futures on the thread of the lines. Returns whether it is stored: if it isn't,
         those units of it are owed from now on that have to be, or are again."""
         fault: Optional[Exception] = None
+        self._is_alone = len(batch) == 1
         try:
             self._store.commit([one.unit for one in batch])
             self.commits += 1
@@ -148,10 +160,12 @@ def _settle(batch: List[_Waiting], fault: Optional[Exception], say: Callable[[st
     for one in batch:
         if one.done.done():
             continue
-        if fault is None:
+        if fault is not None:
+            one.done.set_exception(fault)
+        elif one.is_owed:
             one.done.set_result(None)
         else:
-            one.done.set_exception(fault)
+            one.done.end()
     if fault is not None:
         say(f"not stored: {fault}")
 
@@ -206,16 +220,16 @@ class Keeper:
                     self._ends[one.key] = one
             if self.intake.bodies:
                 changes = await self._fixed(changes)
-            if part:
-                await self._share.take_turns()
+            if not part:
+                part = changes
+                continue
+            await self._share.take_turns()
             if len(part) + len(changes) > self._committer.part:
                 self._is_long = True
                 await self._put(part)
-                part = []
-            if part:
-                _join(part, changes)
-            else:
                 part = changes
+            else:
+                _join(part, changes)
         if part:
             await self._put(part)
         self._is_long = False
@@ -239,7 +253,6 @@ class Keeper:
         bodies, self.intake.bodies = self.intake.bodies, {}
         self._share.rests()
         changes = await self._fixer.of_all(changes, bodies, True, self._tries)
-        self._share.goes_on()
         self._ends.update((one.key, one) for one in fixed_ends(changes))
         return changes
 
@@ -252,7 +265,6 @@ class Keeper:
         await self._committer.put(part, self._is_long)
         for one in ends:
             self._ends.pop(one.key, None)
-        self._share.goes_on()
         if self._share.is_behind():
             await self._share.wait()
         if ends:

@@ -4,6 +4,7 @@ for nobody, however many others work all the time, and over however many connect
 import asyncio
 import heapq
 import time
+from contextvars import Context
 from typing import Callable, List, Optional, Tuple
 from weakref import WeakValueDictionary
 
@@ -14,6 +15,27 @@ HEARS, ALL, AT_ONCE = 0.002, 0.002, 2
 #: A peer that has used less is credited up to CREDIT seconds. A line is charged at most MOST seconds for work without a
 #: pause: what takes longer isn't its work alone, as when the interpreter collects garbage.
 CREDIT, MOST = 0.004, 0.004
+
+
+class Rest(asyncio.Future[None]):
+    """What the task of a line waits for. A callback of the loop calls `end`: so the task goes on at once, and not in the
+    loop's next turn."""
+
+    _goes_on: "Optional[Callable[[Rest], object]]" = None
+
+    def add_done_callback(self, goes_on: "Callable[[Rest], object]", *, context: Optional[Context] = None) -> None:
+        """Sets what goes on at the end; the task that waits calls it."""
+        self._goes_on = goes_on
+        asyncio.Future.add_done_callback(self, goes_on, context=context)
+
+    def end(self) -> None:
+        """Ends it, unless it has ended."""
+        goes_on = self._goes_on
+        if goes_on is not None and self.remove_done_callback(goes_on):
+            self.set_result(None)
+            goes_on(self)
+        elif not self.done():
+            self.set_result(None)
 
 
 class Account:
@@ -30,8 +52,8 @@ class Turns:
         #: The thread's own clock. By any other clock a line is charged for the work of other threads and processes, so
         #: on a busy machine good lines wait ten times as long.
         self.worked = worked
-        #: How much time the peers used whose lines go on.
-        self.had = 0.0
+        #: How much time the peers used whose lines go on, and when a line was charged last.
+        self.had, self.charged = 0.0, worked()
         #: The accounts of the peers that have lines.
         self._accounts: "WeakValueDictionary[str, Account]" = WeakValueDictionary()
         self._waiting: "List[Tuple[float, int, Account, asyncio.Future[None]]]" = []
@@ -45,10 +67,10 @@ class Turns:
         """Returns the account of a peer, which all its lines share."""
         return self._accounts.setdefault(peer, Account(self.had))
 
-    def is_full(self, now: float) -> bool:
+    def is_full(self) -> bool:
         """Whether the lines have used enough of this turn of the loop by now. A turn costs time, and is measured only if
         lines wait, or have used as much in several turns."""
-        begun = self._begun
+        begun, now = self._begun, self.charged
         if begun is None or (now > begun + ALL and not self._is_one):
             self._begun, self._is_one = now, begun is not None or self._goes
             if self._is_one:
@@ -91,24 +113,21 @@ class Share:
     """What one line uses of its peer's account."""
 
     def __init__(self, turns: Turns, peer: str, before: Callable[[], None] = lambda: None) -> None:
-        self._turns, self._account, self._since = turns, turns.account(peer), turns.worked()
+        self._turns, self._account = turns, turns.account(peer)
         #: Called before the line waits for its turn: it is read no further if more waits already.
         self._before = before
 
-    def goes_on(self) -> None:
-        """The line works from now on: the time until now isn't charged to it."""
-        self._since = self._turns.worked()
-
     def rests(self) -> None:
-        """Charges the line for the time since it went on: it waits for something now."""
-        now, account = self._turns.worked(), self._account
-        account.had = max(self._turns.had - CREDIT, account.had) + min(now - self._since, MOST)
-        self._since = now
+        """Charges the line, which waits for something now, for the thread's time since a line was charged last."""
+        turns, account = self._turns, self._account
+        now = turns.worked()
+        account.had = max(turns.had - CREDIT, account.had) + min(now - turns.charged, MOST)
+        turns.charged = now
 
     def is_behind(self) -> bool:
         """Whether other lines come first: the peer has used more than theirs, or all have used enough of this turn."""
         more = self._account.had - self._turns.had
-        return more > HEARS or (more > -HEARS and self._turns.is_full(self._since))
+        return more > HEARS or (more > -HEARS and self._turns.is_full())
 
     def is_over(self) -> bool:
         """Charges the line for its work so far. Returns whether other lines come first."""
@@ -124,4 +143,3 @@ class Share:
         """Returns when it is the line's turn again."""
         self._before()
         await self._turns.wait(self._account)
-        self.goes_on()

@@ -2,6 +2,7 @@
 at which it can have come: a reply to it must not be late, also if the host was busy or the machine was suspended."""
 import asyncio
 import functools
+import math
 import os
 import socket
 import time
@@ -10,16 +11,15 @@ from typing import Callable, Deque, Optional, Protocol, Tuple, Union
 
 from ..model.options import Connect, Listen, plain_address
 from .telnet import Telnet
+from .turns import Rest
 
 #: How many bytes may wait to be heard before the line is read no further. How many bytes of a connection the host hears
 #: before another line may have its turn.
 WAITING, PIECE = 1 << 16, 4096
-#: The clock of asyncio's loops.
-clock = time.monotonic
-#: The machine was suspended if its clocks drifted apart by more than so many seconds. The clock that goes on meanwhile,
-#: if the system has one.
+#: The clock of the lines. It goes on while the machine is suspended, if the system has such a clock; that of asyncio's
+#: loops doesn't. The machine was suspended if the two drifted apart by more than so many seconds.
+clock = functools.partial(time.clock_gettime, getattr(time, "CLOCK_BOOTTIME", time.CLOCK_MONOTONIC))
 LEAST = 1.0
-_awake = functools.partial(time.clock_gettime, getattr(time, "CLOCK_BOOTTIME", time.CLOCK_MONOTONIC))
 
 
 class Wire:
@@ -51,31 +51,34 @@ class Inbox:
         self._size = 0
         #: Since when it is read no further.
         self.paused_at: Optional[float] = None
-        #: When it was read last. What was read up to `_old_until`, after a pause, can have come since `_old`.
-        self._read_at = self._old_until = self._old = clock()
-        self._timer: Optional[asyncio.TimerHandle] = None
+        #: What was read up to `_old_until`, after a pause, can have come since `_old`.
+        self._old_until = self._old = clock()
+        #: What wakes the line, and when.
+        self._timer, self._rings = None, math.inf  # type: Optional[asyncio.TimerHandle], float
         #: What the line waits for, while it waits.
-        self.waiter: "Optional[asyncio.Future[None]]" = None
+        self.waiter: Optional[Rest] = None
 
     def add(self, data: bytes, arrived: float) -> None:
-        """Adds bytes that came at this time of the loop's clock, or later."""
+        """Adds bytes that came at this time or later, and lets the line go on. A callback of the loop calls it."""
         if self.paused_at is not None:
             arrived = min(arrived, self.paused_at)
         elif arrived <= self._old_until:
             arrived = min(arrived, self._old)
-        self._read_at = clock()
         self.pieces.append((arrived, data))
         self._size += len(data)
         if self._size > WAITING:
             self._pause(arrived)
-        if self.waiter is not None and not self.waiter.done():
-            self.waiter.set_result(None)
+        if self.waiter is not None:
+            self.waiter.end()
 
     def take(self) -> Tuple[float, bytes]:
         """Returns the next piece, and the earliest time at which it can have come."""
-        piece = self.pieces.popleft()
-        self._size -= len(piece[1])
-        return piece
+        arrived, data = self.pieces.popleft()
+        if len(data) > PIECE:
+            self.pieces.appendleft((arrived, data[PIECE:]))
+            data = data[:PIECE]
+        self._size -= len(data)
+        return arrived, data
 
     def clear(self) -> None:
         """Drops the pieces."""
@@ -91,22 +94,20 @@ class Inbox:
     def pause(self) -> None:
         """Reads no further if some pieces wait already."""
         if self.pieces:
-            self._pause(self._read_at)
+            self._pause(self.pieces[-1][0])
 
     async def wait(self, due: float) -> None:
-        """Reads on, and returns when a piece came, at a call of `wake`, or at this time of the loop's clock. An earlier
-        timer that is set already stays: as a rule each byte puts off what is due."""
+        """Reads on, and returns when a piece came, at a call of `wake`, or at this time. An earlier timer that is set
+        already stays: as a rule each byte puts off what is due."""
         if self.paused_at is not None:
             self._old, self._old_until, self.paused_at = self.paused_at, clock(), None
             self._wire.resume()
-        if self._timer is None or self._timer.when() > due:
+        if due < self._rings:
             self.stop()
-            self._timer = self._loop.call_at(due, self._ring)
-        self.waiter = self._loop.create_future()
-        try:
-            await self.waiter
-        finally:
-            self.waiter = None
+            self._rings, self._timer = due, self._loop.call_later(due - clock(), self._ring)
+        self.waiter = Rest(loop=self._loop)
+        await self.waiter
+        self.waiter = None
 
     def wake(self) -> None:
         """Wakes the line, if it waits."""
@@ -114,14 +115,14 @@ class Inbox:
             self.waiter.set_result(None)
 
     def _ring(self) -> None:
-        self._timer = None
+        self._timer, self._rings = None, math.inf
         self.wake()
 
     def stop(self) -> None:
         """Cancels the timer."""
         if self._timer is not None:
             self._timer.cancel()
-            self._timer = None
+            self._timer, self._rings = None, math.inf
 
 
 class Ticks:
@@ -131,11 +132,11 @@ class Ticks:
 
     def __init__(self, period: float, look: Callable[[], None] = lambda: None) -> None:
         self._loop, self._period, self._look = asyncio.get_running_loop(), period, look
-        self._last = self.before = self._loop.time()
+        self._last = self.before = clock()
         self._handle = self._loop.call_later(period, self._tick)
 
     def _tick(self) -> None:
-        self.before, self._last = self._last, self._loop.time()
+        self.before, self._last = self._last, clock()
         self._handle = self._loop.call_later(self._period, self._tick)
         self._look()
 
@@ -145,21 +146,17 @@ class Ticks:
 
 
 class Asleep:
-    """How long the machine was suspended since that was noted last: the clocks of programs stop then. `awake` is the
-    clock that goes on."""
+    """How long the machine was suspended since that was noted last."""
 
-    def __init__(self, awake: Optional[Callable[[], float]] = None) -> None:
-        self._awake = awake or _awake
-        self._noted = self._awake() - clock()
-
-    def seconds(self) -> float:
-        """Returns for how many seconds it was suspended; 0 if it wasn't."""
-        found = self._awake() - clock() - self._noted
-        return found if found > LEAST else 0.0
+    def __init__(self, awake: Callable[[], float] = clock) -> None:
+        self._awake = awake
+        self._noted = awake() - time.monotonic()
 
     def note(self) -> float:
-        """Returns that, and counts from 0 again."""
-        found = self.seconds()
+        """Returns for how many seconds it was suspended, 0 if it wasn't, and counts from 0 again."""
+        found = self._awake() - time.monotonic() - self._noted
+        if found <= LEAST:
+            return 0.0
         self._noted += found
         return found
 
@@ -227,14 +224,13 @@ class TcpWire(asyncio.BufferedProtocol, Wire):
         """Passes bytes that came to the line, without the commands of Telnet."""
         if self._line is None:
             return
-        for start in range(0, nbytes, PIECE):
-            data = bytes(self._buffer[start : min(start + PIECE, nbytes)])
-            if self._telnet is not None:
-                data, answer = self._telnet.heard(data)
-                if self._transport is not None:
-                    self._transport.write(answer)
-            if data:
-                self._line.inbox.add(data, self._ticks.before)
+        data = bytes(self._buffer[:nbytes])
+        if self._telnet is not None:
+            data, answer = self._telnet.heard(data)
+            if self._transport is not None:
+                self._transport.write(answer)
+        if data:
+            self._line.inbox.add(data, self._ticks.before)
 
     def eof_received(self) -> bool:
         """Lets asyncio close the connection, because the peer sends no more."""
@@ -254,7 +250,7 @@ class TcpWire(asyncio.BufferedProtocol, Wire):
     def write(self, data: bytes) -> None:
         if self._telnet is not None:
             data = self._telnet.written(data)
-        if data and self._transport is not None and not self._transport.is_closing():
+        if self._transport is not None:
             self._transport.write(data)
 
     def close(self) -> None:

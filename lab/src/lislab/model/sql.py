@@ -2,7 +2,7 @@
 message's bytes are those of its texts in order. So nothing is copied when a message becomes complete."""
 import abc
 import functools
-from typing import Any, ContextManager, Dict, Iterator, List, Optional, Sequence, Tuple, TypeVar
+from typing import Any, ContextManager, Dict, Iterator, List, NamedTuple, Optional, Sequence, Tuple, TypeVar
 
 from .schema import EARLIER_MESSAGES, LATER, ORDERS, SCHEMA, TABLES
 from .store import (
@@ -52,6 +52,29 @@ def insert(table: str, count: int, width: int) -> str:
     return f"INSERT INTO {table} VALUES {_marks(count, width)} ON CONFLICT DO NOTHING"
 
 
+class Rows(NamedTuple):
+    """What changes put into the tables: the values of rows of messages and of texts, and the ends of messages."""
+
+    begins: List[Any]
+    texts: List[Any]
+    ends: List[End]
+
+
+def rows_of(units: Sequence[Unit], host: str) -> Rows:
+    """The rows for the changes of a host."""
+    rows = Rows([], [], [])
+    begins, texts, ends = rows
+    for unit in units:
+        for one in unit:
+            if isinstance(one, Add):
+                texts += one
+            elif isinstance(one, Begin):
+                begins += (one.key, host, one.line, one.peer, one.encoding, one.at, OPEN)
+            else:
+                ends.append(one)
+    return rows
+
+
 class SqlStore(Store):
     """A store in a database. A subclass has the connection, and what differs in the words of SQL."""
 
@@ -76,8 +99,12 @@ class SqlStore(Store):
         """Opens the store to change it while a host may have it too."""
 
     def commit(self, units: Sequence[Unit]) -> None:
+        self.put(rows_of(units, self.host))
+
+    def put(self, rows: Rows) -> None:
+        """Puts rows in a transaction."""
         with self.changing():
-            self.apply(units)
+            self.apply(rows)
 
     @abc.abstractmethod
     def lock_numbers(self) -> None:
@@ -168,20 +195,10 @@ class SqlStore(Store):
         gone = [host for host in hosts if not self.is_held(host)]
         return f"(state = '{OPEN}' AND host IN ({', '.join('?' * len(gone))}))" if gone else "(1 = 0)", gone
 
-    def apply(self, units: Sequence[Unit]) -> None:
-        """The changes, inside a transaction. What is there already, since a commit was kept whose answer was lost,
-        stays as it is. Numbers come last, so that their lock is short."""
-        begins: List[Any] = []
-        texts: List[Any] = []
-        ends: List[End] = []
-        for unit in units:
-            for one in unit:
-                if isinstance(one, Add):
-                    texts += one
-                elif isinstance(one, Begin):
-                    begins += (one.key, self.host, one.line, one.peer, one.encoding, one.at, OPEN)
-                else:
-                    ends.append(one)
+    def apply(self, rows: Rows) -> None:
+        """The rows, inside a transaction. What is there already, since a commit was kept whose answer was lost, stays
+        as it is. Numbers come last, so that their lock is short."""
+        begins, texts, ends = rows
         self._put("message (key, host, line, peer, encoding, began, state)", 7, begins)
         self._put(TEXT, 4, texts)
         if ends:

@@ -6,8 +6,8 @@ from typing import Any, Iterator, List, Optional, Sequence, Tuple
 
 from .files import is_locked, take_lock
 from .schema import STATES_OF_SQLITE
-from .sql import ROWS, TEXT, SqlStore, insert
-from .store import Add, Stored, StoreError, Unit
+from .sql import ROWS, TEXT, Rows, SqlStore, insert
+from .store import Stored, StoreError
 
 #: How long another program's short transaction is waited for, in seconds.
 PATIENCE = 5.0
@@ -97,15 +97,14 @@ class SqliteStore(SqlStore):
     def faults(self) -> List[str]:
         return [str(row[0]) for row in self.read("PRAGMA integrity_check") if row[0] != "ok"]
 
-    def commit(self, units: Sequence[Unit]) -> None:
-        """Stores units. If they are few texts, one statement does it, which is a transaction by itself."""
-        changes = [one for unit in units for one in unit]
-        is_short = 0 < len(changes) <= ROWS and all(isinstance(one, Add) for one in changes)
-        if not is_short or self._db is None or self._db.in_transaction:
-            super().commit(units)
+    def put(self, rows: Rows) -> None:
+        """Puts rows. If they are a few texts, one statement does it, which is a transaction by itself."""
+        begins, texts, ends = rows
+        if begins or ends or not 0 < len(texts) <= 4 * ROWS or self._db is None or self._db.in_transaction:
+            super().put(rows)
             return
         try:
-            self._db.execute(insert(TEXT, 4 * len(changes), 4), [value for one in changes for value in one])
+            self._db.execute(insert(TEXT, len(texts), 4), texts)
         except Exception as error:
             raise self._undone(error) from None
 
