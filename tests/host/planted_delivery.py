@@ -186,7 +186,7 @@ FAULTS = {
     ),
     "test_fhir.Fhir.test_marks": ("outbound/fhir.py", "taken or told.iso(result.at)", "told.iso(result.at) or taken"),
     "test_fhir.Fhir.test_nobody": (
-        "outbound/fhir.py", "        if subject is None:\n", "        if not case.orders:\n"
+        "outbound/fhir.py", 'if subject is None or "display" in subject:', "if not case.orders:"
     ),
     "test_fhir.Fhir.test_samples": (
         "outbound/fhir.py", '"Q" if order.control else "", record.text(8)', "record.text(8)"

@@ -298,6 +298,8 @@ class Fhir(HostTest):
         both = bundle_of(stored(message(*rows, "O|2|S7|||||||||Q", "R|1|^^^A|1")),
                          oru.wishes_of(["practice=urn:a", "sample=urn:s"]))
         found = [tube_of(both, one) for one in observations(both)]
+        known = [{"system": "urn:s", "value": "S7"} in tube["identifier"] for tube in observations(both, "Specimen")]
+        self.same("only one has the number as its own", known, [True, False, False])
         self.same("two patients and a control with one number have each their own",
                   [one.get("subject") for one in found], [one.get("subject") for one in observations(both)])
         self.same("no fault", fhir_r4.faults(both), [])

@@ -280,6 +280,9 @@ class Oru(WithLibrary):
         self.same("codes that are there twice", [str(one(4)) for one in twice["OBX"]], ["1", "", "2"])
         control = self.read(oru_of(stored(message("P|1", "O|1|QC1|||||||||Q", "R|1|^^^A|1"))))
         self.same("a control", (str(control["SPM"][0](11)), "PID" in str(control)), ("Q", False))
+        old = self.read(oru_of(stored(message("P|1", "O|1|QC1|||||||||Q", "R|1|^^^A|1", "P|2", "O|1|S7", "R|1|^^^A|1")),
+                               oru.wishes_of(["MSH-12=2.3.1"])))
+        self.same("in v2.3.1, which has no SPM", [str(one[3]) for one in old if str(one[0]) == "NTE"], [oru.CONTROL])
         query = oru_of(stored(message("Q|1|^S7||ALL")))
         self.same("a query has no results", query, b"")
         half = stored(b"H|\\^&\rP|1\r", state=INCOMPLETE)

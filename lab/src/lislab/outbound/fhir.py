@@ -14,7 +14,7 @@ from lislink.message import Entry
 from ..model.numbers import Number, number_of, range_of
 from ..model.results import Case, Coding, Identity, Ordered, Result, Told
 from ..model.results import field_text, has_clock, identities_of, parts_of, report_of
-from .oru import Wishes, specimen_of
+from .oru import CONTROL, Wishes, specimen_of
 
 #: The systems of identifiers: of a message, of a result, of a sample's test, of a sample and of an order.
 SYSTEM, _OF_RESULT, _OF_TEST = "urn:lislab:message", "urn:lislab:result", "urn:lislab:test"
@@ -34,7 +34,6 @@ _PRIORITY = {"S": "stat", "A": "asap", "R": "routine"}
 _TERMS = "http://terminology.hl7.org/CodeSystem/"
 _UCUM, _SYSTEMS = "http://unitsofmeasure.org", {"LN": "http://loinc.org", "SCT": "http://snomed.info/sct"}
 _LABORATORY = {"system": _SYSTEMS["SCT"], "code": "108252007", "display": "Laboratory procedure"}
-_CONTROL = "a control, and no sample of a patient"
 #: An address, which can be the system of identifiers; the characters that have a meaning in a search (R4, 3.1.1.4).
 _ADDRESS, _MEANING = re.compile(r"[A-Za-z][A-Za-z0-9+.-]*:\S+$"), re.compile(r"[\\$,|]")
 #: The flags that have the same meaning as codes of v3-ObservationInterpretation.
@@ -206,9 +205,9 @@ class _Made:
         if case.patient is None:
             return None
         identities, (family, *given) = identities_of(case.patient), [*parts_of(case.patient, 6), ""]
-        name = " ".join(filter(None, [*given, family]))
+        shown = " ".join(filter(None, [*given, family]))
         if not identities:
-            return {"type": "Patient", "display": name} if name else None
+            return {"type": "Patient", "display": shown} if shown else None
         named = [
             _identifier(one, self._wishes.authorities.get(field, ("", ""))[0]) for field, one in identities.items()
         ]
@@ -229,7 +228,7 @@ class _Made:
         whose = self._whose.setdefault(order.sample, (subject, order.control))
         if "system" not in number or whose != (subject, order.control):  # two of one number are two, whatever is set
             what = [told.one.line, order.sample, *_who(case), "Q" if order.control else "", record.text(8).strip()]
-            name = self._own(_OF_SAMPLE, _digest(*what), number)
+            name = self._own(_OF_SAMPLE, _digest(*what), {"value": order.sample})
         taken, (code, text) = told.iso(record.text(8)), specimen_of(record)
         coding: Data = {"coding": [{"system": f"{_TERMS}v2-0487", "code": code}]} if code else {}
         made = {
@@ -239,7 +238,7 @@ class _Made:
             "subject": subject,
             "receivedTime": told.iso(record.text(15)),
             "collection": {"collectedDateTime": taken} if taken else None,
-            "note": [{"text": _CONTROL}] if order.control else None,
+            "note": [{"text": CONTROL}] if order.control else None,
         }
         return {"reference": self._add(name, made)}
 
@@ -328,7 +327,7 @@ class _Made:
         )
 
     def _notes(self, order: Ordered, texts: List[str]) -> List[Data]:
-        control = [_CONTROL] if order.control else []
+        control = [CONTROL] if order.control else []
         return [{"text": each} for each in [*texts, *self._told.marks, *control] if each.strip()]
 
     def _report_name(self, about: _About, urls: List[str]) -> _Name:

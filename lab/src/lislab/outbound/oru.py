@@ -35,6 +35,8 @@ _SPECIMENS = {word.upper(): code for code, words in _WORDS.items() for word in (
 _PAIRS = [one + two for one in string.digits + string.ascii_uppercase for two in string.digits + string.ascii_uppercase]
 _ESCAPES = {"|": "\\F\\", "^": "\\S\\", "~": "\\R\\", "\\": "\\E\\", "&": "\\T\\"}
 _SPECIAL = re.compile(r"[|^~\\&\x00-\x1f]")
+#: What is said of a control where there is no other place for it.
+CONTROL = "a control, and no sample of a patient"
 #: OBR-7 must be there in a report; it is when the specimen was taken.
 _NOT_TAKEN = "OBR-7 is when the first result was completed: when the specimen was taken isn't known"
 #: A value of type NM, and the most characters of one of type ST.
@@ -261,7 +263,8 @@ def _order(
     priority = _among(_PRIORITIES, field_text(record, 6))
     first = "" if taken else min((one.at for one in results if one.at), default="")
     yield _request(told, number, order, results, (kind, priority, taken or told.at(first)), wishes)
-    yield from _notes([*order.comments, *([Comment("L", _NOT_TAKEN)] if first else []), *more])
+    said = [(CONTROL, is_old and order.control), (_NOT_TAKEN, first)]
+    yield from _notes([*order.comments, *(Comment("L", text) for text, is_so in said if is_so), *more])
     if priority and not is_old:
         yield f"TQ1|1||||||||{priority}\r"
     for place, result in enumerate(results, 1):
