@@ -90,7 +90,7 @@ class Versions(HostTest):
                 columns = {one[0] for one in db.execute("SELECT * FROM orders LIMIT 0").description}
             self.same(f"{name}: columns that are missing", set(LATER) - columns, set())
         path = self.store("served")
-        host = Host(path)
+        host = Host(path, scale=1.0)
         with Client(host.port) as client:
             self.true("a message", client.whole(TEXTS))
         done = lislab("store", "upgrade", "--store", path)
