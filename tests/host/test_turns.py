@@ -206,7 +206,7 @@ class Turns(HostTest):
         self.true("after garbage it waits for few", waits.pop(5) <= 20, waits)
         self.same("it waits for", set(waits), {0})
         self.true("each as much", max(done.values()) - min(done.values()) <= 20, done)
-        self.true("a little of each turn", 0 < sum(done.values()) <= 4 * turn.AT_ONCE * loops, (done, loops))
+        self.true("a little of each turn", 0 < sum(done.values()) <= 8 * loops, (done, loops))
 
     def test_many_connections_of_a_peer(self):
         """A peer has as much over many connections as another one over one; who works now and then waits for none."""

@@ -4,14 +4,15 @@ for nobody, however many others work all the time, and over however many connect
 import asyncio
 import heapq
 import time
+from collections import deque
 from contextvars import Context
-from typing import Callable, List, Optional, Tuple
+from typing import Callable, Deque, List, Optional, Tuple
 from weakref import WeakValueDictionary
 
 #: A line goes on without waiting until its peer has used HEARS seconds more than the others. Unless it has used as many
-#: less, it also waits once all lines have used ALL seconds of this turn of the loop. Of the lines that wait, AT_ONCE go
-#: on in each turn of the loop, besides those whose peers have used less.
-HEARS, ALL, AT_ONCE = 0.002, 0.002, 2
+#: less, it also waits once all lines have used ALL seconds of this turn of the loop. Those that wait go on until they
+#: have used as many of the next one.
+HEARS, ALL = 0.002, 0.002
 #: A peer that has used less is credited up to CREDIT seconds. A line is charged at most MOST seconds for work without a
 #: pause: what takes longer isn't its work alone, as when the interpreter collects garbage.
 CREDIT, MOST = 0.004, 0.004
@@ -39,10 +40,11 @@ class Rest(asyncio.Future[None]):
 
 
 class Account:
-    """How much time the lines of a peer have used, in seconds."""
+    """How much time the lines of a peer have used, in seconds; and what those wait for that wait for their turn."""
 
     def __init__(self, had: float) -> None:
         self.had = had
+        self.waiting: Deque[Rest] = deque()
 
 
 class Turns:
@@ -56,7 +58,8 @@ class Turns:
         self.had, self.charged = 0.0, worked()
         #: The accounts of the peers that have lines.
         self._accounts: "WeakValueDictionary[str, Account]" = WeakValueDictionary()
-        self._waiting: "List[Tuple[float, int, Account, asyncio.Future[None]]]" = []
+        #: The accounts whose lines wait: the one that has used the least first, and of several the one that came first.
+        self._waiting: List[Tuple[float, int, Account]] = []
         self._count, self._goes = 0, False
         #: When the first line checked for its turn, in this turn of the loop if `_is_one`, or in an earlier one; None if
         #: none has.
@@ -84,26 +87,31 @@ class Turns:
     async def wait(self, account: Account) -> None:
         """Returns when it is the turn of a line with this account."""
         loop = asyncio.get_running_loop()
-        one: "asyncio.Future[None]" = loop.create_future()
-        self._count += 1
-        heapq.heappush(self._waiting, (account.had, self._count, account, one))
+        one = Rest(loop=loop)
+        account.waiting.append(one)
+        if len(account.waiting) == 1:
+            self._push(account)
         if not self._goes:
             self._goes = True
             loop.call_soon(self._next)
         await one
 
+    def _push(self, account: Account) -> None:
+        self._count += 1
+        heapq.heappush(self._waiting, (account.had, self._count, account))
+
     def _next(self) -> None:
-        left = AT_ONCE
-        while self._waiting and left:
-            had, count, account, one = heapq.heappop(self._waiting)
-            if one.done():
-                continue
+        begun = self.charged
+        while self._waiting and self.charged - begun <= ALL:
+            had, _, account = heapq.heappop(self._waiting)
             if had < account.had:  # the peer's other lines worked meanwhile
-                heapq.heappush(self._waiting, (account.had, count, account, one))
+                self._push(account)
                 continue
-            left -= had > self.had - HEARS
+            one = account.waiting.popleft()
+            if account.waiting:
+                self._push(account)
             self.had = max(self.had, had)
-            one.set_result(None)
+            one.end()
         self._goes = bool(self._waiting)
         if self._goes:
             asyncio.get_running_loop().call_soon(self._next)
