@@ -255,10 +255,10 @@ FAULTS = {
         "host/ports.py", "len(self._lines) < limits.lines:", "len(self._lines) < 100:"
     ),
     "test_load.Load.test_memory": Edit(
-        "model/sql.py",
-        "            self.apply(rows)\n",
-        "            self.apply(rows)\n"
-        '            self.__dict__.setdefault("rows", []).append((rows, bytes(1 << 17)))\n',
+        "model/sqlite.py",
+        "                self.apply(rows)\n",
+        "                self.apply(rows)\n"
+        '                self.__dict__.setdefault("rows", []).append((rows, bytes(1 << 17)))\n',
     ),
     "test_renamed.Renamed.test_keys": Edit("model/renamed.py", "    if old not in _REPORTED:\n", "    if True:\n"),
     "test_renamed.Renamed.test_states": Edit("model/renamed.py", 'report(f"--state {word}"', 'report(f"{word}"'),

@@ -99,12 +99,8 @@ class SqlStore(Store):
         """Opens the store to change it while a host may have it too."""
 
     def commit(self, units: Sequence[Unit]) -> None:
-        self.put(rows_of(units, self.host))
-
-    def put(self, rows: Rows) -> None:
-        """Puts rows in a transaction."""
         with self.changing():
-            self.apply(rows)
+            self.apply(rows_of(units, self.host))
 
     @abc.abstractmethod
     def lock_numbers(self) -> None:

@@ -6,8 +6,8 @@ from typing import Any, Iterator, List, Optional, Sequence, Tuple
 
 from .files import is_locked, take_lock
 from .schema import STATES_OF_SQLITE
-from .sql import ROWS, TEXT, Rows, SqlStore, insert
-from .store import Stored, StoreError
+from .sql import ROWS, TEXT, SqlStore, insert, rows_of
+from .store import Stored, StoreError, Unit
 
 #: How long another program's short transaction is waited for, in seconds.
 PATIENCE = 5.0
@@ -97,11 +97,12 @@ class SqliteStore(SqlStore):
     def faults(self) -> List[str]:
         return [str(row[0]) for row in self.read("PRAGMA integrity_check") if row[0] != "ok"]
 
-    def put(self, rows: Rows) -> None:
-        """Puts rows. If they are a few texts, one statement does it, which is a transaction by itself."""
-        begins, texts, ends = rows
+    def commit(self, units: Sequence[Unit]) -> None:
+        """Stores units. If they are a few texts, one statement does it, which is a transaction by itself."""
+        begins, texts, ends = rows = rows_of(units, self.host)
         if begins or ends or not 0 < len(texts) <= 4 * ROWS or self._db is None or self._db.in_transaction:
-            super().put(rows)
+            with self.changing():
+                self.apply(rows)
             return
         try:
             self._db.execute(insert(TEXT, len(texts), 4), texts)
