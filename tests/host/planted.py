@@ -499,6 +499,7 @@ FAULTS = {
         'if word not in ("yes", "no"):\n        raise OptionError(f"telnet',
         'if word not in ("yes", "no", "on"):\n        raise OptionError(f"telnet',
     ),
+    "test_turns.Turns.test_rest": Edit("host/turns.py", "context.run(goes_on, self)", "goes_on(self)"),
     "test_turns.Turns.test_parts": Edit(
         "host/storing.py",
         "            if self._long:\n                batch.append",

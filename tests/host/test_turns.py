@@ -1,6 +1,7 @@
 """One line's work delays no other: texts that are long to read or to keep are taken in turns."""
 import asyncio
 import contextlib
+import contextvars
 import selectors
 import sys
 import threading
@@ -177,6 +178,30 @@ class Turns(HostTest):
     def test_spool(self):
         """The same with a spool, in smaller parts."""
         self.is_shared("tiny messages", "spool:" + self.path("tiny"), HEAVY["tiny messages"][: 1 << 9])
+
+    def test_rest(self):
+        """A task goes on within the call that ends what it waits for, in its own context; or at once if that has ended
+        before. It may be cancelled."""
+        whose, went = contextvars.ContextVar("whose", default="nobody's"), []
+
+        async def waits(name, rest):
+            whose.set(name)
+            await rest
+            went.append((name, whose.get()))
+
+        async def run():
+            early, late, never = (turn.Rest(loop=asyncio.get_running_loop()) for _ in range(3))
+            early.end()
+            tasks = [asyncio.ensure_future(waits(*one)) for one in (("early", early), ("late", late), ("never", never))]
+            await asyncio.sleep(0)
+            self.same("ended before", went, [("early", "early")])
+            tasks[-1].cancel()
+            asyncio.get_running_loop().call_soon(lambda: (never.end(), late.end(), late.end(), went.append("ended")))
+            await asyncio.sleep(0.01)
+            self.same("what goes on, and when", went[1:], [("late", "late"), "ended"])
+            self.same("how they ended", [one.cancelled() for one in tasks], [False, False, True])
+
+        asyncio.run(run())
 
     def test_parts(self):
         """A commit has one part of a long text at most, and all else that waits."""

@@ -5,7 +5,7 @@ import asyncio
 import heapq
 import time
 from collections import deque
-from contextvars import Context
+from contextvars import Context, copy_context
 from typing import Callable, Deque, List, Optional, Tuple
 from weakref import WeakValueDictionary
 
@@ -22,19 +22,19 @@ class Rest(asyncio.Future[None]):
     """What the task of a line waits for. A callback of the loop calls `end`: so the task goes on at once, and not in the
     loop's next turn."""
 
-    _goes_on: "Optional[Callable[[Rest], object]]" = None
+    _waits: "Optional[Tuple[Callable[[Rest], object], Context]]" = None
 
     def add_done_callback(self, goes_on: "Callable[[Rest], object]", *, context: Optional[Context] = None) -> None:
-        """Sets what goes on at the end; the task that waits calls it."""
-        self._goes_on = goes_on
+        """Sets what goes on at the end, and in which context; the task that waits calls it."""
+        self._waits = goes_on, context or copy_context()
         asyncio.Future.add_done_callback(self, goes_on, context=context)
 
     def end(self) -> None:
         """Ends it, unless it has ended."""
-        goes_on = self._goes_on
-        if goes_on is not None and self.remove_done_callback(goes_on):
+        if self._waits is not None and self.remove_done_callback(self._waits[0]):
             self.set_result(None)
-            goes_on(self)
+            goes_on, context = self._waits
+            context.run(goes_on, self)
         elif not self.done():
             self.set_result(None)
 
