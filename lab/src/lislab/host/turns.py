@@ -19,8 +19,8 @@ CREDIT, MOST = 0.004, 0.004
 
 
 class Rest(asyncio.Future[None]):
-    """What the task of a line waits for. A callback of the loop calls `end`: so the task goes on at once, and not in the
-    loop's next turn."""
+    """What the task of a line waits for. A callback of the loop calls `end`: so the task goes on at once, and not in
+    the loop's next turn."""
 
     _waits: "Optional[Tuple[Callable[[Rest], object], Context]]" = None
 
