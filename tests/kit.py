@@ -1,7 +1,10 @@
 """What all tests share: checks that count one by one, what is tested, and runs of commands."""
+import contextlib
 import html.parser
 import os
+import random
 import re
+import socket
 import subprocess
 import tempfile
 import unittest
@@ -44,6 +47,16 @@ def library():
     path = os.path.join(place("build"), "liblislink.so")
     os.environ["LISLINK_LIBRARY"] = path
     return path
+
+
+def free_port():
+    """A port that is free, and that the system gives to no connection, so that a server can also start on it again."""
+    with open("/proc/sys/net/ipv4/ip_local_port_range", encoding="ascii") as file:
+        first = int(file.read().split()[0])
+    while True:
+        port = random.randrange(max(first // 2, 1024), first)
+        with contextlib.suppress(OSError), socket.create_server(("127.0.0.1", port)):
+            return port
 
 
 def read(path):

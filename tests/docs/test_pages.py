@@ -16,7 +16,6 @@ import os
 import re
 import shutil
 import signal
-import socket
 import subprocess
 import tempfile
 import textwrap
@@ -158,13 +157,6 @@ def make_folder(folder, program, build):
             os.symlink(os.path.join(build, name), os.path.join(folder, "build", name))
 
 
-def free_port():
-    """A port that no program has."""
-    with socket.socket() as one:
-        one.bind(("127.0.0.1", 0))
-        return str(one.getsockname()[1])
-
-
 def by_bash(command):
     """The words that run a command here."""
     return ["bash", "-c", command]
@@ -200,7 +192,7 @@ def end_all(groups):
 
 def run_page(test, page, text, program, build):
     """Runs the commands of a page in turn and compares what they print."""
-    groups, ports = [], collections.defaultdict(free_port)
+    groups, ports = [], collections.defaultdict(lambda: str(kit.free_port()))
     with tempfile.TemporaryDirectory() as folder:
         make_folder(folder, program, build)
         environment = {**os.environ, "PATH": f"{folder}/bin:{os.environ['PATH']}",

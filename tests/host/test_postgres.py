@@ -8,7 +8,6 @@ import pwd
 import random
 import re
 import shutil
-import socket
 import subprocess
 import sys
 import tempfile
@@ -48,10 +47,7 @@ class Server:
     def __init__(self):
         self.programs = programs()
         self.folder = tempfile.mkdtemp(prefix="lis-host-")
-        self.data = os.path.join(self.folder, "data")
-        with socket.socket() as one:
-            one.bind(("127.0.0.1", 0))
-            self.port = one.getsockname()[1]
+        self.data, self.port = os.path.join(self.folder, "data"), kit.free_port()
         self.account = []
         if os.getuid() == 0:
             owner = pwd.getpwnam("postgres")
