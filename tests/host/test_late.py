@@ -178,5 +178,4 @@ class Suspended(HostTest):
             found.append(round(one.note(), 1))
         self.same("found", found, [0.0, 0.0, 30.9, 0.0])
         self.same("this machine's", Asleep().note(), 0.0)
-        with open("/proc/uptime", encoding="ascii") as file:
-            self.true("the time since the machine's start", abs(float(file.read().split()[0]) - clock()) < 5, clock())
+        self.same("it counts while the machine sleeps", clock.args, (time.CLOCK_BOOTTIME,))

@@ -7,10 +7,12 @@ import os
 import sys
 import tempfile
 import threading
+import unittest.mock
 from collections import Counter
 
 from lislab.cli import main as cli, serve as command
 from lislab.host.serve import Host
+from lislab.host.turns import Turns
 from lislab.model.books import open_book
 from lislab.model.stores import open_store
 from lislink.order import Order
@@ -129,7 +131,9 @@ async def served(folder, work):
         book = open_book(path)
         book.add([Order("S7", ("GLU", "K"))])
         book.close()
-        host = Host(command._asked_of(cli.parser().parse_args(words)), store)
+        # No time is used, because the analyzer and the walk itself use this thread's.
+        with unittest.mock.patch("lislab.host.serve.Turns", lambda: Turns(lambda: 0.0)):
+            host = Host(command._asked_of(cli.parser().parse_args(words)), store)
         await host.start()
         await work(host)
         await host.stop()
