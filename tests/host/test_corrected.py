@@ -19,6 +19,7 @@ from lislab.outbound import corrected, quarantine
 from lislab.outbound.export import Form
 from lislab.outbound.tables import Tables
 from tests.host.hosts import HostTest
+from tests.host.test_fhir_server import Server
 from tests.host.test_told import message
 
 #: Times of results, and of messages.
@@ -40,7 +41,8 @@ def told(*rows, at=FIRST, sample="A", patient="4711", collected=""):
 #: The first result, its correction, and the first one in another message.
 GOOD, FIXED, OLD = told(result("5.4")), told(result("6.4", "C"), at=SECOND), told(result("5.4"), at=THIRD)
 K = result("4.1", at=LATE, test="K")
-#: What comes, and which results go out: the numbers of their messages and their values.
+#: What comes, and which results go out: the numbers of their messages and their values; which of them in HL7 and FHIR,
+#: where a result that its own message corrects is left out.
 CASES = {
     "an old result": ([GOOD, FIXED, OLD, OLD], "1 5.4, 2 6.4"),
     "with another result": ([GOOD, FIXED, told(result("5.4"), "C|1|I|x", K, at=THIRD)], "1 5.4, 2 6.4, 3 4.1"),
@@ -49,7 +51,32 @@ CASES = {
         [GOOD, FIXED, told(result("5.4"), "O|2|A" + "|" * 23 + "F", "C|1|I|x", result("5.4"), at=THIRD)], "1 5.4, 2 6.4"
     ),
     "with its correction": ([GOOD, told(result("6.4", "C"), result("5.4"), at=SECOND)], "1 5.4, 2 6.4"),
-    "after both in a message": ([told(result("5.4"), result("6.4", "C")), OLD], "1 5.4, 1 6.4"),
+    "after both in a message": ([told(result("5.4"), result("6.4", "C")), OLD], "1 5.4, 1 6.4", "1 6.4"),
+    "sent again with its correction": (
+        [GOOD, told(result("5.4"), result("6.4", "C"), K, at=SECOND)],
+        "1 5.4, 2 5.4, 2 6.4, 2 4.1", "1 5.4, 2 6.4, 2 4.1",
+    ),
+    "corrected in another order": (
+        [told(result("5.4"), K, "O|2|A", result("6.4", "C"))], "1 5.4, 1 4.1, 1 6.4", "1 4.1, 1 6.4"
+    ),
+    "corrected twice in a message": (
+        [told(result("5.4"), result("6.4", "C"), result("6.6", "C"))], "1 5.4, 1 6.4, 1 6.6", "1 6.6"
+    ),
+    "of which an escape says that it is a correction": (
+        [told(result("6.4", "&X2043&"), result("6.6", "&X2043&"))], "1 6.4, 1 6.6", "1 6.6"
+    ),
+    "before another patient's correction": (
+        [told(result("5.4"), "P|2|4712", "O|1|A", result("6.4", "C"))], "1 5.4, 1 6.4"
+    ),
+    "before the correction of a patient who isn't named": (
+        [told(result("5.4"), "P|2", "O|1|A", result("6.4", "C"), patient="case 2")], "1 5.4, 1 6.4"
+    ),
+    "before a control's correction": (
+        [told(result("5.4"), "O|2|A" + "|" * 9 + "Q", result("6.4", "C"))], "1 5.4, 1 6.4"
+    ),
+    "before the correction of one who has only a name": (
+        [told(result("5.4"), "P|2||||Doe^Jane", "O|1|A", result("6.4", "C"))], "1 5.4, 1 6.4"
+    ),
     "another time of the correction": ([GOOD, told(result("6.4", "C", LATE), at=SECOND), OLD], "1 5.4, 2 6.4"),
     "in another unit": ([GOOD, told(result("97", "C", unit="mg/dL")), OLD], "1 5.4, 2 97"),
     "sent before, or answered": (
@@ -81,6 +108,13 @@ CASES = {
     "a correction to an earlier one, later": (
         [GOOD, FIXED, told(result("6.6", "C", LATE), at=SECOND), told(result("6.4", "C", THIRD), at=THIRD)],
         "1 5.4, 2 6.4, 3 6.6, 4 6.4",
+    ),
+    "before an old correction": (
+        [FIXED, told(result("6.6", "C", LATE), at=SECOND), told(result("5.4"), "O|2|A", result("6.4", "C"), K)],
+        "1 6.4, 2 6.6, 3 4.1",
+    ),
+    "an old correction after a new one": (
+        [FIXED, told(result("6.6", "C", LATE), result("6.4", "C"), at=SECOND)], "1 6.4, 2 6.6"
     ),
     "another patient's old correction": (
         [FIXED, told(result("6.6", "C", LATE), at=SECOND), told(result("6.4", "C"), at=THIRD, patient="4712")],
@@ -162,9 +196,10 @@ class EachStore(Deliveries):
     def test_results(self):
         """In each form what goes out is what is new; so it is in one of them if a delivery starts anew at each message."""
         forms = itertools.cycle(("oru", "fhir", "csv"))
-        for name, (bodies, wanted) in CASES.items():
+        for name, (bodies, *texts) in CASES.items():
             for form, is_each in [*((next(forms), False) for _ in range(self.forms)), (next(forms), True)]:
                 parts, place = [[body] for body in bodies] if is_each else [bodies], f"{form} {is_each} {name}"
+                wanted = texts[0 if form == "csv" else -1]
                 store = self.where()
                 for part in parts:
                     keep(store, part)
@@ -265,6 +300,109 @@ class Corrected(Deliveries, HostTest):
             found = [one["status"] for one in made if one["resourceType"] == "ServiceRequest"]
             self.same(f"{name}: the order", found[0], wanted)
 
+    def test_sample_of_a_patient(self):
+        """What the line's setting names as the sample is no identity: two patients who share it are two."""
+        store, lines, folder = self.path("tube.db"), self.path("tube.lines"), self.path("tube.d")
+        with open(lines, "w", encoding="ascii") as file:
+            file.write("[fire]\nlisten = 1\nsample = P.3\n")
+        wanted = [("A", "4711", "5.4"), ("A", "4712", "6.4"), ("A", "4711", "5.4")]
+        keep(store, [told(result(value, "C" if value == "6.4" else "F"), at=at, patient=f"{sample}|{identity}")
+                     for at, (sample, identity, value) in zip((FIRST, SECOND, THIRD), wanted)])
+        self.deliver(store, "tube", "csv", "--lines", lines)
+        found = []
+        for each in sorted(os.listdir(folder)):
+            with open(os.path.join(folder, each), encoding="utf-8", newline="") as file:
+                found += [(row["sample"], row["patient"], row["value"]) for row in csv.DictReader(file)]
+        self.same("what goes out", found, wanted)
+
+    def test_controls(self):
+        """What --controls leaves out is counted as that, also what its message corrects; a table has each result."""
+        control = "O|2|A" + "|" * 9 + "Q"
+        body = told(result("5.4"), K, control, result("5.0"), control, result("5.1", "C"), "O|4|A", result("6.4", "C"))
+        for form, which, *wanted in (
+            ("oru", "with", ["4.1", "6.4", "5.1"], 0, 2), ("oru", "without", ["4.1", "6.4"], 2, 1),
+            ("fhir", "only", ["5.1"], 2, 1), ("csv", "without", ["5.4", "4.1", "6.4"], 2, 0),
+        ):
+            store = self.path(f"{form} {which}.db")
+            keep(store, [body])
+            _, said, ((_, found),), _ = self.deliver(store, f"{form} {which}", form, "--controls", which)
+            counts = [sum(map(int, re.findall(rf"^(\d+) \w+ left out{why}$", said, re.M)))
+                      for why in (" by --controls", ", corrected since")]
+            self.same(f"{form} {which}", [[value for value, _ in found], *counts], wanted)
+
+    def test_server(self):
+        """A result that its own message corrects doesn't stand beside its correction on a server of FHIR, also where the
+        message is sent twice."""
+        for name, rows in (("one order", ["O|1|A"]), ("two orders", ["O|1|A", "O|2|A"])):
+            body = message("P|1|4711", rows[0], result("5.4"), K, *rows[1:], result("6.4", "C"))
+            wanted = [("GLU", "6.4", "corrected"), ("K", "4.1", "final")]
+            self.same(f"{name}: it has", self.on_server(name, [body], times=2), (wanted, [], 0))
+
+    def on_server(self, name, bodies, *words, times=1):
+        """What a server of FHIR has of these messages, each of which is sent so many times: each test, its value and
+        its status; which messages it refused; how many are in quarantine."""
+        store, server, refused = self.path(f"{name}.db"), Server(), []
+        keep(store, bodies)
+        held = self.deliver(store, name, "fhir", *words)[3]
+        folder = self.path(f"{name}.d")
+        for number, file in enumerate(sorted(os.listdir(folder)), 1):
+            with open(os.path.join(folder, file), "rb") as bundle:
+                data = bundle.read()
+            refused += [] if all(server.take(data) for _ in range(times)) else [number]
+        return sorted(one[2:] for one in server.results()), refused, len(held)
+
+    def test_another_test(self):
+        """A correction leaves alone what is another result in the laboratory, and replaces no doubtful one; what a
+        table leaves out corrects nothing."""
+        lines, codes = self.path("test.lines"), self.path("test.codes")
+        value, index = ((lambda *words, field=field: result(*words, test=f"GLU^{field}")) for field in "FI")
+        fixed = [told(value("6.4", "C", LATE), index("9", "C", LATE), at=SECOND)]
+        good, bad = ("GLU", "5.4", "final"), ("GLU", "9", "corrected")
+        for name, setting, rows, bodies, wanted in (
+            ("left out", "", ("GLUC", "leave out"), [told(value("5.4"))] + fixed, [("GLUC", "6.4", "corrected")]),
+            ("alone", "", ("GLUC", "leave out"), [told(value("5.4"), index("9", "C"))], [("GLUC", "5.4", "final")]),
+            ("another code", "", ("GLUC", "INDEX"), fixed, [("GLUC", "6.4", "corrected"), ("INDEX", "9", "corrected")]),
+            ("no row", "", (), fixed, []),
+            ("never twice", "twice = quarantine", (), [told(value("5.4"), value("6.4", "C"))], []),
+            ("both go", "twice = deliver", (), [told(value("5.4"), index("9", "C"))], [good, bad]),
+            ("one of both", "twice = deliver", (), [told(value("5.4"), index("8")), told(index("9", "C"))], [good, bad]),
+        ):
+            with open(lines, "w", encoding="ascii") as file:
+                file.write(f"[fire]\nlisten = 1\ntest = 4\n{setting}\n")
+            with open(codes, "w", encoding="ascii") as file:
+                file.write("analyzer,laboratory\n" + "".join(f"^^^GLU^{at},{row}\n" for at, row in zip("FI", rows)))
+            words = "--lines", lines, "--codes", codes, "--quarantine", "1"
+            found = self.on_server(name, bodies, *words)
+            self.same(f"{name}: the server has", found, (wanted, [], int(not wanted)))
+
+    def test_which(self):
+        """A message is quarantined if no one can say which of its results a correction corrects."""
+        with open(self.path("which.lines"), "w", encoding="ascii") as file:
+            file.write("[fire]\nlisten = 1\ntest = 4\n")
+        first, fixed, index = result("5.4"), result("6.4", "C"), result("9", "C", test="GLU^I")
+        for name, rows, wanted, why in (
+            ("a rerun", [first, result("7.0"), fixed], [], "record 6 of the message: does it correct record 4 or 5?"),
+            ("another field", [first, "O|2|A", index], [], "record 6 of the message: does it correct record 4?"),
+            ("the same twice", [first, first, fixed], [("6.4", "C")], "2 results are left out, corrected further on"),
+            ("a rerun after it", [first, fixed, result("7.0")], [("6.4", "C"), ("7.0", "F")], "1 result is left out"),
+        ):
+            store = self.path(f"which {name}.db")
+            keep(store, [told(*rows)])
+            status, said, found, held = self.deliver(store, name, "oru", "--lines", self.path("which.lines"))
+            self.same(name, ([each for _, results in found for each in results], len(held)), (wanted, int(not wanted)))
+            self.has(f"{name}: why", said, why)
+
+    def test_again_in_an_order(self):
+        """A correction updates what it corrects, also next to another result of its test; of two results of an order no
+        one can say which it corrects, and the server refuses it."""
+        fixed, other = result("6.4", "C", LATE), result("7.0", at=FIRST)
+        for name, bodies, wanted, refused in (
+            ("next to it", [GOOD, told(fixed, other)], ("GLU", "6.4", "corrected"), []),
+            ("of two", [told(result("5.4"), other), told(fixed)], ("GLU", "5.4", "final"), [2]),
+        ):
+            found = self.on_server(name, bodies)
+            self.same(f"{name}: the server has", found, ([wanted, ("GLU", "7.0", "final")], refused, 0))
+
     def test_bounds(self):
         """As many messages as that are looked at, by a delivery that begins late; and no others."""
         store, others = self.path("bounds.db"), [told(result(str(at)), sample=f"S{at}") for at in range(6)]
@@ -339,13 +477,14 @@ class Plan:
 
     def __init__(self, rng, number, come):
         self.line, self.old, sample = rng.choice(("a", "b")), set(), f"S{number // 12 - rng.randrange(4)}"
-        patient, rows = rng.choice(("", "1", "1", "1", "2")), []
+        patient, rows, before = rng.choice(("", "1", "1", "1", "2")), [], []
         for at in range(1, rng.choice((1, 1, 2, 3)) + 1):
             test, value, time = rng.choice("GK"), str(rng.randrange(3)), rng.choice((EARLY, LATE, ""))
             is_correction = rng.random() < 0.1
             others = come.setdefault((self.line, sample, test), [])
             if is_old(others, patient, (value, time), is_correction):
-                self.old.add(at)
+                self.old.update([at, *(one for one, of in before if of == test)] if is_correction else [at])
+            before += [] if is_correction else [(at, test)]
             others.append((patient, (value, time), is_correction))
             rows.append(f"R|{at}|^^^{test}|{value}|||||{'C' if is_correction else rng.choice('FR')}||||{time}")
         self.body = message(f"P|1|{patient}", f"O|1|{sample}", *rows, header=f"H|\\^&|||A|||||||P|1|{FIRST}{number:06}")

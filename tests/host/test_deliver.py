@@ -7,6 +7,7 @@ import io
 import os
 import random
 import resource
+import select
 import shutil
 import signal
 import socket
@@ -159,11 +160,21 @@ class Deliver(HostTest):
             out.write("[fire]\nlisten = 1\nletters = mark\n")
         done, files, held = self.deliver("letters", [body], "--format", "oru", "--lines", self.path("letters.lines"))
         self.same("it goes out", (done.returncode, held), (0, []))
+        _, (table,), _ = self.deliver("rows", [body], "--format", "csv", "--lines", self.path("letters.lines"))
+        (row,) = csv.DictReader(io.StringIO(table))
         with open(self.path("letters.lines"), "w", encoding="ascii") as out:
             out.write("[fire]\nlisten = 1\nencoding = utf-8\n")
         done, right, _ = self.deliver("right", [body, GOOD], "--format", "oru", "--lines", self.path("letters.lines"))
         self.true("in the line's encoding now", done.returncode == 0 and "|\xb5mol/L|" in right[0], str(right))
-        self.has("with a mark", files[0], "NTE|1|L|its letters are those of UTF-8, and the line's encoding is latin-1")
+        _, (other,), _ = self.deliver("right rows", [body], "--format", "csv", "--lines", self.path("letters.lines"))
+        self.same("in a table too", [one["unit"] for one in csv.DictReader(io.StringIO(other))], ["\xb5mol/L"])
+        mark = "its letters are those of UTF-8, and the line's encoding is latin-1"
+        self.has("with a mark", files[0], f"NTE|1|L|{mark}")
+        with open(self.path("letters.codes"), "w", encoding="utf-8") as out:
+            out.write("analyzer,laboratory,unit\nA,\xc4,\xb5g\n")
+        _, files, held = self.deliver("mapped", [body], "--format", "oru", "--codes", self.path("letters.codes"))
+        self.same("whatever letters a mapping has", (files, [one.why for one in held]), ([], [mark]))
+        self.same("in a table too", row["mark"], mark)
 
     def test_left_out(self):
         """What has nothing to hand over isn't counted as delivered; what is left out is counted."""
@@ -181,22 +192,27 @@ class Deliver(HostTest):
         """What is left out is counted once, when its message is delivered, however often that is tried; not of one in
         quarantine, and not of another line's."""
         store, cursor = self.path("once.db"), self.path("once.cursor")
+
+        def count():
+            return deliver.read_state(cursor).counts.get("orders left out, without a result", 0)
+
         for at, line in enumerate(("fire", "other", "fire", "other")):
             body = message("P|1", f"O|1|S{at}||^^^GLU", "R|1|^^^A|1", f"O|2|T{at}||^^^K")
             test_corrected.keep(store, [body], line)
-        one = Scripted(lambda at, key: ack(b"AE" if at < 3 else b"AA", key))
+        one = Scripted(lambda at, key: ack(b"AE", key))
         self.addCleanup(one.close)
         words = ["deliver", "--store", store, "--to", f"mllp://127.0.0.1:{one.port}", "--line", "fire", "--cursor"]
         done = lislab(*words, self.path("once.other"), "--once", "--quarantine", "2")
         self.same("all tries but the last one fail", (done.returncode, len(one.taken)), (1, 1))
         delivery = process(["-m", "lislab", *words, cursor])
         self.true("it fails", wait_for(lambda: deliver.read_state(cursor).why, 30))
-        self.true("it goes", wait_for(lambda: not deliver.read_state(cursor).why, 30))
+        one.answer = lambda at, key: ack(b"AA", key)
+        self.true("it goes", wait_for(lambda: len(set(one.taken)) == 2 and count() >= 2, 30))
         delivery.terminate()
         self.same("it ends", delivery.wait(30), 128 + signal.SIGTERM)
-        name = "orders left out, without a result"
-        self.same("counted once", deliver.read_state(cursor).counts[name], 2)
-        one.answer = lambda at, key: ack(b"AE" if at == 5 else b"AA", key)
+        self.same("counted once", count(), 2)
+        first = len(one.taken) + 1
+        one.answer = lambda at, key: ack(b"AE" if at == first else b"AA", key)
         done = lislab(*words, self.path("once.third"), "--once", "--quarantine", "1")
         wrong = lislab(*words, self.path("once.wrong"), "--once", "--line", "ifre")
         self.same("a line that isn't there is said", wrong.stderr.splitlines()[0],
@@ -479,14 +495,16 @@ class Answers(HostTest):
         """An answer is that of the message before it, whatever comes before the answer or after it; the reason has no
         words of the server."""
         fine, bad = (f"HTTP/1.1 {status}\r\nContent-Length: 0\r\n\r\n".encode() for status in ("200 OK", "400 Bad"))
-        for name, answers in (("announced", [[b"HTTP/1.1 102 Processing\r\n\r\n", fine], [bad], [fine]]),
-                              ("before it is asked", [[fine, bad], [bad, fine], [fine]])):
+        for name, has_more, answers in (
+            ("announced", False, [[b"HTTP/1.1 102 Processing\r\n\r\n", fine], [bad], [fine]]),
+            ("before it is asked", True, [[fine, bad], [bad, fine], [fine, bad]]),
+        ):
             raw = Kept(*answers, pause=0.2)
             one = https.Https(f"http://127.0.0.1:{raw.port}/", 60.0, https.context_of(None))
             found = []
-            for _ in range(3):
+            for _ in answers:
                 found.append(self.told_of(one)[2])
-                time.sleep(0.5)
+                select.select([one._line.sock] if has_more else [], [], [], 60 if has_more else 0)
             self.same(name, (found, len(raw.heads)), (["", "400 Bad Request", ""], 3))
             raw.socket.close()
         self.same("no words of the server", self.told(Raw(b"Doe^Jane\r\n\r\n"))[2], "an answer that can't be read")

@@ -39,7 +39,9 @@ def tube_of(data, one):
 
 def bundle_of(one, wishes=oru.Wishes(), **reading):
     """A message as a Bundle, by the settings of its line."""
-    return fhir.bundle_of(Told(Coded(one, Reading(**reading))), wishes)
+    told = Told(Coded(one, Reading(**reading)))
+    told.leave_out_corrected()
+    return fhir.bundle_of(told, wishes)
 
 
 class Fhir(HostTest):
@@ -118,6 +120,9 @@ class Fhir(HostTest):
         self.same("a correction", (request["method"], request["url"], names[1]),
                   ("PUT", f"Observation?identifier=urn:lislab:test|{first[1][1]}", first[1][1]))
         self.true("another patient's", not set(named(*timed, identity="4712")[1]) & set(first[1]))
+        for more in ("4711|||Doe^Jane", "4711|L7"):
+            self.same(f"the patient's: {more}", named(*timed, identity=more), first)
+        self.true("of one whose name is that", not set(named(*timed, identity="|||4711")[1]) & set(first[1]))
         rows = ("^^^16^GLU^UNDILUTED^P^lot 1|5.4|mmol/L", "^^^16^GLU^1:5^P^lot 1|5.4|mmol/L",
                 "^^^16^GLU^UNDILUTED^P^lot 2|5.4|mmol/L", "^^^16^GLU^UNDILUTED^P^lot 1|97|mg/dL",
                 "^^^17^K^UNDILUTED^P^lot 1|5.4|mmol/L")
@@ -206,7 +211,8 @@ class Fhir(HostTest):
             self.true("of another time", later["DiagnosticReport"] != first["DiagnosticReport"])
         rows = ["O|1|S7", "R|1|^^^A|1|||||C", "R|2|^^^B|1", "O|2|S7", "R|1|^^^A|2|||||C", "R|2|^^^B|2|||||C"]
         twice = self.known("P|1|4711", *rows)["DiagnosticReport"]
-        self.same("two corrections in a message are two", len(set(twice)), 2)
+        self.same("of two corrections in a message the last one stays", [one[:26] for _, one in twice],
+                  ["identifier=urn:lislab:test"])
 
     def test_statuses(self):
         """The status of a report without a type is that of its results; without any it isn't final."""

@@ -163,8 +163,12 @@ class Oru(WithLibrary):
         for at, field in enumerate(("4711^7", "^^^4711", "4711^^^H^MR^x", "4711\\4712", "|^4711", "||4711^^M10"), 3):
             body = stored(message(f"P|1|{field}", "O|1|S7", "R|1|^^^A|1"))
             self.raises(f"which part of {field} is it?", Quarantined, lambda body=body: oru_of(body))
-        body = stored(message("P|1|4711^S7", "O|1|", "R|1|^^^A|1"))
-        self.true("it has the sample too", b"||S7|" in oru_of(body, sample="P.3.2"))
+        for field, sample, wanted in (("4711^S7", "P.3.2", ["4711"]), ("S7", "P.3", [""]), ("S7^x", "P.3.1", [""]),
+                                      ("S7", "P.3.1", [""]), ("4711^^^S7^MR", "P.3.4", ["4711^^^^MR"])):
+            body = stored(message(f"P|1|{field}|||Doe", "O|1|", "R|1|^^^A|1"))
+            rows = told.segments_of(oru_of(body, sample=sample))[0]
+            found = [one[3] for one in rows if one[0] in ("PID", "OBR")]
+            self.same(f"{field} without the sample", found, [*wanted, "S7"])
         control = stored(message("P|1|QC^7", "O|1|S7|||||||||Q", "R|1|^^^A|1"))
         self.true("that of a control isn't looked at", b"OBR|1||S7|" in oru_of(control))
 

@@ -249,7 +249,7 @@ class Codes:
         body = b"".join([row.text + b"\r" for row in rows])
         is_read = not body.translate(None, _TEXT) and all(len(row.text) <= RECORD_BYTES for row in rows)
         message = Message(rows, one.encoding) if is_read else None  # who reads the text is told what is wrong
-        return Coded(one._replace(body=body), reading, codings, left_out, message)
+        return Coded(one._replace(body=body), reading, codings, left_out, message, one.body)
 
     def _order(self, entry: Entry, one: Stored, number: int, codings: Dict[Tuple[int, int], Coding]) -> Row:
         """The order with the laboratory's codes of its tests, as far as it has some."""

@@ -5,7 +5,7 @@ import functools
 import re
 import zoneinfo
 from collections import Counter
-from typing import Dict, Iterator, List, Mapping, NamedTuple, Optional, Tuple
+from typing import Dict, Iterator, List, Mapping, NamedTuple, Optional, Set, Tuple
 
 from lislink.letters import UTF_8, looks_like
 from lislink.message import Entry, Message
@@ -21,6 +21,8 @@ from .unix import shown
 _TIME = re.compile(r"(\d{4})(\d\d)(\d\d)(?:(\d\d)(?:(\d\d)(\d\d)?)?)?$", re.ASCII)
 #: Report types of an order (LIS02-A2, 9.4.26) that say something of it, also without a result.
 REPORTS = "CPFXIYZ"
+#: A C by itself that begins no record, as each correction has it; an escape that has a C.
+_CORRECTION, _ESCAPED = re.compile(rb"C(?<![0-9A-Za-z\r]C)(?![0-9A-Za-z])"), re.compile(rb"X[0-9A-Fa-f]*43")
 #: The fields of a patient's identities. The most records of a message.
 IDENTITIES, MOST_RECORDS = (3, 4, 5), 250_000
 
@@ -57,6 +59,8 @@ class Coded(NamedTuple):
     codings: Mapping[Tuple[int, int], Coding] = {}
     left_out: int = 0
     message: Optional[Message] = None
+    #: Its bytes as they came, if the mapping changed them.
+    came: bytes = b""
 
 
 class Comment(NamedTuple):
@@ -142,15 +146,17 @@ class Told:
         self.marks = marks_of(self.one)
         #: The tests of results, by the records' numbers.
         self._tests: Dict[int, Tuple[str, str, Coding, str]] = {}
-        self._look_at_letters()
+        self._look_at_letters(coded.came or self.one.body)
         self.message = coded.message or message_of(self.one)
         #: How many orders are left out because they have no content; how many codes an order has twice.
         self.orders_left_out = self.twice = 0
         found = [case for entry in self.message.entries if entry.letter in "PQ" for case in self._cases(entry)]
         self.cases = [case._replace(place=place) for place, case in enumerate(found, 1)]
+        #: The records of results that are left out because the message corrects them.
+        self._corrected: Set[int] = set()
 
-    def _look_at_letters(self) -> None:
-        why = letters_fault(self.one.body, self.one.encoding)
+    def _look_at_letters(self, body: bytes) -> None:
+        why = letters_fault(body, self.one.encoding)
         if why and self.reading.letters != LETTERS[1]:
             raise Quarantined(why)
         self.has_other_letters = bool(why)
@@ -170,15 +176,15 @@ class Told:
             yield Case(None, controls, [])
 
     def _check_patient(self, record: Entry) -> None:
-        """Whether the identities are sure; one in which the line's setting says where the sample is may have more."""
+        """Whether the identities are sure."""
         for field in IDENTITIES:
-            why = identity_of(record, field)[1]
-            if why and not self.reading.sample.startswith(f"P.{field}."):
+            why = identity_of(record, field, self.reading)[1]
+            if why:
                 raise Quarantined(f"patient, record {record.number} of the message: {why}")
 
     def _ordered(self, record: Entry, above: Entry) -> Ordered:
         sample, why = sample_of(record, above, self.reading)
-        if not why and not sample and not (above.letter == "P" and identities_of(above)):
+        if not why and not sample and not (above.letter == "P" and self.identities(above)):
             why = "neither a sample nor a patient is named"
         if why:
             raise Quarantined(f"order, record {record.number} of the message: {why}")
@@ -218,9 +224,65 @@ class Told:
             found = self._tests[entry.number] = coding.code, coding.field or "^".join(parts), coding, name
         return found
 
+    def identities(self, patient: Entry) -> Dict[int, Identity]:
+        """A patient's identities by their fields."""
+        return identities_of(patient, self.reading)
+
+    def who(self, case: Case) -> List[str]:
+        """Whose results these are: the first identity of a patient, and without one its name; nobody's if there is
+        neither."""
+        if case.patient is None:
+            return []
+        for one in self.identities(case.patient).values():
+            return [one.value + (f"^{one.authority}" if one.authority else "")]
+        name = parts_of(case.patient, 6)
+        return ["", *name] if name else []
+
+    def tested(self, case: Case, order: Ordered, code: str, field: str) -> List[str]:
+        """What a result has in common with its correction: the sample, whose it is, the code; and the whole field if
+        the line's results of one code may be out of several fields, each of which is another result. Without a sample
+        or a patient who is named it is that of no other order or patient."""
+        sample, who = order.sample or f"record {order.record.number}", self.who(case) or [f"case {case.place}", ""]
+        return [sample, *who, "", code, *([field] if self.reading.twice == TWICE[1] else [])]
+
+    def leave_out_corrected(self) -> int:
+        """Leaves out the results that a correction further on in the message replaces, because a receiver would keep
+        both, and the orders that have no others: how many results. `Quarantined` if it isn't sure which one it is."""
+        fixed, gone = {}, {}  # type: Dict[Tuple[str, ...], Entry], Dict[Tuple[str, ...], Entry]
+        orders = [(case, order) for case in self.cases for order in case.orders] if may_correct(self.one.body) else []
+        for case, order in orders[::-1]:
+            for entry in order.record.results[::-1]:
+                is_correction = field_text(entry, 9) == "C"
+                test = tuple(self.tested(case, order, *self._test(entry)[:2])) if fixed or is_correction else ()
+                if test in fixed:
+                    other = entry if is_correction else gone.setdefault(test, entry)
+                    self._check_correction(fixed[test], entry, other)
+                    self._corrected.add(entry.number)
+                if is_correction:
+                    fixed.setdefault(test, entry)
+        if self._corrected:
+            cases = [case._replace(orders=[one for one in case.orders if self._is_left(one)]) for case in self.cases]
+            self.cases = [case for case in cases if case.orders]
+        return len(self._corrected)
+
+    def _check_correction(self, by: Entry, result: Entry, other: Entry) -> None:
+        """Whether a correction corrects a result, and no other one that says something else."""
+        is_sure = self._test(by)[1] == self._test(result)[1]
+        if not is_sure or any(content_of(result, number) != content_of(other, number) for number in (4, 5)):
+            which = f"does it correct record {result.number}" + (f" or {other.number}?" if is_sure else "?")
+            raise Quarantined(f"result, record {by.number} of the message: {which}")
+
+    def _is_left(self, order: Ordered) -> bool:
+        return not order.record.results or any(one.number not in self._corrected for one in order.record.results)
+
+    def came(self, order: Ordered) -> List[Result]:
+        """All results of an order, also those that are left out."""
+        return [self._result(entry, self._test(entry), 0) for entry in order.record.results]
+
     def results(self, order: Ordered) -> Iterator[Result]:
         """The results of an order."""
-        found = [(entry, self._test(entry)) for entry in order.record.results]
+        entries = (entry for entry in order.record.results if entry.number not in self._corrected)
+        found = [(entry, self._test(entry)) for entry in entries]
         total, turns = Counter(test[0] for _, test in found), Counter()  # type: Counter[str], Counter[str]
         for entry, test in found:
             turns[test[0]] += 1
@@ -270,6 +332,11 @@ class Told:
         return moment.replace(tzinfo=zoneinfo.ZoneInfo(self.reading.zone)).isoformat()
 
 
+def may_correct(body: bytes) -> bool:
+    """Whether a message may have a correction."""
+    return _CORRECTION.search(body) is not None or _ESCAPED.search(body) is not None
+
+
 def is_control(message: Message, order: Entry) -> bool:
     """Whether an order, or the whole message, is a control, and no sample of a patient."""
     return "Q" in (order.text(12).strip().upper(), message.header.text(12).strip().upper())
@@ -281,23 +348,28 @@ def report_of(order: Entry) -> str:
     return word if len(word) == 1 and word in REPORTS else ""
 
 
-def identities_of(patient: Entry) -> Dict[int, Identity]:
+def identities_of(patient: Entry, reading: Reading = Reading()) -> Dict[int, Identity]:
     """A patient's identities by their fields: the practice's (3), the laboratory's (4), and the third (5)."""
-    found = {field: identity_of(patient, field)[0] for field in IDENTITIES}
+    found = {field: identity_of(patient, field, reading)[0] for field in IDENTITIES}
     return {field: one for field, one in found.items() if one.value}
 
 
-def identity_of(patient: Entry, field: int) -> Tuple[Identity, str]:
+def identity_of(patient: Entry, field: int, reading: Reading = Reading()) -> Tuple[Identity, str]:
     """An identity of a patient, and why it isn't sure. Of components, as those of CX in HL7, the first one is the
-    identity, the fourth its authority, the fifth its type; with any other one no one can say which it is."""
-    plain = patient.row.plain(field)
+    identity, the fourth its authority, the fifth its type; with any other one no one can say which it is. The component
+    or field that is the line's sample is no part of it, and if the rest isn't sure, there is no identity."""
+    letter, number, component = (*reading.sample.split("."), "", "")[:3]
+    is_sample = (letter, number) == ("P", str(field))
+    plain = None if is_sample else patient.row.plain(field)
     if plain is not None:
         return Identity(plain.decode(patient.encoding, "replace").strip()), ""
     parts = parts_of(patient, field)
+    if is_sample:
+        parts = [one if component and at != int(component) else "" for at, one in enumerate(parts, 1)]
     value, check, scheme, authority, kind, *others = [*parts, *[""] * (5 - len(parts))]
     is_one = len(patient.row.field(field)) == 1 and (value or not parts) and not (check or scheme or any(others))
-    if is_one:
-        return Identity(value, authority, kind), ""
+    if is_one or is_sample:
+        return Identity(value, authority, kind) if is_one else Identity(""), ""
     return Identity(_whole(patient, field)), f"which part of P-{field} is the patient's identity?"
 
 

@@ -3,31 +3,27 @@ goes by what comes last would have the old one as the final one. So they are lef
 import array
 import bisect
 import contextlib
-import re
 from typing import Callable, Counter, Dict, FrozenSet, Iterator, List, NamedTuple, Optional, Set, Tuple
 
 from lislink.message import Entry
 from lislink.records import MessageError, Reader
 from ..model.failures import Quarantined
 from ..model.results import Reading, code_of, content_of, field_text, first_text, has_clock, identities_of
-from ..model.results import in_its_letters, parts_of, time_of
+from ..model.results import in_its_letters, may_correct, parts_of, time_of
 from ..model.said import many
 from ..model.samples import sample_or_patient, samples_of
 from ..model.store import COMPLETE, Store, Stored
 from .ahead import SMALL
 from .deliver import Target
-from .export import Form, Writer, writer_of
+from .export import CORRECTED, Form, Writer, writer_of
 
 #: Among how many messages before one corrections are looked for, and the results that these correct. Of how many
 #: samples the corrections are held in memory, and how many results of such samples.
 LOOKED, MOST, RESULTS = 50_000, 10_000, 100_000
-#: A C by itself that begins no record, as each correction has it; blanks for what is in no word.
-_CORRECTION = re.compile(rb"C(?<![0-9A-Za-z\r]C)(?![0-9A-Za-z])")
+#: Blanks for what is in no word.
 _WORDS = bytes(one if chr(one).isalnum() and one < 128 else 32 for one in range(256))
 #: When an order was requested, and its sample collected and received; when its results were reported.
 _TIMES, _REPORTED = (7, 8, 15), 23
-#: What is counted.
-COUNTED = "results left out, corrected since"
 #: The number of a message and that of a record in it. A line and a sample of it, or a patient without a sample.
 Place = Tuple[int, int]
 Key = Tuple[str, str]
@@ -52,6 +48,10 @@ class _Result(NamedTuple):
     def may_be_of(self, patient: FrozenSet[str]) -> bool:
         """Whether it may be a result of this patient: one of the two has no identity, or they share one."""
         return not (patient and self.patient) or bool(patient & self.patient)
+
+    def is_of(self, one: "_Result") -> bool:
+        """Whether it may be a result of the same test as another one."""
+        return (self.key, self.test) == (one.key, one.test) and self.may_be_of(one.patient)
 
     def says(self, one: "_Result") -> bool:
         """Whether it says the same as another result."""
@@ -93,7 +93,7 @@ def _result_of(place: Place, line: str, records: Tuple[Entry, Entry, Entry, Entr
     return _Result(
         place,
         (line, sample_or_patient(order, above, reading)),
-        frozenset(one.value for one in identities_of(above).values()) if above.letter == "P" else frozenset(),
+        frozenset(one.value for one in identities_of(above, reading).values()) if above.letter == "P" else frozenset(),
         code_of(entry, 3, reading),
         tuple(value),
         tuple(times),
@@ -158,17 +158,21 @@ class Corrections:
 
     def __init__(self, store: Store, reading: Callable[[str], Reading], header_time: Optional[bool]) -> None:
         self._store, self._reading, self._header_time = store, reading, header_time
+        #: What is left out of a message, by its key, and how many results.
+        self._left: Dict[str, Tuple[str, int]] = {}
+        self._forget()
+
+    def _forget(self) -> None:
+        """Forgets the messages that were looked at."""
         #: All messages after the first number and up to the second one were looked at.
         self._first = self._last = -1
-        #: The corrections of each sample, in order; a word of each of these samples, which its messages have; all words.
+        #: The corrections of each sample, in order; a word of each sample, which its messages have; all these words.
         self._found: Dict[Key, List[_Result]] = {}
         self._word_of: Dict[Key, bytes] = {}
         self._words: Set[bytes] = set()
-        self._samples = _Samples(store, reading)
+        self._samples = _Samples(self._store, self._reading)
         self._histories: Dict[Key, _History] = {}
         self._held = 0
-        #: What is left out of a message, by its key, and how many results.
-        self._left: Dict[str, Tuple[str, int]] = {}
         #: How the records of lines were read.
         self._readings: Dict[str, Reading] = {}
 
@@ -186,14 +190,13 @@ class Corrections:
             yield one
 
     def _renew(self, one: Stored) -> None:
-        """Looks at all messages up to this one anew if the settings of its line have changed: samples and tests may have
-        other names by them."""
+        """Looks at all messages up to this one anew if the settings of its line have changed, because samples and tests
+        may have other names by them."""
         reading, number = self._reading(one.line), one.number or 0
         if self._readings.setdefault(one.line, reading) == reading:
             return
-        self._found, self._word_of, self._words, self._readings = {}, {}, set(), {one.line: reading}
-        self._samples, self._histories, self._held = _Samples(self._store, self._reading), {}, 0
-        self._first = self._last = -1
+        self._forget()
+        self._readings[one.line] = reading
         self._look(number - 1, number)
 
     def _look(self, first: int, last: int) -> None:
@@ -210,7 +213,7 @@ class Corrections:
     def _note(self, one: Stored) -> None:
         """Looks at a message."""
         self._last = max(self._last, one.number or 0)
-        if _CORRECTION.search(one.body) is None and b"X43" not in one.body:
+        if not may_correct(one.body):
             return
         for result in _results_of(one, self._reading(one.line)):
             if result.is_correction:
@@ -259,6 +262,10 @@ class Corrections:
                 self._left[one.key] = f"message {number} {one.key} is left out: {why}", 0
                 return one._replace(body=b"")
         old = {each.place[1]: self._undone(each) for each in results}
+        for by in [each for each in results if each.is_correction and old[each.place[1]]]:
+            for each in results:  # what an old correction corrects in its own message is old too
+                if each.place < by.place and not each.is_correction and each.is_of(by):
+                    old[each.place[1]] = old[by.place[1]]
         records = {record for record, undone in old.items() if undone}
         if not records:
             return one
@@ -270,8 +277,7 @@ class Corrections:
     def _undone(self, one: _Result) -> int:
         """The number of the message that corrects a result, if the result is old; else 0. `Quarantined` if no one can
         say whether it is."""
-        found = (each for each in reversed(self._found[one.key]) if each.place < one.place and each.test == one.test)
-        before = (each for each in found if each.may_be_of(one.patient))
+        before = (each for each in reversed(self._found[one.key]) if each.place < one.place and each.is_of(one))
         last = next(before, None)
         if last is None:
             return 0
@@ -327,13 +333,18 @@ def _without(one: Stored, records: Set[int]) -> bytes:
 
 
 def without(target: Target, corrections: Corrections, counts: "Counter[str]", say: Callable[[str], None]) -> Target:
-    """Delivers messages of which something was left out as others, and then says so."""
+    """Delivers messages of which something was left out as others, and then says so; also of what the form leaves out
+    because its own message corrects it."""
 
     def deliver(one: Stored) -> bool:
+        before = counts[CORRECTED]
         is_handed = target(one)
-        text, count = corrections.said(one.key)
+        own, (text, count) = counts[CORRECTED] - before, corrections.said(one.key)
+        if own:
+            left = many(own, "result is", "results are")
+            say(f"message {one.number} {one.key}: {left} left out, corrected further on in it")
         if text:
-            counts[COUNTED] += count
+            counts[CORRECTED] += count
             say(text)
         return is_handed
 

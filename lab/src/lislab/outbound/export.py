@@ -10,13 +10,17 @@ from lislink.message import Fault, read_all
 from ..field import table
 from ..model.codes import mark_of
 from ..model.failures import Quarantined
-from ..model.results import Coded, Told, code_of, content_of, field_text, identities_of, is_control, sample_of
+from ..model.options import LETTERS
+from ..model.results import Coded, Told, code_of, content_of, field_text, identities_of, is_control, letters_fault
+from ..model.results import sample_of
 from ..model.store import COMPLETE, INCOMPLETE, INVALID, Store, Stored
 from . import fhir, oru
 from .oru import Wishes
 from .tables import Tables
 
 FORMATS = ("records", "json", "csv", "tsv", "oru", "fhir")
+#: What is counted of results that corrections replace.
+CORRECTED = "results left out, corrected since"
 #: What makes the bytes of a message; of None those at the head of all.
 Writer = Callable[[Optional[Stored]], bytes]
 #: The columns of a table before those of a result, and after them; the last one of all is `control`, Q for a control.
@@ -76,8 +80,8 @@ class Form(NamedTuple):
     wishes: Optional[Wishes] = None
     #: Whether a table is kept back too, as the forms of HL7 are, if a result has no sample or no test.
     is_strict: bool = True
-    #: What was left out, and what else is to be looked at, is counted here; or first by the keys of the last two messages
-    #: that were written, if it counts only once they are delivered.
+    #: How many results and orders were left out, and how many messages somebody should look at. A delivery counts these
+    #: only once a message is delivered: until then `written` has them, by the keys of the last two messages.
     counts: "Counter[str]" = Counter()
     written: Optional[Dict[str, "Counter[str]"]] = None
     #: The message as it came, if results were left out of what is written.
@@ -131,6 +135,8 @@ def _told(form: Form, coded: Coded) -> Told:
     if form.form in ("csv", "tsv"):  # a table has rows of results alone
         orders = [order for case in told.cases for order in case.orders]
         counts["orders left out, without a result"] += sum(not order.record.results for order in orders)
+    else:
+        counts[CORRECTED] += told.leave_out_corrected()
     counts["tests twice in an order, with different values"] += told.twice
     counts["messages with letters of another encoding"] += told.has_other_letters
     if form.written is None:
@@ -157,9 +163,12 @@ def _table_writer(form: Form, coded: Callable[[Stored], Coded]) -> Writer:
             _told(form, message)
         columns = [*table.columns_of(list(form.fields), usual=_usual(message)), *more, control]
         own = ["" if one.number is None else str(one.number), one.line, time_text(one.ended), one.again_of or ""]
-        found = table.rows_of(message.one.body, columns, one.encoding)
+        found = table.rows_of(message.one.body, columns, message.one.encoding)
         wanted = {"with": ("", "Q"), "without": ("",), "only": ("Q",)}[form.controls]
         told = [row for row, _ in found if row and row[-1] in wanted]
+        letters = letters_fault(one.body, message.one.encoding) if message.reading.letters == LETTERS[1] else ""
+        for row in told if letters else ():
+            row[-2] = "; ".join(filter(None, [row[-2], letters]))  # the mark
         fixed = one.reason if one.state == COMPLETE else ""
         cells = ([*own, *row[:-1], fixed, row[-1]] for row in told)
         return "".join(line(_harmless(row) if form.safe else row) for row in cells).encode()
@@ -174,7 +183,7 @@ def _usual(coded: Coded) -> Dict[str, Callable[[table.Where], str]]:
     def patient(where: table.Where) -> str:
         if where[1].letter != "P" or is_control(where[0], where[2]):
             return ""
-        return next((one.value for one in identities_of(where[1]).values()), "")
+        return next((one.value for one in identities_of(where[1], coded.reading).values()), "")
 
     def test(where: table.Where) -> str:
         coding = coded.codings.get((where[3].number, 0))

@@ -13,7 +13,7 @@ from urllib.parse import quote
 from lislink.message import Entry
 from ..model.numbers import Number, number_of, range_of
 from ..model.results import Case, Coding, Identity, Ordered, Result, Told
-from ..model.results import field_text, has_clock, identities_of, parts_of, report_of
+from ..model.results import field_text, has_clock, parts_of, report_of
 from .oru import CONTROL, Wishes, specimen_of
 
 #: The systems of identifiers: of a message, of a result, of a sample's test, of a sample and of an order.
@@ -134,7 +134,8 @@ class _Made:
         for order in case.orders:
             results = list(self._told.results(order))
             specimen = self._specimen(case, order, subject)
-            came = self._came(case, order) or results
+            all_came = len(results) == len(order.record.results)
+            came = self._came(case, order) or (results if all_came else self._told.came(order))
             one = _About(case, order, subject, specimen, self._request(case, order, came, subject, specimen))
             urls = [self._observation(one, each) for each in results]
             if not results and report_of(order.record):
@@ -148,7 +149,7 @@ class _Made:
         others = [(each, one) for each in self._whole.cases for one in each.orders]
         same = [one for each, one in others if _text(each.patient) == _text(case.patient)]
         same = [one for one in same if _text(one.record) == _text(order.record)]
-        return [result for one in same for result in self._whole.results(one)]
+        return [result for one in same for result in self._whole.came(one)]
 
     def _own(self, system: str, value: str, *more: Data, updates: bool = False) -> _Name:
         """The name of what is known by an identifier of this host's; it is updated unless the message is a repeat."""
@@ -158,7 +159,7 @@ class _Made:
     def _name(self, case: Case, order: Ordered, test: List[str], at: str = "", value: str = "") -> _Name:
         """The name of a result. It depends on its time; without a time of day on its value, and on what else says which
         of two results of the test it is. It doesn't depend on the message in which it came."""
-        known = [self._told.one.line, order.sample, *_who(case), "", *test]
+        known = [self._told.one.line, order.sample, *self._told.who(case), "", *test]
         known += [at] if has_clock(at) else ["", at, value, *self._when(order)]
         return self._own(_OF_RESULT, _digest(*known, str(self._turn(*known))), updates=True)
 
@@ -177,15 +178,13 @@ class _Made:
     def _result_name(self, case: Case, order: Ordered, result: Result) -> _Name:
         """The identifier of a result, and of its test, by which a correction finds the result that it corrects, also if
         it comes from another dilution or reagent, or in another unit."""
-        who = _who(case)
         name = self._name(case, order, [result.field, result.code, result.unit], result.at, result.value)
-        if not (who and order.sample and result.turn == 0):
+        if not (self._told.who(case) and order.sample):
             return name
-        of = _digest(self._told.one.line, order.sample, *who, "", result.code)
-        # A server that has two of the test rejects this. What a correction updated has its own identifier after that, by
-        # which its repeat finds it.
-        is_first = result.status == "C" and self._told.one.again_of is None and not self._turn(of)
-        return self._also(name, of, is_first)
+        of = _digest(self._told.one.line, *self._told.tested(case, order, result.code, result.field))
+        # A server that has two of the test rejects this. What a correction updated has the identifier of the correction
+        # after that, by which its repeat finds it.
+        return self._also(name, of, result.status == "C" and self._told.one.again_of is None)
 
     @staticmethod
     def _also(name: _Name, test: str, is_correction: bool) -> _Name:
@@ -204,7 +203,7 @@ class _Made:
         without one by its name."""
         if case.patient is None:
             return None
-        identities, (family, *given) = identities_of(case.patient), [*parts_of(case.patient, 6), ""]
+        identities, (family, *given) = self._told.identities(case.patient), [*parts_of(case.patient, 6), ""]
         shown = " ".join(filter(None, [*given, family]))
         if not identities:
             return {"type": "Patient", "display": shown} if shown else None
@@ -227,7 +226,7 @@ class _Made:
         name = _Name([number], _search(system, order.sample))
         whose = self._whose.setdefault(order.sample, (subject, order.control))
         if "system" not in number or whose != (subject, order.control):  # two of one number are two, whatever is set
-            what = [told.one.line, order.sample, *_who(case), "Q" if order.control else "", record.text(8).strip()]
+            what = [told.one.line, order.sample, *told.who(case), "Q" if order.control else "", record.text(8).strip()]
             name = self._own(_OF_SAMPLE, _digest(*what), {"value": order.sample})
         taken, (code, text) = told.iso(record.text(8)), specimen_of(record)
         coding: Data = {"coding": [{"system": f"{_TERMS}v2-0487", "code": code}]} if code else {}
@@ -252,7 +251,7 @@ class _Made:
         told, record = self._told, order.record
         tests = order.tests or [Coding(one.code, one.system) for one in results]
         codes, physician = list(dict.fromkeys(one.code for one in tests)), " ".join(filter(None, parts_of(record, 17)))
-        ordered = [told.one.line, order.sample, *_who(case), "", *codes, record.text(7).strip()]
+        ordered = [told.one.line, order.sample, *self._told.who(case), "", *codes, record.text(7).strip()]
         name = self._own(_OF_ORDER, _digest(*ordered), updates=True)
         made: Data = {
             "resourceType": "ServiceRequest",
@@ -341,7 +340,7 @@ class _Made:
             return name
         of = _digest("report", *sorted(one[1]["value"] for one in found))
         is_correction = any(_OF_TEST in self._searches[url] for url in urls)
-        return self._also(name, of, is_correction and not self._turn(of))
+        return self._also(name, of, is_correction)
 
     def _report(self, about: _About, results: List[Result], urls: List[str]) -> None:
         """A DiagnosticReport of an order."""
@@ -386,14 +385,6 @@ def _text(record: Optional[Entry]) -> bytes:
 def _digest(*texts: str) -> str:
     """One text for all of these."""
     return hashlib.sha256(json.dumps(texts).encode()).hexdigest()[:32]
-
-
-def _who(case: Case) -> List[str]:
-    """What says whose something is: the identities and the name of a patient."""
-    if case.patient is None:
-        return []
-    found = identities_of(case.patient).values()
-    return [*(one.value + (f"^{one.authority}" if one.authority else "") for one in found), *parts_of(case.patient, 6)]
 
 
 def _identifier(one: Identity, authority: str) -> Data:

@@ -12,7 +12,7 @@ from lislink.message import Entry
 from ..model.numbers import number_of, range_of
 from ..model.options import OptionError
 from ..model.results import Case, Coding, Comment, Identity, Ordered, Result, Told
-from ..model.results import field_text, identities_of, parts_of, report_of
+from ..model.results import field_text, parts_of, report_of
 
 #: Status of a result (LIS02-A2, 9.5.9) as that of HL7 table 0085. A letter that isn't here is P, with a comment: HL7
 #: has another meaning for some of them.
@@ -157,7 +157,7 @@ def _segments(told: Told, case: Case, wishes: Wishes) -> Iterator[str]:
     to, kind, rest = _head(one.line, mode if mode in ("D", "T") else "P", tuple(wishes.header.items()))
     time_of_it = _stamp(one.began if one.ended is None else one.ended)
     yield f"{to}|{time_of_it}||{kind}|{control_id(one.key, case.place)}|{rest}\r"
-    yield from _patient(case, wishes)
+    yield from _patient(told, case, wishes)
     marks = [Comment("L", mark) for mark in told.marks]
     reports = [(order, list(told.results(order))) for order in case.orders]
     if wishes.obr == "sample":
@@ -188,10 +188,10 @@ def _stamp(at: float) -> str:
     return f"{year:04}{month:02}{day:02}{hour:02}{minute:02}{second:02}{sign}{hours:02}{minutes:02}"
 
 
-def _patient(case: Case, wishes: Wishes) -> Iterator[str]:
+def _patient(told: Told, case: Case, wishes: Wishes) -> Iterator[str]:
     """PID and the comments on the patient; none if there is neither an identity nor a name."""
     record = case.patient
-    identities = {} if record is None else identities_of(record)
+    identities = {} if record is None else told.identities(record)
     name = [] if record is None else parts_of(record, 6)
     if record is None or not (identities or name):
         return
