@@ -259,6 +259,9 @@ FAULTS = {
     "test_corrected.Corrected.test_controls": (
         "outbound/export.py", "counts[CORRECTED] += told.leave_out_corrected()", "told.leave_out_corrected()"
     ),
+    "test_corrected.Corrected.test_comments": (
+        "outbound/export.py", "came = form.whole or coded.one.", "came = coded.one."
+    ),
     "test_corrected.Corrected.test_server": ("model/results.py", "if test in fixed:", "if False:"),
     "test_corrected.Corrected.test_another_test": (
         "model/results.py", "*([field] if self.reading.twice == TWICE[1] else [])", ""

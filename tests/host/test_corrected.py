@@ -330,6 +330,25 @@ class Corrected(Deliveries, HostTest):
                       for why in (" by --controls", ", corrected since")]
             self.same(f"{form} {which}", [[value for value, _ in found], *counts], wanted)
 
+    def test_comments(self):
+        """Comments that don't go out are counted, but for those that the code mapping makes."""
+        comment, codes = "C|1|I|haemolytic", self.path("comments.codes")
+        with open(codes, "w", encoding="ascii") as file:
+            file.write("analyzer,laboratory\nGLU,GLU\nNA,leave out\n")
+        for name, bodies, wanted in (
+            ("goes out", [told(comment, result("5.4"), K)], 0),
+            ("corrected", [told(comment, result("5.4"), comment, "O|2|A", comment, result("6.4", "C"))], 2),
+            ("an old order", [GOOD, FIXED, told(comment, result("5.4"), "O|2|A", K, comment, at=THIRD)], 1),
+            ("an old result", [GOOD, FIXED, told(comment, result("5.4"), comment, K, at=THIRD)], 1),
+            ("by the table", [told(result("140", test="NA"), comment, comment, comment, K, comment)], 3),
+        ):
+            for form, count in (("oru", wanted), ("fhir", wanted), ("csv", b"".join(bodies).count(b"\rC|"))):
+                place = f"{form} {name}"
+                keep(self.path(f"{place}.db"), bodies)
+                said = self.deliver(self.path(f"{place}.db"), place, form, "--codes", codes)[1]
+                found = [int(one) for one in re.findall("^([0-9]+) comments? left out$", said, re.M)]
+                self.same(place, sum(found), count)
+
     def test_server(self):
         """A result that its own message corrects doesn't stand beside its correction on a server of FHIR, also where the
         message is sent twice."""

@@ -1,10 +1,10 @@
 """What is handed on, as a receiver reads it: each result under its patient, its sample and its test, or not at all."""
 import random
+from collections import Counter
 
-from lislab.outbound import fhir, oru
 from lislab.model.failures import Quarantined
-from lislab.model.results import Coded, Reading, Told
-from lislab.outbound import export
+from lislab.model.results import Coded, Reading
+from lislab.outbound import export, oru
 from lislab.model.store import COMPLETE, Stored
 from tests.host import told
 from tests.host.hosts import HostTest
@@ -26,15 +26,25 @@ def message(*rows, header="H|\\^&|||Analyzer 7"):
 
 class Plan:
     """A random message, and what a person would say of it: its results by patient and sample, or why nothing may go
-    out."""
+    out; and the texts of its comments."""
 
     def __init__(self, rng, reading):
         self.rng, self.reading, self.rows, self.results, self.unsure = rng, reading, [], [], False
+        self.comments = []
         self.is_control = rng.random() < 0.05
+        self.has_comment(0.05)
         for number in range(1, rng.choice((1, 1, 2, 3)) + 1):
             self.add_patient(number)
         mode = "Q" if self.is_control else rng.choice(("P", ""))
         self.body = message(*self.rows, header=f"H|\\^&|||A^1|||||||{mode}")
+
+    def has_comment(self, often):
+        """Whether the record before has a comment, with a text that no other one has."""
+        if self.rng.random() >= often:
+            return False
+        self.comments.append(f"a comment {self.rng.randrange(10**12)}")
+        self.rows.append(f"C|1|I|{self.comments[-1]}")
+        return True
 
     def add_patient(self, number):
         """A patient with or without an identity and a name."""
@@ -47,6 +57,7 @@ class Plan:
         cells = ["P", str(number), "", "", "", rng.choice(("", "Doe^Jane"))]
         cells[field - 1] = identity + more
         self.rows.append("|".join(cells))
+        self.has_comment(0.1)
         for at in range(1, rng.choice((1, 1, 2)) + 1):
             self.add_order(at, identity, is_sure)
 
@@ -63,8 +74,8 @@ class Plan:
             fields, sample = f"2001^05^{sample}|", ""
         action = "Q" if control and not self.is_control else rng.choice(("", "N"))
         self.rows.append(f"O|{at}|{fields}|{rng.choice(('', '^^^GLU'))}|R||||||{action}")
-        count = rng.choice((0, 1, 1, 2, 4))
-        self.unsure |= count > 0 and not (sample and (is_sure or control))
+        count, has_comment = rng.choice((0, 1, 1, 2, 4)), self.has_comment(0.1)
+        self.unsure |= (count > 0 or has_comment) and not (sample and (is_sure or control))
         codes = rng.sample("ABCDEFGH", count)
         for place, letter in enumerate(codes, 1):
             self.add_result(place, letter, None if control else identity or None, sample, control)
@@ -86,74 +97,62 @@ class Plan:
         unit = rng.choice(("", "mmol/L", "10&S&9/L"))
         self.rows.append(f"R|{place}|{field}|{rng.choice(('', '  '))}{value}|{unit}|||||F")
         self.results.append((identity, control, sample, code, value.strip(), unit.replace("&S&", "^")))
-        if rng.random() < 0.2:
-            self.rows.append("C|1|I|a comment")
+        self.has_comment(0.2)
+
+
+class Tables:
+    """Those of a line, which has only settings."""
+
+    def __init__(self, reading):
+        self.reading = reading
+
+    def applied(self, one):
+        """A message by the line's settings."""
+        return Coded(one, self.reading)
 
 
 class AsTold(HostTest):
     """Random messages in each form."""
 
-    def wrong(self, seed, write, read):
-        """Which of many random messages aren't handed on as they should be: the first one, or nothing."""
+    def wrong(self, seed, form, wishes, read, comments):
+        """Which of many random messages aren't handed on as they should be, with one wish or another: the first one, or
+        nothing. `read` and `comments` are the reader's results and comments."""
         rng, count, kept_back = random.Random(seed), 0, 0
         for at in range(MANY):
-            reading = rng.choice((Reading(), Reading(), Reading(sample="O.4.3", test="5")))
+            reading, counts = rng.choice((Reading(), Reading(), Reading(sample="O.4.3", test="5"))), Counter()
             plan = Plan(rng, reading)
+            wish = wishes[len(plan.body) % len(wishes)]
+            write = export.writer_of(export.Form(form, Tables(reading), wishes=wish, counts=counts))
             try:
-                rows = read(write(stored(plan.body), reading))
+                data = write(None) + write(stored(plan.body))
             except Quarantined:
                 kept_back += 1
                 if not plan.unsure:
                     return f"{at}: kept back: {plan.body}"
                 continue
+            rows, said = read(data), set(comments(data)) & set(plan.comments)
             found = sorted((row[:1] + row[2:7] for row in rows), key=lambda one: one[4])
             wanted = sorted(plan.results, key=lambda one: one[4])
-            if plan.unsure or found != wanted:
-                return f"{at}: {found}, wanted {wanted}, of {plan.body}"
+            left = len(plan.comments) - len(said)
+            if plan.unsure or found != wanted or counts["comments left out"] != left:
+                return f"{at}: {found}, wanted {wanted}; {left} comments left out, {counts}: {plan.body}"
             count += len(rows)
         self.true("most are told, some are kept back", count > MANY and MANY // 20 < kept_back < MANY // 2,
                   f"{count} results, {kept_back} of {MANY} kept back")
         return ""
 
     def test_oru(self):
-        """As ORU."""
+        """As ORU, with an OBR for each order, test or sample."""
         kinds = [oru.wishes_of([f"obr={one}"]) for one in ("order", "test", "sample")]
-
-        def write(one, reading):
-            """With an OBR for each order, test or sample."""
-            return oru.oru_of(Told(Coded(one, reading)), kinds[len(one.body) % 3])
-
-        found = self.wrong(1, write, told.of_oru)
-        self.same("as it should be", found, "")
+        self.same("as it should be", self.wrong(1, "oru", kinds, told.of_oru, told.comments_of_oru), "")
 
     def test_fhir(self):
-        """As FHIR."""
+        """As FHIR, half of them with systems of identities and samples."""
         systems = oru.wishes_of(["practice=urn:a", "laboratory=urn:b", "third=urn:c", "sample=urn:d"])
-
-        def write(one, reading):
-            """Half of them with systems of identities and samples."""
-            return fhir.bundle_of(Told(Coded(one, reading)), systems if len(one.body) % 2 else oru.Wishes())
-
-        found = self.wrong(2, write, told.of_fhir)
+        found = self.wrong(2, "fhir", [oru.Wishes(), systems], told.of_fhir, told.comments_of_fhir)
         self.same("as it should be", found, "")
 
     def test_csv(self):
-        """As a table."""
-        read = self.reading
-        found = self.wrong(3, lambda one, reading: read(one, reading), lambda data: told.of_csv(data.decode()))
+        """As a table, which has no comments."""
+        found = self.wrong(3, "csv", [oru.Wishes()], lambda data: told.of_csv(data.decode()), lambda data: [])
         self.same("as it should be", found, "")
-
-    @staticmethod
-    def reading(one, reading):
-        """A table by the settings of a line."""
-
-        class Tables:
-            """Those of this line."""
-
-            @staticmethod
-            def applied(one):
-                """The message by the line's settings."""
-                return Coded(one, reading)
-
-        write = export.writer_of(export.Form("csv", Tables()))
-        return write(None) + write(one)

@@ -67,6 +67,11 @@ def of_oru(data):
     return rows
 
 
+def comments_of_oru(data):
+    """The comments of messages ORU^R01."""
+    return [cell(segment, 3) for segments in segments_of(data) for segment in segments if segment[0] == "NTE"]
+
+
 def unit_of(segment):
     """The unit of OBX-6: the text, if there is a code of UCUM too."""
     return cell(segment, 6, 2) or cell(segment, 6)
@@ -95,6 +100,13 @@ def of_fhir(data):
         unit = quantity.get("unit") or "".join(units)
         rows.append(Row(named.get("value"), "", control, sample, code, value, unit, one["status"]))
     return rows
+
+
+def comments_of_fhir(data):
+    """The comments of a Bundle: the notes on its resources, and those that are the conclusion of a report."""
+    found = [entry["resource"] for entry in json.loads(data)["entry"]] if data else []
+    notes = [note["text"] for one in found for note in one.get("note", [])]
+    return notes + [text for one in found for text in one.get("conclusion", "").split("; ")]
 
 
 def of_csv(text):

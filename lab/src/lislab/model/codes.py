@@ -13,16 +13,15 @@ from lislink.rows import Row, marks_of
 from .failures import Refused
 from .numbers import Number, number_of, range_of, rounded, times
 from .options import OptionError
-from .results import Coded, Coding, Reading, code_among, content_of, message_of, parts_of, repeats_of, text_of
+from .results import MARK, Coded, Coding, Reading, code_among, content_of, message_of, parts_of, repeats_of, text_of
 from .store import Stored
 
-#: The columns; those that a row must fill. A mark is a comment that begins so. In place of the laboratory's code: the
-#: result doesn't go out.
+#: The columns; those that a row must fill. In place of the laboratory's code: the result doesn't go out.
 COLUMNS, _NEEDED = (
     ("analyzer", "laboratory", "unit", "factor", "line", "sent", "digits", "system", "ucum"),
     ("analyzer", "laboratory"),
 )
-MARK, LEAVE_OUT = "lislab: ", "leave out"
+LEAVE_OUT = "leave out"
 #: The bytes that records may have (LIS02-A2, 5.4.1 to 5.4.3), and the CR after each.
 _TEXT = bytes([7, 9, 11, 12, 13, *range(32, 127), *range(128, 255)])
 _ONE, _SYSTEM = decimal.Decimal(1), re.compile(r"[A-Za-z0-9]{1,12}$|[a-z]+:[!-~]+$")

@@ -25,6 +25,8 @@ REPORTS = "CPFXIYZ"
 _CORRECTION, _ESCAPED = re.compile(rb"C(?<![0-9A-Za-z\r]C)(?![0-9A-Za-z])"), re.compile(rb"X[0-9A-Fa-f]*43")
 #: The fields of a patient's identities. The most records of a message.
 IDENTITIES, MOST_RECORDS = (3, 4, 5), 250_000
+#: How a comment begins that a code mapping makes.
+MARK = "lislab: "
 
 
 class Reading(NamedTuple):
@@ -173,7 +175,7 @@ class Told:
         if own:
             yield Case(above if above.letter == "P" else None, own, comments_of(above))
         if controls:
-            yield Case(None, controls, [])
+            yield Case(None, controls, [] if own else comments_of(above))
 
     def _check_patient(self, record: Entry) -> None:
         """Whether the identities are sure."""
@@ -274,6 +276,13 @@ class Told:
 
     def _is_left(self, order: Ordered) -> bool:
         return not order.record.results or any(one.number not in self._corrected for one in order.record.results)
+
+    def comments(self) -> List[Comment]:
+        """The comments on the patients, the orders and the results that go out."""
+        orders = [order for case in self.cases for order in case.orders]
+        results = [entry for order in orders for entry in order.record.results if entry.number not in self._corrected]
+        found = [case.comments for case in self.cases] + [order.comments for order in orders]
+        return [one for comments in [*found, *map(comments_of, results)] for one in comments]
 
     def came(self, order: Ordered) -> List[Result]:
         """All results of an order, also those that are left out."""

@@ -11,8 +11,8 @@ from ..field import table
 from ..model.codes import mark_of
 from ..model.failures import Quarantined
 from ..model.options import LETTERS
-from ..model.results import Coded, Told, code_of, content_of, field_text, identities_of, is_control, letters_fault
-from ..model.results import sample_of
+from ..model.results import MARK, Coded, Told, code_of, comments_of, content_of, field_text, identities_of, is_control
+from ..model.results import letters_fault, message_of, sample_of
 from ..model.store import COMPLETE, INCOMPLETE, INVALID, Store, Stored
 from . import fhir, oru
 from .oru import Wishes
@@ -25,6 +25,8 @@ CORRECTED = "results left out, corrected since"
 Writer = Callable[[Optional[Stored]], bytes]
 #: The columns of a table before those of a result, and after them; the last one of all is `control`, Q for a control.
 OWN, LAST = ("number", "line", "received", "again_of"), ("fixed",)
+#: A comment of a message.
+_COMMENT = re.compile(rb"\r[Cc]")
 #: A cell that a program for tables would take for a formula, unless it is a number.
 _FORMULA, _NUMBER = re.compile(r"\s*[=+\-@]"), re.compile(r"[+-]?[\d.,]+(?:[eE][+-]?\d+)?$", re.ASCII)
 
@@ -137,6 +139,7 @@ def _told(form: Form, coded: Coded) -> Told:
         counts["orders left out, without a result"] += sum(not order.record.results for order in orders)
     else:
         counts[CORRECTED] += told.leave_out_corrected()
+    counts["comments left out"] += _comments_left_out(form, coded, told)
     counts["tests twice in an order, with different values"] += told.twice
     counts["messages with letters of another encoding"] += told.has_other_letters
     if form.written is None:
@@ -146,6 +149,18 @@ def _told(form: Form, coded: Coded) -> Told:
     for key in list(form.written)[:-2]:
         del form.written[key]
     return told
+
+
+def _comments_left_out(form: Form, coded: Coded, told: Told) -> int:
+    """How many comments of a message as it came don't go out: those on the header, and those on what is left out; in a
+    table all, because it has none. Marks of the code mapping don't count."""
+    came = form.whole or coded.one._replace(body=coded.came or coded.one.body)
+    if not _COMMENT.search(came.body):
+        return 0
+    message = told.message if came.body == coded.one.body else message_of(came)
+    sent = [one for entry in message.entries for one in comments_of(entry)]
+    out = [] if form.form in ("csv", "tsv") else told.comments()
+    return sum(not one.text.startswith(MARK) for one in sent) - sum(not one.text.startswith(MARK) for one in out)
 
 
 def _table_writer(form: Form, coded: Callable[[Stored], Coded]) -> Writer:

@@ -344,7 +344,7 @@ class _Made:
 
     def _report(self, about: _About, results: List[Result], urls: List[str]) -> None:
         """A DiagnosticReport of an order."""
-        order = about.order
+        order, comments = about.order, [*about.case.comments, *about.order.comments]
         named, found = report_of(order.record), {_STATUS.get(one.status, "unknown") for one in results}
         others = "cancelled" if found == {"cancelled"} else "final" if found else ""
         usual = next((one for one in ("unknown", "preliminary", "registered", "corrected") if one in found), others)
@@ -367,7 +367,7 @@ class _Made:
                 "issued": _instant(self._told),
                 "specimen": [about.specimen] if about.specimen else None,
                 "result": [{"reference": url} for url in dict.fromkeys(urls)],
-                "conclusion": "; ".join(each.text for each in order.comments) if not results else "",
+                "conclusion": "; ".join(each.text for each in comments) if not results else "",
             },
         )
 

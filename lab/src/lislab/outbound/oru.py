@@ -157,16 +157,17 @@ def _segments(told: Told, case: Case, wishes: Wishes) -> Iterator[str]:
     to, kind, rest = _head(one.line, mode if mode in ("D", "T") else "P", tuple(wishes.header.items()))
     time_of_it = _stamp(one.began if one.ended is None else one.ended)
     yield f"{to}|{time_of_it}||{kind}|{control_id(one.key, case.place)}|{rest}\r"
-    yield from _patient(told, case, wishes)
-    marks = [Comment("L", mark) for mark in told.marks]
+    patient = list(_patient(told, case, wishes))
+    yield from patient
+    more = [*([] if patient else case.comments), *(Comment("L", mark) for mark in told.marks)]
     reports = [(order, list(told.results(order))) for order in case.orders]
     if wishes.obr == "sample":
         reports = list(_by_sample(reports))
     elif wishes.obr == "test":
         reports = [each for order, results in reports for each in _by_test(order, results)]
     for number, (order, results) in enumerate(reports, 1):
-        yield from _order(told, number, order, results, marks, wishes)
-        marks = []
+        yield from _order(told, number, order, results, more, wishes)
+        more = []
 
 
 @functools.lru_cache(maxsize=64)
