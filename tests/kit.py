@@ -23,6 +23,8 @@ BUILT = {
     "record_tests": "crates/record_tests/out/record_tests_tests",
     "link_tests": "crates/link_tests/out/link_tests_tests",
 }
+#: Which ports the system gives to connections.
+GIVEN = "/proc/sys/net/ipv4/ip_local_port_range"
 #: The most characters that are printed of a failure.
 SHOWN = 600
 LAST = re.compile(r"^\w+: (\d+) passed, (\d+) failed$", re.M)
@@ -50,13 +52,16 @@ def library():
 
 
 def free_port():
-    """A port that is free, and that the system gives to no connection, so that a server can also start on it again."""
-    with open("/proc/sys/net/ipv4/ip_local_port_range", encoding="ascii") as file:
+    """A port that is free, and that the system gives to no connection, so that a server can also start on it again.
+    Where there is none, one that the system gives."""
+    with open(GIVEN, encoding="ascii") as file:
         first = int(file.read().split()[0])
-    while True:
-        port = random.randrange(max(first // 2, 1024), first)
+    below = range(max(first // 2, 1024), first)
+    for port in random.sample(below, min(len(below), 100)):
         with contextlib.suppress(OSError), socket.create_server(("127.0.0.1", port)):
             return port
+    with socket.create_server(("127.0.0.1", 0)) as server:
+        return server.getsockname()[1]
 
 
 def read(path):

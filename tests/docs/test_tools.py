@@ -1,9 +1,11 @@
 """What tools/ makes of the sources is up to date, and what it is made of is right; its scripts notice what is wrong."""
+import contextlib
 import glob
 import io
 import os
 import re
 import shutil
+import socket
 import subprocess
 import sys
 import tempfile
@@ -284,6 +286,18 @@ def folders_run(script):
     """The folders whose tests a script runs, as it names them."""
     found = re.findall(r"(?m)^.*tests/run (\w+(?: \w+)*)(?= |$)", kit.read(script))
     return [it for names in found for it in names.split()]
+
+
+class Ports(kit.Test):
+    def test_free_port(self):
+        """It is below those that the system gives; where each of these is taken, or there is none, the system's."""
+        with contextlib.suppress(OSError):  # another program's, perhaps
+            self.addCleanup(socket.create_server(("127.0.0.1", 1024)).close)
+        for given, least, most in (("32768\t60999\n", 16384, 32767), ("1025\t60999\n", 1025, 65535),
+                                   ("1024\t65535\n", 1025, 65535), ("15\t65535\n", 1025, 65535)):
+            with unittest.mock.patch.object(kit, "GIVEN", kit.file_of(self, "range", given)):
+                port = kit.free_port()
+            self.check(least <= port <= most, f"of {given}", str(port))
 
 
 class Targets(kit.Test):
