@@ -108,6 +108,10 @@ class HostTest(kit.Test):
         """Whether something holds."""
         return self.check(bool(holds), name, why)
 
+    def says(self, name, host, text, times=1):
+        """Whether a host says a text so many times. It may say so only after its store or its line shows it."""
+        return self.true(name, wait_for(lambda: host.says().count(text) >= times), host.says()[-1500:])
+
     def tearDown(self):
         for one in _PROCESSES:
             if one.poll() is None:

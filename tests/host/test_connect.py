@@ -11,6 +11,7 @@ from lislab.host import calls, serve, wires
 from lislab.model.stores import open_store
 from lislab.model.books import open_book
 from lislink.order import Order
+from tests import kit
 from tests.host.hosts import NEVER, Found, Host, HostTest, lislab, trouble, wait_for
 from tests.host.plain import ACK, ENQ, EOT, Gone, Plain, frame, samples_of
 from tests.host.test_lines import TEXTS, Client
@@ -37,14 +38,13 @@ class Listening:
     """An analyzer that listens, at a port that stays its own."""
 
     def __init__(self, test):
-        self.socket, self.test, self.port = None, test, 0
+        self.socket, self.test, self.port = None, test, kit.free_port()
         self.open()
         test.addCleanup(self.close)
 
     def open(self):
         """Listens."""
         self.socket = socket.create_server(("127.0.0.1", self.port))
-        self.port = self.socket.getsockname()[1]
 
     def close(self):
         """Listens no more."""
@@ -226,7 +226,7 @@ class Connect(HostTest):
         changes.accept().send(TEXTS)
         same.send(TEXTS)
         self.true("all are kept", wait_for(lambda: len(Found(host.store).whole) == 4))
-        self.has("what it did", host.says(), "2 closed, 2 opened, 1 as they were")
+        self.says("what it did", host, "2 closed, 2 opened, 1 as they were")
         self.same("the host's status", host.stop(), 0)
         found = sorted((one.line, one.encoding) for one in Found(host.store).whole)
         latin = options.LATIN

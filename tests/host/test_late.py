@@ -7,10 +7,12 @@ import time
 import unittest.mock
 from collections import Counter
 
+from lislab.diagnosis.ring import pieces_of
 from lislab.host.wires import Asleep, clock
 from lislab.host.line import Line, Parts
 from lislab.host.turns import Turns
 from lislab.model.books import open_book
+from lislab.model.unix import ask
 from lislink.order import Order
 from tests.host.hosts import ENV, Found, Host, HostTest, lislab, wait_for
 from tests.host.plain import ACK, ENQ, NAK, Gone, Plain, frame, samples_of
@@ -51,12 +53,12 @@ class Late(HostTest):
             one.put(NAK)
             with self.assertRaises(Gone):
                 one.byte(200)
-        self.has("said", host.says(), "closed for a new connection, on which the host asks again")
+        self.says("said", host, "closed for a new connection, on which the host asks again")
         self.true("no try", "not sent" not in host.says(), host.says())
         one = Plain(ports_of(host)["asks"], SLOW)
         one.byte(60)
         one.put(NAK)
-        self.true("six times", wait_for(lambda: "not sent: S7 K: the analyzer is busy" in host.says()), host.says())
+        self.says("six times", host, "not sent: S7 K: the analyzer is busy")
         one = Plain(ports_of(host)["asks"], SLOW)
         self.same("asks in the end", one.byte(400), ENQ)
         one.put(ENQ)
@@ -72,7 +74,7 @@ class Late(HostTest):
         """Without the setting ENQ goes out again on the same connection, which is said at the start; a line that sends
         no order can't have it."""
         host = self.started("--listen", "0,name=asks,orders=download")
-        self.has("said", host.says(), f"note: asks: {SAID}")
+        self.says("said", host, f"note: asks: {SAID}")
         one = Plain(ports_of(host)["asks"], SLOW)
         self.same("asks", one.byte(60), ENQ)
         one.put(NAK)
@@ -91,10 +93,11 @@ class Late(HostTest):
             return os.read(master, 1) if ready else b""
 
         self.same("asks", byte(), ENQ)
-        begun = time.monotonic()
         os.write(master, NAK)
         self.same("asks again", byte(), ENQ)
-        self.true("later than the standard wants", time.monotonic() - begun > 14 * SLOW)
+        held = ask(host.store + ".watch", ask="ring", line="wire")[1]
+        first, again = [piece.at for piece in pieces_of(held) if piece.data == ENQ]
+        self.true("later than the standard wants", again - first > 14e9 * SLOW, again - first)
         self.true("nothing is said", SAID not in host.says(), host.says())
         os.write(master, ACK)
         self.same("a frame", byte(), b"\x02")

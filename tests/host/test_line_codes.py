@@ -181,7 +181,7 @@ class LineCodes(HostTest):
         self.same("no other one", host.says().count(lacks), 2)
         self.shows(host, "a: codes that its code mapping lacks: K 2\n", END, 2)
         self.reload(host, table, HEAD + "GLU,\n", f"{table}:2: the laboratory's code is missing\n")
-        self.has("it is left", host.says(), "the lines file has faults")
+        self.says("it is left", host, "the lines file has faults")
         self.shows(host, "a: codes that its code mapping lacks: K 2\n", END, 2)
         again = "the lines are read again: 0 closed, 0 opened, 2 as they were"
         self.reload(host, table, HEAD + "K,K,,,,mg\nGLU,GLUC,,,,\n", f"{again}; 1 with another code mapping\n")

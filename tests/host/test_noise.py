@@ -78,9 +78,9 @@ class Careful(HostTest):
                 self.same(f"{name}: the others", [client.asks(each) for each in (two, *rest)], [ACK] * 4)
                 client.send(EOT)
                 self.true(f"{name}: good again", wait_for(lambda name=name: seen(host, name)[0] == "good"), host.says())
-        said = host.says()
-        self.same("each ENQ is said", said.count("is ENQ; it has no reply"), 4)
-        self.same("one that came again at once", said.count("careful=no of its line answers its first ENQ"), 2)
+        for name, said, times in (("each ENQ is said", "is ENQ; it has no reply", 4),
+                                  ("one that came again at once", "careful=no of its line answers its first ENQ", 2)):
+            self.true(name, wait_for(lambda said=said, times=times: host.says().count(said) == times), host.says())
         self.same("what is kept", [len(Found(host.store).whole), len(Found(host.store).others)], [2, 4])
 
     def test_anew(self):

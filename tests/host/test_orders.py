@@ -439,7 +439,7 @@ class Answers(HostTest):
         one.send(query("S9"))
         self.same("ascii", one.take()[1][:30], b"Q|1|^S9||^^^ALL||||||||X\r")
         self.true("failed", wait_for(lambda: states(host.store)["S9"] == "failed"), states(host.store))
-        self.true("said", "asks: order 3 of sample S9 has failed: 'ü' isn't in ascii" in host.says(), host.says())
+        self.says("said", host, "asks: order 3 of sample S9 has failed: 'ü' isn't in ascii")
 
     def test_worklists(self):
         """`orders=download` sends what waits for the line unasked, also what is added later."""
@@ -470,8 +470,8 @@ class Answers(HostTest):
             one.send(query("S7"))
             self.same(name, [row[:1] for row in one.take(400)], wanted)
             if name != "answers":
-                self.true(f"{name} is said", "returned no orders" in host.says(), host.says())
-        self.true("why", "it took over 5 s" in host.says(), host.says())
+                self.says(f"{name} is said", host, "returned no orders")
+        self.says("why", host, "it took over 5 s")
 
     def test_a_command_whose_child_hangs(self):
         """A script waits for a program that hangs: the query is answered, and nothing of the script goes on."""
@@ -482,7 +482,7 @@ class Answers(HostTest):
         one = Plain(port, SLOW)
         one.send(query("S7"))
         self.same("answered", [row[:1] for row in one.take(400)], [b"H", b"L"])
-        self.true("said", "returned no orders: it took over 5 s" in host.says(), host.says())
+        self.says("said", host, "returned no orders: it took over 5 s")
         with open(child, encoding="ascii") as pid:
             gone = f"/proc/{int(pid.read())}"
         self.true("its child is gone", wait_for(lambda: not os.path.exists(gone), 30), gone)
@@ -534,7 +534,7 @@ class Answers(HostTest):
             out.write(b"sample,tests\nS7,K\n")
         one = Plain(port, SLOW)
         self.same("sent", samples_of(one.take(400)), ["S7"])
-        self.true("said", wait_for(lambda: "orders of x.orders: 1" in host.says()), host.says())
+        self.says("said", host, "orders of x.orders: 1")
         told = lislab("status", "--store", store).stdout
         self.true("status", wait_for(lambda: "1 sent" in lislab("status", "--store", store).stdout), told)
 
@@ -554,8 +554,8 @@ class Answers(HostTest):
         host, port = self.started(line="orders=download")
         one = Plain(port, SLOW)
         self.same("asks", one.byte(30), ENQ)
-        one.put(NAK)
         began = time.monotonic()
+        one.put(NAK)
         one.send([b"H|\\^&\r", b"L|1\r"])
         self.same("sent in the end", samples_of(one.take()), ["S7", "S8"])
         self.true("after the wait", time.monotonic() - began > 5 * SLOW)
@@ -570,7 +570,7 @@ class Answers(HostTest):
         while one.byte(15) != b"\n":
             pass
         one.close()
-        self.true("it waits", wait_for(lambda: "not sent: S7" in host.says()), host.says())
+        self.says("it waits", host, "not sent: S7")
         self.same("waiting", states(host.store), {"S7": "waiting"})
         one = Plain(port, SLOW)
         self.same("sent", samples_of(one.take(400)), ["S7"])
@@ -586,7 +586,7 @@ class Answers(HostTest):
         host.kill()
         one.close()
         host.start()
-        self.has("said", host.says(), "orders 1-3 were being sent when this host died: sent again, perhaps a second")
+        self.says("said", host, "orders 1-3 were being sent when this host died: sent again, perhaps a second")
         one = Plain(port, SLOW)
         self.same("sent", samples_of(one.take(400)), ["S7", "S8", "S9"])
         self.true("marked", wait_for(lambda: set(states(host.store).values()) == {"sent"}), states(host.store))
@@ -600,7 +600,7 @@ class Answers(HostTest):
         one.send(query("S7"))
         self.same("asks", one.byte(30), ENQ)
         one.close()
-        self.true("it waits", wait_for(lambda: "not sent: S7" in host.says()), host.says())
+        self.says("it waits", host, "not sent: S7")
         one = Plain(port, SLOW)
         self.same("answered", samples_of(one.take(400)), ["S7"])
 
@@ -627,7 +627,7 @@ class Answers(HostTest):
         self.same("a frame", one.byte(30), b"\x02")
         one.close()
         self.true("failed", wait_for(lambda: states(host.store) == {"S7": "failed"}), states(host.store))
-        self.true("said", "order 1 of sample S7 has failed: the line was closed" in host.says(), host.says())
+        self.says("said", host, "order 1 of sample S7 has failed: the line was closed")
 
     def test_a_whole_round(self):
         """`lislab send --query`: the orders are printed, and results sent for them."""

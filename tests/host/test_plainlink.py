@@ -39,10 +39,9 @@ class PlainLink(HostTest):
         self.true("all are kept", wait_for(lambda: len(Found(host.store).whole) == 6, 60))
         with Client(host.port) as client:
             self.same("a line with the proved receiver", client.asks(STX + GOOD + ETX, seconds=0.3), b"")
-        said = trouble(host.says())
         self.same("the host's status", host.stop(), 0)
         why = "no number and no checksum, so damage isn't noticed; and a receiver that isn't proved"
-        self.same("it is said at the start", said[:1], [f"lislab: plain: link=plain has {why}"])
+        self.same("it is said at the start", trouble(host.errors[-1])[:1], [f"lislab: plain: link=plain has {why}"])
         counts = re.findall(r"plain: 127.0.0.1: closed by the other end; bytes \d+, sessions (\d+)", host.errors[-1])
         self.same("each is a session", counts, ["1"] * 5)
         found = Found(host.store)

@@ -274,7 +274,7 @@ class Turns(HostTest):
         replies = [b"".join(one.asks(unit) for unit in (ENQ, *units)) for one in lines]
         self.same("taken", replies[:most], [ACK * 16] * most)
         self.same("taken in part", [one[:1] + one[-1:] for one in replies[most + 3 :]], [ACK + NAK] * 7)
-        self.has("said", host.says(), "NO_ROOM")
+        self.says("said", host, "NO_ROOM")
         with Client(host.port) as short, Client(ports["asks"]) as asks:
             self.true("a short text", short.whole(TEXTS))
             self.true("a short one where the host asks", asks.whole(TEXTS))

@@ -448,7 +448,7 @@ class Watch(HostTest):
         folder = self.path("x" * 120)
         os.mkdir(folder)
         host = Host(os.path.join(folder, "lab.db"), scale=1.0)
-        self.has("it is said", host.says(), "lislab watch can't connect: ")
+        self.says("it is said", host, "lislab watch can't connect: ")
         with Client(host.port) as client:
             self.true("it serves", client.whole(TEXTS))
         told = lislab("watch", "--store", host.store, "--once")
