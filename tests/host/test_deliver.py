@@ -334,7 +334,7 @@ class Deliver(HostTest):
         store, cursor, log = self.path("long.db"), self.path("long.cursor"), self.path("long.log")
         keep(store, [records(["A"])])
         shell = f"sleep 200 > {log} 2>&1 & echo $! > {log}.pid; wait"  # it holds no pipe of the test's
-        words = ["--store", store, "--cursor", cursor, "--once", "--seconds", "1", "--", "sh", "-c", shell]
+        words = ["--store", store, "--cursor", cursor, "--once", "--seconds", "5", "--", "sh", "-c", shell]
         self.same("it fails", lislab("deliver", *words).returncode, 1)
         pid = int(rows_of(log + ".pid")[0])
         self.addCleanup(end, pid)

@@ -94,14 +94,14 @@ class Client:
             return True
 
 
-def late_reply(host, client, frame, place):
-    """What is answered to a frame that comes while the host is stopped."""
+def late_reply(host, client, frame, place, seconds):
+    """What is answered within so many seconds to a frame that comes while the host is stopped."""
     time.sleep(place * 0.003)
     os.kill(host.process.pid, signal.SIGSTOP)
     client.send(frame)
     time.sleep(15 * STALLED * 1.3)
     os.kill(host.process.pid, signal.SIGCONT)
-    return client.heard(1, 0.2)
+    return client.heard(1, seconds)
 
 
 def flood(client, most):
@@ -257,7 +257,7 @@ class Lines(HostTest):
             texts = [b"H|\\^&|||A%d\r" % place, *TEXTS[1:]]
             with Client(host.port) as client:
                 good = client.asks(ENQ) == ACK and all(client.asks(one) == ACK for one in frames(texts)[:2]) and good
-                replies.append(late_reply(host, client, frames(texts)[2], place))
+                replies.append(late_reply(host, client, frames(texts)[2], place, 60.0 if fault else 0.2))
                 good = bool(fault) or (client.whole(texts) and good)
         host.stop()
         return host.errors[-1].count("a reply is late and isn't sent: byte "), replies, good, host.store
@@ -310,7 +310,8 @@ class Lines(HostTest):
             with Client(host.port) as three:
                 self.true("a line too many is closed", three.is_closed())
             long = [TEXTS[0], *[b"C|1|I|" + b"x" * 190 + b"\r"] * 6]
-            replies = [one.asks(frame, 1, 2.0) for frame in frames(long)]
+            *front, last = frames(long)
+            replies = [*(one.asks(frame) for frame in front), one.asks(last, 1, 2.0)]
             self.same("a message too long gets no reply", replies, [ACK] * 6 + [b""])
             self.true("its line goes on", one.whole(TEXTS))
             time.sleep(30 * SILENT + 0.2)

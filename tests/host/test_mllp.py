@@ -414,15 +414,15 @@ class Receivers(WithLibrary):
         self.same("silence", told, ["Refused: no answer within 0.3 seconds"])
         told, _ = self.sent(lambda at, key: [b"\x0b", *[b"x"] * 600], seconds=1.0, pause=0.1)
         self.same("one that drips", told, ["Refused: no answer within 1 seconds"])
-        told, _ = self.sent(lambda at, key: ack(b"AA", b"another") * 5000, seconds=0.3)
-        other = "Refused: no answer within 0.3 seconds: its last answer is to another message, another"
+        told, _ = self.sent(lambda at, key: ack(b"AA", b"another") * 5000, seconds=3.0)
+        other = "Refused: no answer within 3 seconds: its last answer is to another message, another"
         self.same("the answer to another message", told, [other])
         told, receiver = self.sent(lambda at, key: ack(b"AA", key), ("k1", "k2", "k3"))
         self.same("one connection for all", (told, receiver.connections), (["", "", ""], 1))
 
     def test_died_silently(self):
         """A connection over which nothing comes any more is no failure of the message: it is sent over a new one."""
-        told, receiver = self.sent(lambda at, key: b"" if at == 2 else ack(b"AA", key), ("k1", "k2"), 0.5)
+        told, receiver = self.sent(lambda at, key: b"" if at == 2 else ack(b"AA", key), ("k1", "k2"), 3.0)
         self.same("both are accepted", (told, len(receiver.taken)), (["", ""], 3))
 
     def test_each_patient(self):
@@ -430,7 +430,7 @@ class Receivers(WithLibrary):
         body = message("P|1|4711", "O|1|S1", "R|1|^^^A|1", "P|2|4712", "O|1|S2", "R|1|^^^A|2")
         ids = [oru.control_id("k", place) for place in (1, 2)]
         receiver = Scripted(lambda at, key: ack(b"AE" if at == 2 else b"AA", key))
-        target = mllp.to_mllp(mllp.Mllp("127.0.0.1", receiver.port, 5.0), Ahead(export.writer_of(export.Form("oru"))))
+        target = mllp.to_mllp(mllp.Mllp("127.0.0.1", receiver.port, 60.0), Ahead(export.writer_of(export.Form("oru"))))
         self.raises("the second is rejected", deliver.Refused, lambda: target(stored(body, "k")))
         self.true("it is sent again", target(stored(body, "k")))
         receiver.close()
@@ -491,9 +491,7 @@ class Receivers(WithLibrary):
         self.same("both are accepted", told, ["", ""])
         self.same("the second was sent twice, by the same id", receiver.taken,
                   [oru.control_id(key) for key in ("k1", "k2", "k2")])
-        free = socket.create_server(("127.0.0.1", 0))
-        one = mllp.Mllp("127.0.0.1", free.getsockname()[1], 5.0)
-        free.close()
+        one = mllp.Mllp("127.0.0.1", kit.free_port(), 5.0)
         self.raises("nobody listens", deliver.Unreachable, lambda: one.deliver(b"MSH|", "k"))
 
     def test_rejected(self):
@@ -523,7 +521,7 @@ class Receivers(WithLibrary):
         samples = [rng.choice("ABCDEFGH") for _ in range(size)]
         store, log = self.path("kills.db"), self.path("kills.log")
         keys = [oru.control_id(key) for key in keep(store, [records([one], str(at)) for at, one in enumerate(samples)])]
-        receiver, port = self.receiver(0, log)
+        receiver, port = self.receiver(kit.free_port(), log)
         words = ["--store", store, "--cursor", self.path("kills.cursor"), "--to", f"mllp://127.0.0.1:{port}"]
         process(["-m", "lislab", "deliver", *words], env=self.env)
         kills = size // 100 + 2

@@ -146,6 +146,7 @@ class Queries(HostTest):
 
             one = Plain(port, SLOW)
             for at in range(1, 6):
+                wait_for(lambda at=at: (seen()["state"] == "quiet") == (at == 1))
                 self.same(f"{none}: before query {at}", seen()["state"], "quiet" if at == 1 else "good")
                 one.send(asked(b"^NONE"))
                 if none == "L-I":
@@ -319,6 +320,12 @@ class Queries(HostTest):
         return await outbox.answer(site, [query_of(rows[1], "latin-1", site.asks)], b"")
 
     @staticmethod
+    async def marked(outbox):
+        """Returns once the store has what the outbox began to mark."""
+        while outbox._work.all - {outbox._looking}:
+            await asyncio.sleep(0.01)
+
+    @staticmethod
     async def places(outbox, site):
         """What is sent on a connection next, and the sample and the place of each order in it."""
         batch = await outbox.take(site)
@@ -350,14 +357,14 @@ class Queries(HostTest):
             await self.asks(outbox, lines[1], "S3")
             (first, one), (_, two) = await self.places(outbox, lines[1]), await self.places(outbox, lines[2])
             outbox.unsent(lines[1], first)
-            await asyncio.sleep(0.3)
+            await self.marked(outbox)
             again, unsent = await self.places(outbox, lines[1])
             outbox.failed(lines[1], again, "no reply", True)
-            await asyncio.sleep(0.3)
+            await self.marked(outbox)
             half, lot = await self.places(outbox, lines[1])
             outbox.unsent(lines[1], half)
             outbox.forget(lines[1], woken)
-            await asyncio.sleep(0.3)
+            await self.marked(outbox)
             return one, two, unsent, lot, (await self.places(outbox, lines[3]))[1]
 
         both = {"S1": "1^r", "S3": "3^r"}
