@@ -1,5 +1,6 @@
 """What the tests of the host share: hosts as processes of their own, analyzers, and what a store has against what was
 acknowledged."""
+import asyncio
 import contextlib
 import hashlib
 import json
@@ -292,3 +293,10 @@ def wait_for(holds, seconds=60.0):
             return True
         time.sleep(0.02)
     return bool(holds())
+
+
+async def until(holds):
+    """Returns once something holds in a loop of events, or after a minute."""
+    over = time.monotonic() + 60
+    while not holds() and time.monotonic() < over:
+        await asyncio.sleep(0.01)

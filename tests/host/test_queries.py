@@ -16,7 +16,7 @@ from lislab.model.query import query_of
 from lislink.records import messages
 from lislab.model.unix import ask
 from tests.host import hosts
-from tests.host.hosts import Host, HostTest, lislab, wait_for
+from tests.host.hosts import Host, HostTest, lislab, until, wait_for
 from tests.host.plain import ACK, ENQ, EOT, NAK, Gone, Plain, is_good, samples_of
 from tests.host.test_orders import SLOW, states
 
@@ -322,8 +322,7 @@ class Queries(HostTest):
     @staticmethod
     async def marked(outbox):
         """Returns once the store has what the outbox began to mark."""
-        while outbox._work.all - {outbox._looking}:
-            await asyncio.sleep(0.01)
+        await until(lambda: not outbox._work.all - {outbox._looking})
 
     @staticmethod
     async def places(outbox, site):
@@ -391,10 +390,7 @@ class Queries(HostTest):
 
             outbox._book.leave = fails
             outbox.forget(lines[1], woken)
-            for _ in range(300):
-                if len(tries) > 1:
-                    break
-                await asyncio.sleep(0.02)
+            await until(lambda: len(tries) > 1)
             return (await self.places(outbox, lines[2]))[1]
 
         self.same("what is sent", self.played(self.path("left.db"), play), {"S1": "1^r"})

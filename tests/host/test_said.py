@@ -56,7 +56,7 @@ class Said(HostTest):
         with unittest.mock.patch.object(sys, "stderr", stream):
             thread = threading.Thread(target=say, daemon=True)
             thread.start()
-            thread.join(60)
+            thread.join(20)
         return result[0]
 
     def written(self):

@@ -19,7 +19,7 @@ from lislab.host import asked as asking
 from lislab.host import serials, serve
 from lislab.host import tty as serial
 from lislab.model.stores import open_store
-from tests.host.hosts import ENV, SCALE, SENDER, Found, Host, HostTest, acknowledged, process
+from tests.host.hosts import ENV, SCALE, SENDER, Found, Host, HostTest, acknowledged, process, until
 
 #: Where Debian's packages for Python are.
 DEBIAN = "/usr/lib/python3/dist-packages"
@@ -131,12 +131,12 @@ class Serial(HostTest):
 
     def test_a_device_that_is_gone_at_once(self):
         """A device that opens and is at its end is looked for each second, and no more often."""
-        opened = []
+        times = []
 
         def end_of_a_pipe(_):
             into, out = os.pipe()
             os.close(out)
-            opened.append(into)
+            times.append(time.monotonic())
             return into
 
         async def serve_it():
@@ -144,14 +144,14 @@ class Serial(HostTest):
             asked = serve.Asked([], [device], [], options.Limits(), None, None)
             host = serve.Host(asked, open_store(self.path("gone.db")))
             task = asyncio.ensure_future(host.serials.serve(device))
-            await asyncio.sleep(1.5)
+            await until(lambda: len(times) > 1)
             task.cancel()
             await host.stop()
 
         with unittest.mock.patch.object(serials, "open_serial", end_of_a_pipe):
             with unittest.mock.patch.object(serve, "say"):
                 asyncio.run(serve_it())
-        self.same("it is opened twice in a second and a half", len(opened), 2)
+        self.true("it is opened again a second later", len(times) == 2 and 0.9 < times[1] - times[0] < 10, times)
 
     def test_a_device_that_is_no_terminal(self):
         """It is said once, and the host isn't ready; of one that isn't there it is said, and the host is ready."""
@@ -209,10 +209,10 @@ class Serial(HostTest):
         async def serve_it():
             host = serve.Host(asked, open_store(self.path("devices.db")))
             await host.start()
-            await asyncio.sleep(0.15)
+            await until(lambda: opened.call_count > 2)
             if then is not None:
                 opened.side_effect = lambda _: serial.open_serial(options.serial_of(then + ":9600"))
-                await asyncio.sleep(0.1)
+                await until(lambda: named["announce"].called)
             await host.stop()
 
         with contextlib.ExitStack() as stack:
@@ -262,7 +262,7 @@ class Serial(HostTest):
             time.sleep(0.7)
             host.kill()
             host.start()
-        self.same("the analyzer's status", one.wait(60), 0)
+        self.same("the analyzer's status", one.wait(600), 0)
         self.same("the host's status", host.stop(), 0)
         cable.close()
         found = Found(store)

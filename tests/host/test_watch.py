@@ -298,6 +298,7 @@ class Watch(HostTest):
         host = Host(self.path("rows.db"), "--listen", "127.0.0.1:0,name=a\x1b[2J", scale=1.0)
         with Client(host.port) as client:
             client.whole(TEXTS)
+        wait_for(lambda: not seen(host)["connected"], WAIT)
         told = lislab("watch", "--store", host.store, "--once")
         self.same("status", (told.returncode, told.stderr), (0, ""))
         rows = told.stdout.splitlines()
@@ -326,6 +327,7 @@ class Watch(HostTest):
         for texts in (TEXTS, [H, b"L|1\r"]):
             with Client(host.port) as client:
                 client.whole(texts)
+        wait_for(lambda: not seen(host)["connected"], WAIT)
         path = self.path("saved.capture")
         saved = lislab("watch", "--store", host.store, "--line", "fire", "--save", path)
         self.same("saved", (saved.returncode, saved.stdout), (0, ""))
