@@ -38,7 +38,7 @@ class Plain:
 
     def __init__(self, test, *words, scale=SCALE):
         self.kept = os.path.join(kit.folder_of(test), "kept")
-        self.words, self.port, self.scale = words, 0, scale
+        self.words, self.port, self.scale = words, kit.free_port(), scale
         with open(self.kept, "wb"):
             pass
         test.addCleanup(self.kill)

@@ -109,7 +109,7 @@ class Host:
                 os.fsync(file.fileno())
 
         if "acknowledges-first" in self.words:
-            threading.Timer(3 * self.scale, write).start()
+            threading.Timer(60.0, write).start()
         else:
             write()
 

@@ -79,7 +79,8 @@ class Plays(kit.Test):
         rows = found.get("one-sample", [])
         self.check(any(map(form.fullmatch, rows)), "how it is named", str(rows))
         path = os.path.join(PLAYS, "results", "restarted-host.play")
-        time.sleep(5 * host.scale)
+        host.kill()  # with what it hasn't kept yet
+        host.start()
         restarts = Restarts(self, host)
         ran = host.play(path, "--restart", restarts.command)
         self.check(ran.status == 1 and 'kept:"L|1|N"*0' in ran.text, "what a kill has lost", ran.text + ran.error)
