@@ -125,7 +125,7 @@ class Program(kit.Test):
         process.stdin.write(b"\x05")
         process.stdin.flush()
         os.set_blocking(process.stdout.fileno(), False)
-        seen, until = b"", time.monotonic() + 5
+        seen, until = b"", time.monotonic() + 60
         while not seen and time.monotonic() < until:
             time.sleep(0.02)
             seen = process.stdout.read() or b""

@@ -170,7 +170,7 @@ class Said(HostTest):
 
     def test_lines_that_come_and_go(self):
         """A line that came or went is said with the reason and the bytes, and counted by the status."""
-        host = Host(self.path("went.db"), "--idle", "2", "--listen", "0,name=other", scale=1.0)
+        host = Host(self.path("went.db"), "--idle", "6", "--listen", "0,name=other", scale=1.0)
         other = next(int(row.split()[1].rsplit(":", 1)[1]) for row in host.rows if row.endswith(" other\n"))
         with Client(host.port) as client:
             client.whole([b"H|\\^&\r", b"L|1\r"])
@@ -179,7 +179,7 @@ class Said(HostTest):
         with Client(host.port) as client:
             client.asks(ENQ + EOT)
             self.true("a silent one is closed", client.is_closed(60))
-        wanted.append("closed after 2 s of silence; bytes 2, sessions 1")
+        wanted.append("closed after 6 s of silence; bytes 2, sessions 1")
         with Client(other) as client:
             for _ in range(30):
                 with Client(other):

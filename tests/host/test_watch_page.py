@@ -186,7 +186,7 @@ class Looks(HostTest):
         """Connections whose requests come slowly, or never, keep nobody away, and are cut."""
         store = self.path("slow.db")
         fill(store, "chemistry", [whole("a")])
-        with unittest.mock.patch.object(web, "SECONDS", 1.0):
+        with unittest.mock.patch.object(web, "SECONDS", 5.0):
             site = self.site(store)
             with contextlib.ExitStack() as stack:
                 slow = [stack.enter_context(socket.create_connection(("127.0.0.1", site.port))) for _ in range(80)]
