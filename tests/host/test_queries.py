@@ -240,11 +240,12 @@ class Queries(HostTest):
     def test_an_answer_waits(self):
         """The line goes before the answer: it comes over the next one, also that there is no order."""
         for sample in ("S123", "S9"):
-            _, port = self.started()
+            host, port = self.started()
             one = Plain(port, SLOW)
             one.send(asked(b"^" + sample.encode()))
             self.same(f"{sample}: asks", one.byte(30), ENQ)
             one.close()
+            wait_for(lambda host=host: ": closed by the other end" in host.says())
             one = Plain(port, SLOW)
             rows = one.take(400)
             wanted = (["S123"], b"L|1|F") if sample == "S123" else ([], b"L|1|I")
