@@ -41,6 +41,17 @@ def programs():
     return None
 
 
+#: A statement that is done once another session has tried to lock a name, or after a minute.
+UNTIL_TRIED = """
+DO $$ BEGIN
+  FOR turn IN 1..600 LOOP
+    PERFORM pg_sleep(0.1), pg_stat_clear_snapshot();
+    EXIT WHEN EXISTS (SELECT FROM pg_stat_activity WHERE pid <> pg_backend_pid() AND query LIKE '%try_advisory_lock%');
+  END LOOP;
+END $$
+"""
+
+
 class Server:
     """A server of its own, on loopback, with its files in a folder of its own."""
 
@@ -303,8 +314,8 @@ class Postgres(HostTest):
         """A host that was killed has its name for another moment: the next one waits for it."""
         store = self.server.address("killed")
         Host(store).stop()
-        held = "SELECT pg_advisory_lock(5402, hashtext('killed')); SELECT pg_sleep(1)"
-        with self.server.psql("killed", "-c", held):
+        held = "SELECT pg_advisory_lock(5402, hashtext('killed'))"
+        with self.server.psql("killed", "-c", held, "-c", UNTIL_TRIED):
             asked = "SELECT count(*) FROM pg_locks WHERE locktype = 'advisory' AND classid = 5402"
             there = hosts.wait_for(lambda: self.server.asks("killed", asked) == "1")
             status, why = started(store, "killed")
