@@ -143,9 +143,7 @@ FAULTS = {
         "for name in os.listdir(self._path(COMPLETE)):\n            os.unlink(self._path(COMPLETE, name))",
     ),
     "test_kills.Kills.test_failing_store": Edit(
-        "host/storing.py",
-        "batch, fault, self._say)",
-        "batch, None, self._say)",
+        "host/storing.py", "append((batch, fault))", "append((batch, None))"
     ),
     "test_kills.Kills.test_full_disk_of_sqlite": Edit(
         "model/sqlite.py",
@@ -455,7 +453,7 @@ FAULTS = {
     ),
     "test_said.Said.test_signs_for_a_terminal": Edit("watch/status.py", "shown(row) + ", "row + "),
     "test_said.Said.test_the_password_of_a_database": Edit("model/postgresql.py", '== address.count("@") < 2', "!= 9"),
-    "test_said.Said.test_a_line_goes_on": Edit("host/storing.py", "done.set_exception(fault)", "done.cancel()"),
+    "test_said.Said.test_a_line_goes_on": Edit("host/storing.py", "done.fail(fault)", "done.cancel()"),
     "test_said.Said.test_saying": Edit("model/said.py", "if poll.poll(0):", "if poll:"),
     "test_said.Said.test_who_waits_is_answered_first": Edit(
         "host/storing.py",

@@ -161,7 +161,7 @@ class Suspended(HostTest):
                 loop = asyncio.get_running_loop()
                 loop.call_soon(line.inbox.add, unit, clock() + drift[0])
                 await asyncio.sleep(0)
-                while line.inbox.pieces or line.inbox.waiter is None:
+                while line.inbox.pieces or line.inbox.waiter.done():
                     await asyncio.sleep(0.01)
             line.lost()
             await task

@@ -3,6 +3,7 @@ it reports what becomes of the line's messages. One thread, the committer's, sto
 a slow disk delays no line's reading."""
 import asyncio
 import functools
+import os
 import threading
 import time
 from collections import Counter, deque
@@ -23,6 +24,8 @@ ROW = 1 << 14
 TOGETHER, OWED = 500, 10000
 #: How often these are tried at the end. What is still open then becomes incomplete at the next start.
 LAST_TRIES = 5
+#: The most bytes that are read from the committer's pipe at once.
+RINGS = 4096
 
 
 class _Waiting(NamedTuple):
@@ -43,6 +46,12 @@ class Committer:
         #: What the lines put in this turn of the loop; what they put in each turn before, None at the end.
         self._new: List[_Waiting] = []
         self._put: "SimpleQueue[Optional[List[_Waiting]]]" = SimpleQueue()
+        #: What the thread has stored, or why it could not be. A byte in the pipe says that there is some: it costs much
+        #: less than `call_soon_threadsafe`.
+        self._done: Deque[Tuple[List[_Waiting], Optional[Exception]]] = deque()
+        self._rung, self._bell = os.pipe()
+        os.set_blocking(self._bell, False)
+        self._loop.add_reader(self._rung, self._settle)
         #: What the thread has taken from there: units, parts of long texts, and units that could not be stored.
         self._waiting: Deque[_Waiting] = deque()
         self._long: Deque[_Waiting] = deque()
@@ -83,6 +92,11 @@ class Committer:
         self._put.put(None)
         while self._thread.is_alive():
             await asyncio.sleep(0.01)
+        os.write(self._bell, b"\0")
+        self._settle()
+        self._loop.remove_reader(self._rung)
+        for end in (self._rung, self._bell):
+            os.close(end)
         await asyncio.sleep(0)
 
     def _run(self) -> None:
@@ -139,11 +153,29 @@ class Committer:
                 return False
             self.failed += 1
             batch = [one for one in batch if not one.is_owed]
+        self._done.append((batch, fault))
         try:
-            self._loop.call_soon_threadsafe(_settle, batch, fault, self._say)
-        except RuntimeError:
-            pass  # the loop is closed: nobody waits any more
+            os.write(self._bell, b"\0")
+        except BlockingIOError:
+            pass  # the pipe is full: it says so already
         return fault is None
+
+    def _settle(self) -> None:
+        """Ends the futures of what the thread has stored."""
+        os.read(self._rung, RINGS)
+        while self._done:
+            batch, fault = self._done.popleft()
+            for one in batch:
+                if one.done.done():
+                    continue
+                if fault is not None:
+                    one.done.fail(fault)
+                elif one.is_owed:
+                    self._loop.call_soon(one.done.end)
+                else:
+                    one.done.end()
+            if fault is not None:
+                self._say(f"not stored: {fault}")
 
 
 def _some_of(queue: Deque[_Waiting], most: int) -> List[_Waiting]:
@@ -154,20 +186,6 @@ def _some_of(queue: Deque[_Waiting], most: int) -> List[_Waiting]:
         batch.append(queue.popleft())
         size += len(batch[-1].unit)
     return batch
-
-
-def _settle(batch: List[_Waiting], fault: Optional[Exception], say: Callable[[str], None]) -> None:
-    for one in batch:
-        if one.done.done():
-            continue
-        if fault is not None:
-            one.done.set_exception(fault)
-        elif one.is_owed:
-            one.done.set_result(None)
-        else:
-            one.done.end()
-    if fault is not None:
-        say(f"not stored: {fault}")
 
 
 def _join(part: List[Change], changes: List[Change]) -> None:

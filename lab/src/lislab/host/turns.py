@@ -26,17 +26,32 @@ class Rest(asyncio.Future[None]):
 
     def add_done_callback(self, goes_on: "Callable[[Rest], object]", *, context: Optional[Context] = None) -> None:
         """Sets what goes on at the end, and in which context; the task that waits calls it."""
-        self._waits = goes_on, context or copy_context()
-        asyncio.Future.add_done_callback(self, goes_on, context=context)
+        if self._waits is None and not self.done():
+            self._waits = goes_on, context or copy_context()
+        else:
+            super().add_done_callback(goes_on, context=context)
 
     def end(self) -> None:
         """Ends it, unless it has ended."""
-        if self._waits is not None and self.remove_done_callback(self._waits[0]):
+        if not self.done():
             self.set_result(None)
-            goes_on, context = self._waits
-            context.run(goes_on, self)
-        elif not self.done():
-            self.set_result(None)
+            if self._waits is not None:
+                goes_on, context = self._waits
+                context.run(goes_on, self)
+
+    def fail(self, fault: Exception) -> None:
+        """Ends it with an error. The task goes on in the loop's next turn."""
+        self._goes_on_later()
+        self.set_exception(fault)
+
+    def cancel(self, msg: Optional[object] = None) -> bool:
+        """Cancels it, as the task does that is cancelled itself."""
+        self._goes_on_later()
+        return super().cancel(msg)
+
+    def _goes_on_later(self) -> None:
+        if self._waits is not None:
+            super().add_done_callback(self._waits[0], context=self._waits[1])
 
 
 class Account:

@@ -55,8 +55,8 @@ class Inbox:
         self._old_until = self._old = clock()
         #: What wakes the line, and when.
         self._timer, self._rings = None, math.inf  # type: Optional[asyncio.TimerHandle], float
-        #: What the line waits for, while it waits.
-        self.waiter: Optional[Rest] = None
+        #: What the line waits for, or waited for last.
+        self.waiter = Rest(loop=self._loop)
 
     def add(self, data: bytes, arrived: float) -> None:
         """Adds bytes that came at this time or later, and lets the line go on. A callback of the loop calls it."""
@@ -68,8 +68,7 @@ class Inbox:
         self._size += len(data)
         if self._size > WAITING:
             self._pause(arrived)
-        if self.waiter is not None:
-            self.waiter.end()
+        self.waiter.end()
 
     def take(self) -> Tuple[float, bytes]:
         """Returns the next piece, and the earliest time at which it can have come."""
@@ -96,9 +95,9 @@ class Inbox:
         if self.pieces:
             self._pause(self.pieces[-1][0])
 
-    async def wait(self, due: float) -> None:
-        """Reads on, and returns when a piece came, at a call of `wake`, or at this time. An earlier timer that is set
-        already stays: as a rule each byte puts off what is due."""
+    def wait(self, due: float) -> Rest:
+        """Reads on, and returns what ends when a piece comes, at a call of `wake`, or at this time. An earlier timer
+        that is set already stays: as a rule each byte puts off what is due."""
         if self.paused_at is not None:
             self._old, self._old_until, self.paused_at = self.paused_at, clock(), None
             self._wire.resume()
@@ -106,13 +105,11 @@ class Inbox:
             self.stop()
             self._rings, self._timer = due, self._loop.call_later(due - clock(), self._ring)
         self.waiter = Rest(loop=self._loop)
-        await self.waiter
-        self.waiter = None
+        return self.waiter
 
     def wake(self) -> None:
-        """Wakes the line, if it waits."""
-        if self.waiter is not None and not self.waiter.done():
-            self.waiter.set_result(None)
+        """Wakes the line soon, if it waits."""
+        self._loop.call_soon(self.waiter.end)
 
     def _ring(self) -> None:
         self._timer, self._rings = None, math.inf
