@@ -457,8 +457,8 @@ FAULTS = {
     "test_said.Said.test_saying": Edit("model/said.py", "if poll.poll(0):", "if poll:"),
     "test_said.Said.test_who_waits_is_answered_first": Edit(
         "host/storing.py",
-        "    for one in batch:\n        if one.done",
-        '    if fault is not None:\n        say("")\n    for one in batch:\n        if one.done',
+        "            for one in batch:\n                if one.done",
+        '            self._say("") if fault else None\n            for one in batch:\n                if one.done',
     ),
     "test_serial.Serial.test_a_device_that_is_no_terminal": Edit(
         "host/serials.py", "self._ready is False and not self._unusable and", "self._ready is False and"
