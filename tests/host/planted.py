@@ -513,7 +513,7 @@ FAULTS = {
         "host/turns.py", "min(now - turns.charged, MOST)", "now - turns.charged"
     ),
     "test_turns.Turns.test_work_of_others": Edit(
-        "host/turns.py", "= time.thread_time) -> None", "= time.monotonic) -> None"
+        "host/turns.py", "= time.thread_time,", "= time.monotonic,"
     ),
     "test_turns.Turns.test_many_connections_of_a_peer": Edit(
         "host/turns.py", "turns, turns.account(peer)", "turns, Account(turns.had)"

@@ -109,7 +109,7 @@ class Shared:
 
     async def _keep(self, text):
         self.store.start("test")
-        committer, turns = Committer(self.store, print), turn.Turns(lambda: self.worked)
+        committer, turns = Committer(self.store, print), turn.Turns(*[lambda: self.worked] * 2)
         fixer = Fixer((), Workers(lambda: ThreadPoolExecutor(1)), Counter())
         long, other = (Side(name, fixer, committer, turns) for name in ("long", "other"))
         *first, last = long_frames(text)
@@ -137,7 +137,7 @@ def shared(busy, times, long):
     """Lines of these peers have work all the time, and one works so many times now and then, some of them for so long:
     how much each peer did, how much they did before each of its times, and how many turns of the loop there were."""
     worked, done, over, waits, loops = [0.0], Counter(), [], [], [0]
-    turns = turn.Turns(lambda: worked[0])
+    turns = turn.Turns(*[lambda: worked[0]] * 2)
 
     async def has_work(name):
         share = turn.Share(turns, name)

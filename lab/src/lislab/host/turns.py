@@ -16,6 +16,9 @@ HEARS, ALL = 0.002, 0.002
 #: A peer that has used less is credited up to CREDIT seconds. A line is charged at most MOST seconds for work without a
 #: pause: what takes longer isn't its work alone, as when the interpreter collects garbage.
 CREDIT, MOST = 0.004, 0.004
+#: The thread's own clock is asked, which takes a call of the system, only if so many seconds have gone by since it was.
+#: Who works then is charged for shorter work before it, too: of many lines each is so charged for its share of it.
+STEP = 0.0002
 
 
 class Rest(asyncio.Future[None]):
@@ -65,12 +68,14 @@ class Account:
 class Turns:
     """The lines that wait for their turn. The next one is a line of the peer that has used the least time."""
 
-    def __init__(self, worked: Callable[[], float] = time.thread_time) -> None:
+    def __init__(
+        self, worked: Callable[[], float] = time.thread_time, clock: Callable[[], float] = time.monotonic
+    ) -> None:
         #: The thread's own clock. By any other clock a line is charged for the work of other threads and processes, so
         #: on a busy machine good lines wait ten times as long.
-        self.worked = worked
-        #: How much time the peers used whose lines go on, and when a line was charged last.
-        self.had, self.charged = 0.0, worked()
+        self.worked, self.clock = worked, clock
+        #: How much time the peers used whose lines go on, and when a line was charged last, by both clocks.
+        self.had, self.charged, self.charged_at = 0.0, worked(), clock()
         #: The accounts of the peers that have lines.
         self._accounts: "WeakValueDictionary[str, Account]" = WeakValueDictionary()
         #: The accounts whose lines wait: the one that has used the least first, and of several the one that came first.
@@ -143,7 +148,10 @@ class Share:
     def rests(self) -> None:
         """Charges the line, which waits for something now, for the thread's time since a line was charged last."""
         turns, account = self._turns, self._account
-        now = turns.worked()
+        at = turns.clock()
+        if at < turns.charged_at + STEP:
+            return
+        turns.charged_at, now = at, turns.worked()
         account.had = max(turns.had - CREDIT, account.had) + min(now - turns.charged, MOST)
         turns.charged = now
 
