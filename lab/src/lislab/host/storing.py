@@ -8,7 +8,7 @@ import threading
 import time
 from collections import Counter, deque
 from queue import Empty, SimpleQueue
-from typing import Callable, Deque, Dict, List, NamedTuple, Optional, Sequence
+from typing import Callable, Deque, Dict, List, NamedTuple, Optional, Sequence, Tuple
 
 from ..diagnosis.events import MessageEnded, Observers
 from ..diagnosis.notices import LETTERS, MESSAGE
