@@ -303,7 +303,7 @@ FAULTS = {
         "diagnosis/notices.py", "AT_ONCE, SECONDS = 10, 30.0", "AT_ONCE, SECONDS = 1000, 30.0"
     ),
     "test_notices.Said.test_frames": Edit(
-        "diagnosis/events.py", "if self._rejected_at != self._taken:", "if self._taken >= 0:"
+        "diagnosis/events.py", "if self._rejected_at != taken:", "if taken >= 0:"
     ),
     "test_notices.Said.test_late_reply": Edit(
         "host/duplex.py", "if was_unanswered and data[:1] in _REPLIES:", "if data[:1] not in _REPLIES:"
@@ -619,8 +619,8 @@ HARMLESS = (
     Edit("host/ports.py", "            host.refused += 1\n", "            host.refused = 1 + host.refused\n"),
     Edit(
         "diagnosis/events.py",
-        '_taken = 0\n        self._why, self._rejected_at = "", -1\n\n    def _without',
-        '_taken = 0\n        self._rejected_at, self._why = -1, ""\n\n    def _without',
+        'self._rejected, self._why, self._rejected_at = 0, "", -1\n\n    def _without',
+        'self._rejected, self._rejected_at, self._why = 0, -1, ""\n\n    def _without',
     ),
     Edit("host/storing.py", "if len(part) + len(changes) > self", "if len(changes) + len(part) > self"),
     Edit("model/spool.py", "any(map(os.path.exists, places))", "list(filter(os.path.exists, places))"),

@@ -7,8 +7,9 @@ import select
 import time
 
 from lislink import FrameFault
-from lislab.diagnosis.events import Came, Meant, Watch
+from lislab.diagnosis.events import Came, Meant
 from lislab.diagnosis.notices import CONNECTION, FRAME, LETTERS, Notices
+from lislab.diagnosis.pulse import Probe, Pulse
 from lislink.letters import NOT_LATIN, UTF_8, Letters, looks_like
 from lislink.link import Note, Step
 from lislab.model.books import open_book
@@ -149,7 +150,7 @@ class Said(HostTest):
     def test_frames(self):
         """The first rejection of each frame of a session is said, with the byte at which it ends."""
         said = []
-        watch = Watch(lambda text, kind: said.append((kind, text)))
+        watch = Probe(Pulse(240, 1.0), say=lambda text, kind: said.append((kind, text)))
         bad, turn = (Step(NAK, None, note, 5, 0) for note in (Note.REFUSED, Note.OUT_OF_TURN))
         good, again = (Step(ACK, None, note, 0, 0) for note in (Note.ACCEPTED, Note.DUPLICATE))
         opened, ended = Step(ACK, None, Note.OPENED, 0, 0), Step(b"", None, Note.ENDED, 0, 0)

@@ -22,7 +22,7 @@ from lislink.link import Receiver
 from lislab.diagnosis import ring
 from lislab.diagnosis.board import Board
 from lislab.watch.live import LiveLadder
-from lislab.diagnosis.events import Came, Closed, Meant, Sent
+from lislab.diagnosis.events import Came, Closed, Meant
 from lislab.diagnosis.pulse import Probe, Pulse
 from lislab.model.unix import WatchError, ask
 from lislab.diagnosis.verdicts import Meaning
@@ -399,14 +399,14 @@ class Watch(HostTest):
         """A ring has the last bytes in its room, whole pieces, each with its number."""
         one = ring.Ring(1000)
         for number in range(500):
-            one.add(1, b">", Came(b"%03d" % number))
+            one.add(1, b">", b"%03d" % number)
         first, held = one.after(0)
         pieces = list(ring.pieces_of(held))
         self.true("its room", len(held) <= 1000 < len(held) + 20 + 1000 // ring.SPARE, str(len(held)))
         self.same("the last pieces", [int(piece.data) for piece in pieces], list(range(first, 500)))
         self.same("the pieces from one on", one.after(498)[0], 498)
         self.same("none is new", one.after(500), (500, b""))
-        one.add(1, b"<", Sent(bytes(5000)))
+        one.add(1, b"<", bytes(5000))
         self.same("a piece that is too long", len(list(ring.pieces_of(one.after(0)[1]))[-1].data), 500)
         cut = [ring.Piece(1, 1, ">", b"rest\x04"), ring.Piece(2, 1, "<", ACK), ring.Piece(3, 1, ">", b"x" + ENQ + b"y")]
         lines = [(line.mark, line.data) for _, line in ring.capture_of(cut, True).lines]

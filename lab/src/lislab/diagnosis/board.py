@@ -20,12 +20,12 @@ class Board:
         self._failed: Dict[str, Failed] = {}
         self._door: Optional[Door] = None
 
-    def observers(self, place: Place, is_careful: bool) -> List[Sees]:
-        """What sees a connection of a line."""
+    def observers(self, place: Place, is_careful: bool, say: Callable[[str, str], None]) -> List[Sees]:
+        """What sees a connection of a line, and logs what is wrong on it."""
         pulse = self._pulse(place)
         pulse.frame = place.frame
-        probe = Probe(pulse, is_careful)
-        return [pulse.ring.sees(pulse.connections), probe.sees()]
+        probe = Probe(pulse, is_careful, say)
+        return [probe.watch.sees(), probe.sees()]
 
     def _pulse(self, place: Place) -> Pulse:
         if place.name not in self._pulses:

@@ -1,11 +1,11 @@
 """The events of a line, for its observers: the line waits for none of them, and none can break it. And the observer
 that logs a connection's rejected frames, sessions without an accepted frame, bytes without a session, noise."""
-from typing import Callable, Dict, List, Mapping, NamedTuple, Optional, Sequence, Type, Union
+from typing import Callable, Dict, List, Mapping, NamedTuple, Optional, Protocol, Sequence, Type, Union
 
 from lislink.codes import FrameFault, Note
 from lislink.link import Step
 from ..model.store import End
-from .notices import ACCEPTED, CONNECTION, FRAME, NOISE, OTHER, REJECTED, REPLY, SESSION, TAKEN
+from .notices import CONNECTION, FRAME, NOISE, OTHER, REJECTED, REPLY, SESSION
 
 #: After so many bytes without a session, or so many empty sessions, the host logs that.
 BYTES, EMPTY = 1000, 5
@@ -138,31 +138,40 @@ class Observers:
                 self._say(f"an observer of the line failed at {type(event).__name__}: {what}", OTHER)
 
 
-class Watch:
-    """Watches a connection: the first rejection of each frame, bytes without a session, sessions without a frame that
-    is accepted."""
+class Heard(Protocol):
+    """What came over a connection so far, as its probe sees it."""
 
-    def __init__(self, say: Callable[[str, str], None]) -> None:
-        self._say = say
-        #: The place in the connection of the byte that was answered last, and how many sessions there were.
-        self.at = self.sessions = 0
-        #: How many bytes came before those that are heard now, and these; the first one of all.
-        self._before, self._data, self._first = 0, b"", b""
-        self._accepted = self._rejected = self._empty = 0
-        self._why, self._said = "", False
-        #: How many frames of the session were taken, and at how many one was rejected last; less than 0 for none.
-        self._taken, self._rejected_at = 0, -1
-        #: The place of the session's first byte after its ENQ, and that byte once it is there; None without a session.
+    #: How many bytes came before those that are heard now, and these; where in them the last byte was that was answered.
+    before: int
+    now: bytes
+    at: int
+    #: The bytes since the ENQ of the session that goes on, up to its first frame; how many frames of it were
+    #: acknowledged, and how many of these were new.
+    got: bytearray
+    good: int
+    taken: int
+
+
+class Watch:
+    """Logs what is wrong on a connection: the first rejection of each frame, bytes without a session, sessions without a
+    frame that is accepted. The connection's probe tells it of bytes that took no frame, before it takes them itself."""
+
+    def __init__(self, say: Callable[[str, str], None], heard: Heard) -> None:
+        self._say, self._heard = say, heard
+        #: How many sessions there were, and how many in a row had no byte; the first byte of all.
+        self.sessions = self._empty = 0
+        self._first, self._said = b"", False
+        #: How many frames of the session were rejected, why the first one was, and how many were taken before the last
+        #: one; less than 0 for none.
+        self._rejected, self._why, self._rejected_at = 0, "", -1
+        #: The place of the session's first byte after its ENQ; None without a session.
         self._start: Optional[int] = None
-        self._second = b""
         #: Where in the connection the last ENQ was that was heard as noise; less than 0 for none.
         self._noise_at = -1
 
     def sees(self) -> Sees:
         """What it does when something happens on the connection."""
         return {
-            Came: self.hears,
-            Meant: self.meant,
             Restarted: lambda _: self.session_over(),
             OwnAnswered: self._own_answered,
             Late: self._late,
@@ -174,76 +183,69 @@ class Watch:
         self.sessions += 1
 
     def _late(self, late: Late) -> None:
-        byte = f"byte {self.at} of the connection"
+        byte = f"byte {self._heard.before + self._heard.at} of the connection"
         self._say(f"a reply is late and isn't sent: {byte} came {late.seconds:.1f} s ago", REPLY)
 
     def _reply_after_all(self, reply: ReplyAfterAll) -> None:
-        byte = f"byte {self._before} of the connection is 0x{reply.byte:02X}"
+        byte = f"byte {self._heard.before} of the connection is 0x{reply.byte:02X}"
         self._say(f"a reply came after the host had given its session up: {byte}", REPLY)
 
     def _closed(self, closed: Closed) -> None:
         self.session_over()
-        self._no_session(self.heard)
-        self._say(f"closed {closed.why}; bytes {self.heard}, sessions {self.sessions}", CONNECTION)
+        count = self._heard.before + len(self._heard.now)
+        self._no_session(count)
+        self._say(f"closed {closed.why}; bytes {count}, sessions {self.sessions}", CONNECTION)
 
-    def _note_enq(self, step: Step) -> None:
+    def _note_enq(self, note: Note, at: int) -> None:
         """Logs an ENQ that is noise: it came in a session, and had no reply. An analyzer that begins again without EOT
         sends the next ENQ at once; noise is followed by the rest of its frame, or by EOT."""
-        at, before = self.at, self._noise_at
-        self._noise_at = at if step.note is Note.ENDED else -1
-        if step.note is Note.ENDED:
+        before, self._noise_at = self._noise_at, at if note is Note.ENDED else -1
+        if note is Note.ENDED:
             self._say(f"noise on the line: byte {at} of the connection, in a session, is ENQ; it has no reply", NOISE)
         elif 0 <= before == at - 1:
             self._say(f"ENQ came again, with nothing between: if the analyzer begins again without EOT, {ANEW}", NOISE)
 
-    def hears(self, came: Came) -> None:
-        """Bytes are heard from here on."""
-        self._before += len(self._data)
-        self._data = data = came.data
+    def outside(self, data: bytes) -> None:
+        """Bytes came while no session is open."""
         if not self.sessions:
             self._first = self._first or data[:1]
-            if self._before >= BYTES:
-                self._no_session(self._before)
-        elif not self._accepted and self._start is not None:
-            self._second = self._second or data[:1]
+            if self._heard.before >= BYTES:
+                self._no_session(self._heard.before)
 
     def meant(self, meant: Meant) -> None:
-        """What a byte meant."""
+        """What a byte meant that took no frame."""
         place, step, is_enq = meant
-        note, self.at = step.note, self._before + place
-        if note in TAKEN:
-            self._accepted += 1
-            self._taken += note is ACCEPTED
-        elif note is Note.OPENED:
+        note, at = step.note, self._heard.before + place
+        if note is Note.OPENED:
             self.session_over(place)
             self.sessions += 1
-            self._start, self._second = self._before + place + 1, self._data[place + 1 : place + 2]
+            self._start = at + 1
         elif note is Note.ENDED:
             self.session_over(place)
         elif note is Note.TIMED_OUT:
             self.session_over()
         elif note in REJECTED:
-            self._reject(f"ends at byte {self.at} of the connection: {code_of(step)}")
+            self._reject(f"ends at byte {at} of the connection: {code_of(step)}")
         if is_enq:
-            self._note_enq(step)
+            self._note_enq(note, at)
 
     def _reject(self, why: str) -> None:
         """A frame was rejected. The analyzer resends it, and it may be rejected again: the host logs that only once."""
+        taken = self._heard.taken
         self._rejected += 1
         self._why = self._why or why
-        if self._rejected_at != self._taken:
-            self._rejected_at = self._taken
-            self._say(f"frame {self._taken + 1} of a session is rejected; it {why}", FRAME)
+        if self._rejected_at != taken:
+            self._rejected_at = taken
+            self._say(f"frame {taken + 1} of a session is rejected; it {why}", FRAME)
 
     def session_over(self, place: Optional[int] = None) -> None:
         """A session ended or was aborted, at this place of the bytes that are heard, or after them."""
-        start, self._start = self._start, None
-        if start is not None and not self._accepted:
-            self._without_a_frame(start, self._before + (len(self._data) if place is None else place) - start)
-        elif self._accepted:
+        start, self._start, heard = self._start, None, self._heard
+        if start is not None and heard.good:
             self._empty = 0
-        self._accepted = self._rejected = self._taken = 0
-        self._why, self._rejected_at = "", -1
+        elif start is not None:
+            self._without_a_frame(start, heard.before + (len(heard.now) if place is None else place) - start)
+        self._rejected, self._why, self._rejected_at = 0, "", -1
 
     def _without_a_frame(self, start: int, size: int) -> None:
         """No frame was accepted in a session of so many bytes between its ENQ and its end."""
@@ -252,16 +254,11 @@ class Watch:
             self._say(f"no frame was accepted in a session, {why}", SESSION)
         elif size > 0:
             what = f"no frame was accepted in a session, {size} bytes came"
-            self._say(f"{what}; byte {start} of the connection is 0x{self._second[0]:02X}", SESSION)
+            self._say(f"{what}; byte {start} of the connection is 0x{self._heard.got[0]:02X}", SESSION)
         else:
             self._empty += 1
             if self._empty == EMPTY:
                 self._say(f"{EMPTY} sessions in a row had no byte after their ENQ: are the replies heard?", SESSION)
-
-    @property
-    def heard(self) -> int:
-        """How many bytes came."""
-        return self._before + len(self._data)
 
     def _no_session(self, count: int) -> None:
         """Logs once that so many bytes came without a session."""

@@ -25,6 +25,8 @@ from .events import (
     Restarted,
     Sees,
     Sent,
+    TimerOver,
+    Watch,
 )
 from .faults import Cause, cause_of_frame
 from .notices import ACCEPTED, TAKEN
@@ -278,18 +280,23 @@ def protocol_of(data: bytes, otherwise: Verdict) -> "tuple[Verdict, str]":
 class Probe:
     """Sees what a connection hears and sends, and what that means."""
 
-    def __init__(self, pulse: Pulse, is_careful: bool = False) -> None:
-        self._pulse, self._is_careful = pulse, is_careful
+    def __init__(
+        self, pulse: Pulse, is_careful: bool = False, say: Callable[[str, str], None] = lambda text, kind: None
+    ) -> None:
+        self._pulse, self._is_careful, self.watch = pulse, is_careful, Watch(say, self)
         pulse.connections += 1
         pulse.probes.append(self)
-        #: Whether a session is open, since when, how many frames it had, and how many of them were accepted.
-        self.is_open, self.opened, self.units, self._good = False, 0.0, 0, 0
+        #: The last bytes of the line, and the number of the connection.
+        self._ring, self._number = pulse.ring, pulse.connections
+        #: Whether a session is open, since when, how many frames it had, how many of them were acknowledged, and how
+        #: many of these were new.
+        self.is_open, self.opened, self.units, self.good, self.taken = False, 0.0, 0, 0, 0
         #: The bytes received since ENQ before a frame, or without a session, and since when; the bytes sent last.
-        self._got, self._stray, self._since, self._sent = bytearray(), bytearray(), (0.0, 0.0), b""
-        #: The bytes of the unit that is open, those that are heard now, and where the next unit begins in them.
-        self._carry, self._now, self._start = bytearray(), b"", 0
-        #: The number that is due, and the frame that was accepted last.
-        self._due, self._frame = 1, b""
+        self.got, self._stray, self._since, self._sent = bytearray(), bytearray(), (0.0, 0.0), b""
+        #: How many bytes came before those that are heard now, and these; where the last byte is that was answered.
+        self.before, self.now, self.at = 0, b"", -1
+        #: The bytes of the unit that is open from earlier pieces; the frame that was accepted last.
+        self._carry, self._frame = bytearray(), b""
 
     def sees(self) -> Sees:
         """What it does when something happens on the connection."""
@@ -298,6 +305,7 @@ class Probe:
             Came: self._hears,
             Meant: self._meant,
             Sent: self._sends,
+            TimerOver: lambda _: self._ring.add(self._number, b"T"),
             NotKept: self._not_kept,
             Late: self._late,
             Noise: self._noise,
@@ -313,21 +321,23 @@ class Probe:
 
     def _hears(self, came: Came) -> None:
         """Bytes are heard from here on."""
-        data, sent = came.data, self._sent
+        data, sent, before = came.data, self._sent, self.now
+        self._ring.add(self._number, b">", data)
         if sent:
             self._sent = b""
             if data.startswith(sent):
                 self._pulse.wrong("echo", Verdict.ECHO)
             elif self._pulse.troubles:
                 self._pulse.right("echo")
-        if self._start < len(self._now):
-            self._carry += self._now[self._start :]
+        if self.at + 1 < len(before):
+            self._carry += before[self.at + 1 :]
             del self._carry[: -(self._pulse.frame + BESIDES)]
-        self._now, self._start = data, 0
-        if self.is_open and not self.units:
-            self._got += data[: LOOKED_AT - len(self._got)]
-        elif not self.is_open:
+        self.before, self.now, self.at = self.before + len(before), data, -1
+        if not self.is_open:
+            self.watch.outside(data)
             self._strays(data)
+        elif not self.units:
+            self.got += data[: LOOKED_AT - len(self.got)]
 
     def _strays(self, data: bytes) -> None:
         """Bytes came without a session. Answers to sessions of the host are none of them."""
@@ -338,13 +348,15 @@ class Probe:
     def _meant(self, meant: Meant) -> None:
         """What a byte meant."""
         place, step, is_enq = meant
-        note, raw = step.note, self._now[self._start : place + 1]
+        note, raw = step.note, self.now[self.at + 1 : place + 1]
+        if note not in TAKEN:
+            self.watch.meant(meant)
         if self._carry:
             raw = bytes(self._carry) + raw
             if note is not _TIMED_OUT:
                 self._carry.clear()
         if note is not _TIMED_OUT:
-            self._start = place + 1
+            self.at = place
         if note in TAKEN:
             self._accept(note is ACCEPTED, raw)
         elif note in _SESSIONS:
@@ -357,14 +369,15 @@ class Probe:
     def _accept(self, is_new: bool, raw: bytes) -> None:
         """A frame is acknowledged: a new one, or one that came again by its number."""
         pulse = self._pulse
-        if not self._good:
+        if not self.good:
             self._first_frame()
-        self.units, self._good = self.units + 1, self._good + 1
+        self.units += 1
+        self.good += 1
         if pulse.troubles:
             pulse.right("silent", "strange", *(("frames", "hopeless") if is_new else ()))
         if is_new:
-            self._due, pulse.polls, pulse.good_at = (self._due + 1) % 8, 0, time.monotonic()
-            self._frame = raw
+            self.taken, self._frame = self.taken + 1, raw
+            pulse.polls, pulse.good_at = 0, time.monotonic()
         elif self._frame and raw[raw.rfind(2) :] != self._frame[self._frame.rfind(2) :]:
             pulse.wrong("lost", Verdict.LOST)
 
@@ -383,7 +396,7 @@ class Probe:
         """A frame is rejected; the reason has the same name as in a ladder."""
         if step.note in REJECTED:
             verdict = REJECTED[step.note]
-            cause = Cause(verdict, verdict.live.format(due=self._due))
+            cause = Cause(verdict, verdict.live.format(due=(self.taken + 1) % 8))
         else:
             # Where the line is heard carefully, a frame that another one began inside of goes on.
             begin = raw.find(2) if self._is_careful else raw.rfind(2)
@@ -400,13 +413,13 @@ class Probe:
         if found is not None and not {"silent", "strange"} & set(self._pulse.troubles):
             self._pulse.remember(found)
         if note is not Note.OPENED:
-            self._strays(self._now[self._start : self._start + TOGETHER])
+            self._strays(self.now[self.at + 1 : self.at + 1 + TOGETHER])
             return
         self._pulse.right("strange")
-        self.is_open, self.opened, self.units, self._good, self._due = True, time.time(), 0, 0, 1
+        self.is_open, self.opened, self.units, self.good, self.taken = True, time.time(), 0, 0, 0
         self._frame = b""
         self._since, self._stray = (self.opened, time.monotonic()), bytearray()
-        self._got = bytearray(self._now[self._start : self._start + TOGETHER])
+        self.got = bytearray(self.now[self.at + 1 : self.at + 1 + TOGETHER])
 
     def _over(self, note: Optional[Note] = None, is_enq: bool = False) -> None:
         """The session is over: updates the line's state if no frame of it was accepted."""
@@ -414,7 +427,7 @@ class Probe:
             return
         self.is_open, pulse = False, self._pulse
         if self.units:
-            if not self._good:
+            if not self.good:
                 pulse.wrong("hopeless", Verdict.NONE_ACCEPTED)
             return
         verdict, parity = self._without_frame(is_enq)
@@ -423,11 +436,11 @@ class Probe:
             if pulse.polls < EMPTY:
                 return
         one = pulse.wrong("silent", verdict, parity)
-        one.since, one.plain = min(one.since, self.opened), plain_hint(self._got)
+        one.since, one.plain = min(one.since, self.opened), plain_hint(self.got)
 
     def _without_frame(self, is_again: bool = False) -> "tuple[Verdict, str]":
         """What is wrong with a session in which no frame came; whether ENQ came again in it."""
-        got = bytes(self._got).translate(None, _SIGNALS)
+        got = bytes(self.got).translate(None, _SIGNALS)
         if got:
             return protocol_of(got, Verdict.NO_UNIT if 2 in got else Verdict.NO_STX)
         before = self._pulse.troubles.get("silent")
@@ -441,7 +454,7 @@ class Probe:
         verdict, parity = self._without_frame()
         before = self._pulse.troubles.get("silent")
         since = before.since if before else self.opened
-        return says(verdict, since, before.count if before else 1, plain=plain_hint(self._got), **_parity(parity))
+        return says(verdict, since, before.count if before else 1, plain=plain_hint(self.got), **_parity(parity))
 
     def strange(self) -> Optional[Says]:
         """The report on bytes without a session."""
@@ -465,6 +478,7 @@ class Probe:
     def _sends(self, sent: Sent) -> None:
         """A reply went out, or something of the host's own."""
         self._sent, seconds, is_kept = sent
+        self._ring.add(self._number, b"<", self._sent)
         if seconds is not None:
             pulse = self._pulse
             pulse.replies[bisect.bisect_left(BUCKETS, seconds)] += 1
@@ -478,6 +492,7 @@ class Probe:
         self._pulse.wrong("late", Verdict.LATE)
 
     def _restarted(self, _: Restarted) -> None:
+        self._ring.add(self._number, b"R")
         self.is_open = False
 
     def _noise(self, noise: Noise) -> None:

@@ -1,12 +1,10 @@
 """The last bytes of a line in both directions, with their times: in memory, for who looks now, and gone with the
 process."""
-import functools
 import struct
 import time
-from typing import Iterator, List, NamedTuple, Optional, Tuple, Union
+from typing import Iterator, List, NamedTuple, Optional, Tuple
 
 from lislink.capture import LINE_BYTES, Capture, Line
-from .events import Came, Restarted, Sees, Sent, TimerOver
 
 #: How many bytes are held of a line, with the head of each piece; the part of them that is dropped at once; and that
 #: head: time, connection, mark, length.
@@ -32,9 +30,9 @@ class Ring:
         #: The number of the oldest piece that is held, and of the next one.
         self.first = self.next = 0
 
-    def add(self, connection: int, mark: bytes, piece: Union[Came, Sent] = Came(b"")) -> None:
+    def add(self, connection: int, mark: bytes, data: bytes = b"") -> None:
         """Adds a piece that comes or goes now; without bytes, an event."""
-        held, data = self._held, piece.data[-(self._most // 2) :]
+        held, data = self._held, data[-(self._most // 2) :]
         held += HEAD.pack(time.time_ns(), connection, mark, len(data)) + data
         self.next += 1
         if len(held) > self._most:
@@ -47,15 +45,6 @@ class Ring:
             drop += HEAD.size + HEAD.unpack_from(self._held, drop)[3]
             self.first += 1
         del self._held[:drop]
-
-    def sees(self, connection: int) -> Sees:
-        """What it does when something goes over a connection of the line."""
-        return {
-            Came: functools.partial(self.add, connection, b">"),
-            Sent: functools.partial(self.add, connection, b"<"),
-            TimerOver: lambda _: self.add(connection, b"T"),
-            Restarted: lambda _: self.add(connection, b"R"),
-        }
 
     def after(self, number: int) -> Tuple[int, bytes]:
         """The pieces from this number on, as they are held, and the number of the first of them."""

@@ -11,7 +11,7 @@ from collections import Counter
 from typing import Any, Dict, List, Mapping, Optional
 
 from ..diagnosis.board import Board
-from ..diagnosis.events import Observers, Watch
+from ..diagnosis.events import Observers
 from ..diagnosis.notices import CONNECTION, Notices
 from ..diagnosis.tape import Tape
 from ..model.options import Listen, OptionError, Place
@@ -83,7 +83,7 @@ class Host:
         intake = Intake(place.name, peer, place.encoding, self.limits.message, time.time, self._held, unknown)
         notice = functools.partial(self._notice, place.name, peer)
         is_careful, tape = place.careful != "no", self._tape(place.name)
-        those = [*([tape.sees()] if tape else []), Watch(notice).sees(), *self.board.observers(place, is_careful)]
+        those = [*([tape.sees()] if tape else []), *self.board.observers(place, is_careful, notice)]
         observers = Observers([*those, unknown.sees(counts, notice)], notice)
         given = wire, intake, observers, notice, counts, self._fixes.of(place), self.committer, self._turns
         more = self.limits, place.frame, is_careful, self._texts
