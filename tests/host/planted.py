@@ -163,7 +163,7 @@ FAULTS = {
     ),
     "test_late.Late.test_a_serial_line": Edit("host/duplex.py", "max(self._due, self._asked + QUIET * scale)", "self._due"),
     "test_late.Suspended.test_lines_are_taken_anew": Edit(
-        "host/line.py", "(self._is_cut or not self._is_busy())", "not self._is_busy()"
+        "host/line.py", "(self._closing.is_cut or not self._is_busy())", "not self._is_busy()"
     ),
     "test_late.Suspended.test_a_reply_that_was_asleep": Edit(
         "host/line.py", "now = clock()\n        if reply", "now = asyncio.get_running_loop().time()\n        if reply"
@@ -190,7 +190,7 @@ FAULTS = {
         "host/ports.py", "key=lambda line: line.last_byte", "key=lambda line: -line.last_byte"
     ),
     "test_lines.Lines.test_long_frames": Edit(
-        "host/line.py", "Receiver(frame_limit=frame, careful=is_careful)", "Receiver(careful=is_careful)"
+        "host/line.py", "kind(frame_limit=parts.frame, ", "kind("
     ),
     "test_lines.Lines.test_peers": Edit(
         "host/wires.py", "if self._line is None:\n            transport.abort()\n", "if self._line is None:\n            pass\n"
@@ -199,7 +199,7 @@ FAULTS = {
         "host/intake.py", "one.fault or _after(one, reason), changes", "_after(one, reason), changes"
     ),
     "test_lines.Lines.test_enq_behind_eot": Edit(
-        "host/line.py", "            if self._stopping and self._is_through():\n                return\n", ""
+        "host/line.py", "            if self._closing.is_asked and self._is_through():\n                return\n", ""
     ),
     "test_lines.Lines.test_calls_of_a_text": Edit(
         "host/line.py", "RECEIVER * self._limits.scale\n", "RECEIVER * self._limits.scale * self._receiver.is_open\n"
@@ -215,10 +215,10 @@ FAULTS = {
         "host/line.py", "return self._is_through() or (", "return self._is_through() and not self.inbox.pieces or ("
     ),
     "test_lines_file.LinesFile.test_enq_behind_eot": Edit(
-        "host/line.py", "            if self._stopping and self._is_through():\n                return\n", ""
+        "host/line.py", "            if self._closing.is_asked and self._is_through():\n                return\n", ""
     ),
     "test_lines.Lines.test_stop": Edit(
-        "host/line.py", "return self._stopping and (self._is_cut or not self._is_busy())", "return self._stopping"
+        "host/line.py", "is_asked and (self._closing.is_cut or not self._is_busy())", "is_asked"
     ),
     "test_lines.Lines.test_capture": Edit(
         "host/line.py", "self._tell(Sent(reply, ", 'self._tell(Sent(b"", '

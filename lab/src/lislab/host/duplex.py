@@ -14,6 +14,8 @@ from ..diagnosis.events import Looked, OwnAnswered, OwnFailed, ReplyAfterAll, Se
 from ..diagnosis.notices import OTHER
 from ..model.query import query_of
 from ..model.store import Add, Change
+from .feeds import FeedsStation
+from .fix import LINE_FEEDS
 from .line import ENQ, NEVER, Ear, Line, Parts
 from .outbox import Batch, Outbox, Site
 from .wires import clock
@@ -109,8 +111,9 @@ class TwoWayLine(Line):
         outbox.wakes(self._woken)
         self.keeper.intake.listens(self._asking.note, self._asking.over)
 
-    def _begin(self, frame: int, is_careful: bool) -> Ear:
-        self._station = Station(Role.COMPUTER, frame_limit=frame, careful=is_careful)
+    def _begin(self, parts: Parts) -> Ear:
+        kind = FeedsStation if parts.fixer.names & LINE_FEEDS else Station
+        self._station = kind(Role.COMPUTER, frame_limit=parts.frame, careful=parts.is_careful)
         return self._station
 
     def _is_busy(self) -> bool:
@@ -172,8 +175,7 @@ class TwoWayLine(Line):
 
     async def _heard(self, data: bytes, arrived: float) -> None:
         self._note_late(data)
-        answers = self._feeds.answers(self._station, data) if self._feeds else self._station.hear_placed(data)
-        for place, answer in answers:
+        for place, answer in self._station.hear_placed(data):
             await self._meant(answer, place, arrived, place >= 0 and data[place] == ENQ)
             if place + 1 < len(data):
                 await self._share.take_turns()
@@ -219,7 +221,7 @@ class TwoWayLine(Line):
         return is_kept
 
     def _took_fixed(self, key: str, changes: Sequence[Change]) -> None:
-        if self._lost:
+        if self._closing.is_lost:
             return
         body = b"".join(one.body for one in changes if isinstance(one, Add) and one.key == key)
         asking = Asking(self._site.encoding)
@@ -291,7 +293,7 @@ class TwoWayLine(Line):
             self.inbox.wake()
 
     def _start_at(self) -> float:
-        if self._is_busy() or self._stopping or self._lost or not (self._ready or self._has_work):
+        if self._is_busy() or self._closing.is_asked or self._closing.is_lost or not (self._ready or self._has_work):
             return NEVER
         return self._free_at + (self._station.turn_seconds or 0) * self._limits.scale
 

@@ -7,7 +7,7 @@ bytes, so the receiver accepts the frame exactly if the original is right. The h
 import re
 from typing import Iterator, NamedTuple, Optional, Tuple
 
-from lislink.codes import Note
+from lislink.codes import Note, Role
 from lislink.link import Receiver, Step
 from lislink.station import Answer, Station
 
@@ -65,19 +65,6 @@ class LineFeeds:
         self._frame.clear()
         return Heard(data, at - len(data), text)
 
-    def steps(self, receiver: Receiver, data: bytes) -> Iterator[Tuple[int, Step]]:
-        """What these bytes mean to a receiver, each step with its place in them."""
-        for heard in self.take(data):
-            for place, step in receiver.hear_placed(heard.data):
-                yield place + heard.start, self.restored(heard, step)
-
-    def answers(self, station: Station, data: bytes) -> Iterator[Tuple[int, Answer]]:
-        """The same to a station."""
-        for heard in self.take(data):
-            for place, answer in station.hear_placed(heard.data):
-                step = answer.step and self.restored(heard, answer.step)
-                yield place + heard.start, answer._replace(step=step)
-
     def restored(self, heard: Heard, step: Step) -> Step:
         """What a byte meant, with the text as it came."""
         if step.note is Note.ACCEPTED:
@@ -100,3 +87,32 @@ def _without_lf(frame: bytes) -> bytes:
     if count and re.fullmatch(rb"[0-9A-Fa-f]{2}", digits):
         digits = b"%02X" % ((int(digits, 16) + count) % 256)
     return body.replace(_LF, _VT) + end + digits + frame[-2:]
+
+
+class FeedsReceiver(Receiver):
+    """A receiver of frames that may hold LF."""
+
+    def __init__(self, *, frame_limit: int, careful: bool) -> None:
+        super().__init__(frame_limit=frame_limit, careful=careful)
+        self._feeds = LineFeeds(frame_limit, careful)
+
+    def hear_placed(self, data: bytes) -> Iterator[Tuple[int, Step]]:
+        """What these bytes mean, each step with its place in them."""
+        for heard in self._feeds.take(data):
+            for place, step in super().hear_placed(heard.data):
+                yield place + heard.start, self._feeds.restored(heard, step)
+
+
+class FeedsStation(Station):
+    """A station that hears frames that may hold LF."""
+
+    def __init__(self, role: Role, *, frame_limit: int, careful: bool) -> None:
+        super().__init__(role, frame_limit=frame_limit, careful=careful)
+        self._feeds = LineFeeds(frame_limit, careful)
+
+    def hear_placed(self, data: bytes) -> Iterator[Tuple[int, Answer]]:
+        """What these bytes mean, each answer with its place in them."""
+        for heard in self._feeds.take(data):
+            for place, answer in super().hear_placed(heard.data):
+                step = answer.step and self._feeds.restored(heard, answer.step)
+                yield place + heard.start, answer._replace(step=step)

@@ -13,7 +13,7 @@ from ..diagnosis.notices import REJECTED, TAKEN
 from ..model.options import Limits
 from ..model.store import Change, StoreError
 from .storing import Committer, Keeper
-from .feeds import LineFeeds
+from .feeds import FeedsReceiver
 from .intake import FIRST, Intake, Pool, TextRoom, TooLong
 from .fix import LINE_FEEDS
 from .fixer import Fixer
@@ -85,6 +85,19 @@ class Ear(Protocol):
         """Releases its memory."""
 
 
+class Closing:
+    """Whether and why a line is to be closed."""
+
+    def __init__(self) -> None:
+        #: Whether the connection is gone; whether the line is to be closed between sessions, or at once; and why.
+        self.is_lost = self.is_asked = self.is_cut = False
+        self.why = ""
+
+    def ask(self, why: str) -> None:
+        """It is to be closed between sessions."""
+        self.is_asked, self.why = True, self.why or why
+
+
 class Line:
     """A line that is connected. It tells its observers what happens on it, and waits for none of them."""
 
@@ -94,23 +107,20 @@ class Line:
         self._share = Share(parts.turns, parts.intake.peer, self.inbox.pause)
         shared = parts.committer, parts.fixer, self._share, parts.observers, parts.counts, parts.say
         self.keeper = Keeper(parts.intake, *shared, self._took_fixed)
-        #: Passes frames that may hold LF on to the receiver; None if the line's frames may not.
-        self._feeds = LineFeeds(parts.frame, parts.is_careful) if parts.fixer.names & LINE_FEEDS else None
-        self._ear: Ear = self._begin(parts.frame, parts.is_careful)
+        self._ear: Ear = self._begin(parts)
         self._room = TextRoom(parts.room, self._has_room)
         #: When the timer is over; when the last frame was acknowledged, long ago if it was rejected.
         self._due, self._acknowledged = NEVER, -NEVER
         #: When bytes came last; whether there was a session; how many ENQ and STX were noise.
         self.last_byte, self.had_session, self._noise = clock(), False, 0
-        #: Whether the connection is gone; whether the line is to be closed between sessions, or at once; and why.
-        self._lost = self._stopping = self._is_cut = False
-        self._closed = ""
+        self._closing = Closing()
 
     # ---- what differs on a line on which the host sends too
 
-    def _begin(self, frame: int, is_careful: bool) -> Ear:
+    def _begin(self, parts: Parts) -> Ear:
         """Makes what hears the line."""
-        self._receiver = Receiver(frame_limit=frame, careful=is_careful)
+        kind = FeedsReceiver if parts.fixer.names & LINE_FEEDS else Receiver
+        self._receiver = kind(frame_limit=parts.frame, careful=parts.is_careful)
         return self._receiver
 
     def _is_busy(self) -> bool:
@@ -142,12 +152,11 @@ class Line:
 
     async def _heard(self, data: bytes, arrived: float) -> None:
         """Passes bytes to the receiver, and does what each of its steps asks for."""
-        steps = self._feeds.steps(self._receiver, data) if self._feeds else self._receiver.hear_placed(data)
-        for place, step in steps:
+        for place, step in self._receiver.hear_placed(data):
             await self._step(step, arrived, place, place >= 0 and data[place] == ENQ)
             if place + 1 < len(data):
                 await self._share.take_turns()
-            if self._stopping and self._is_through():
+            if self._closing.is_asked and self._is_through():
                 return
 
     def _start_at(self) -> float:
@@ -164,74 +173,75 @@ class Line:
 
     def lost(self, why: str = "by the other end") -> None:
         """The connection is gone. What came before is still heard."""
-        self._lost, self._closed = True, self._closed or why
+        self._closing.is_lost, self._closing.why = True, self._closing.why or why
         self.inbox.wake()
 
     def stop(self, why: str) -> None:
         """Closes the line as soon as no session goes on."""
-        self._stopping, self._closed = True, self._closed or why
+        self._closing.ask(why)
         self.inbox.wake()
 
     def cut(self, why: str) -> None:
         """Closes the line at once, also within a session: what came and isn't answered yet is too old."""
         self.inbox.clear()
-        self._is_cut = True
+        self._closing.is_cut = True
         self.stop(why)
 
     async def run(self) -> None:
         """Hears the line until it is closed."""
+        closing, inbox = self._closing, self.inbox
         why = "the line was closed before its L record"
         try:
-            while not self._closed or not self._is_over():
+            while not closing.why or not self._is_over():
                 now = clock()
-                if self.inbox.pieces:
-                    await self._hear(now)
+                if inbox.pieces:
+                    arrived, data = inbox.take()
+                    self.last_byte = now
+                    if arrived >= self._due:
+                        await self._timed(now)
+                    self._tell(Came(data))
+                    self._room.open += len(data)
+                    await self._heard(data, arrived)
+                    if self._room.open > FIRST or self._room.has:
+                        self._room.look(self._ear.held)
+                    if inbox.pieces:
+                        await self._share.take_turns()
                 elif now >= self._due:
                     await self._timed(now)
                 elif now >= (start := self._start_at()):
                     await self._start()
                 elif now >= (idle := self.last_byte + self._limits.idle):
                     self._counts["idle"] += 1
-                    self._closed = f"after {self._limits.idle:g} s of silence"
+                    closing.why = f"after {self._limits.idle:g} s of silence"
                     break
                 else:
                     self._share.rests()
-                    await self.inbox.wait(min(self._due, start, idle))
+                    await inbox.wait(min(self._due, start, idle))
         except asyncio.CancelledError:
             why = "the host was stopped"
-            self._closed = self._closed or "since the host stops"
+            closing.why = closing.why or "since the host stops"
             raise
         finally:
-            self._lost = True
-            self.keeper.end(f"the line was closed {self._closed}" if self._is_cut else why)
-            self._room.close()
-            self._end()
-            self._ear.close()
-            self._tell(Closed(self._closed or "after a fault"))
-            self._wire.close()
-            self.inbox.stop()
+            self._close(f"the line was closed {closing.why}" if closing.is_cut else why)
+
+    def _close(self, why: str) -> None:
+        """Closes the line. Why the message that goes on isn't complete, if one does."""
+        self._closing.is_lost = True
+        self.keeper.end(why)
+        self._room.close()
+        self._end()
+        self._ear.close()
+        self._tell(Closed(self._closing.why or "after a fault"))
+        self._wire.close()
+        self.inbox.stop()
 
     def _is_over(self) -> bool:
         """Returns whether the line is to be closed now, or is lost and all that came is heard."""
-        return self._is_through() or (self._lost and not self.inbox.pieces)
+        return self._is_through() or (self._closing.is_lost and not self.inbox.pieces)
 
     def _is_through(self) -> bool:
         """Returns whether the line is to be closed now. Bytes that came since, as ENQ, are not heard."""
-        return self._stopping and (self._is_cut or not self._is_busy())
-
-    async def _hear(self, now: float) -> None:
-        """Hears the next piece."""
-        arrived, data = self.inbox.take()
-        self.last_byte = now
-        if arrived >= self._due:
-            await self._timed(now)
-        self._tell(Came(data))
-        self._room.open += len(data)
-        await self._heard(data, arrived)
-        if self._room.open > FIRST or self._room.has:
-            self._room.look(self._ear.held)
-        if self.inbox.pieces:
-            await self._share.take_turns()
+        return self._closing.is_asked and (self._closing.is_cut or not self._is_busy())
 
     def _note_noise(self) -> None:
         """Counts ENQ and STX that came inside a session or a frame, where no analyzer sends them."""
@@ -243,7 +253,7 @@ class Line:
     async def _step(self, step: Step, arrived: float, place: int = 0, is_enq: bool = False) -> None:
         """Does what a step asks for: stores its text, then sends its reply."""
         self._tell(Meant(place, step, is_enq))
-        reply, text, note, *_ = step
+        reply, text, note, _, _ = step
         if note in _COUNTED:
             self._counts[_COUNTED[note]] += 1
         if note not in TAKEN:
@@ -271,8 +281,8 @@ class Line:
 
     def _answer(self, reply: bytes, arrived: float, now: float, is_kept: bool) -> bool:
         """Sends a reply, unless it would be late. `is_kept` says whether it acknowledges a text that is stored."""
-        if self._is_cut:
-            self._restart(self._closed)
+        if self._closing.is_cut:
+            self._restart(self._closing.why)
             return False
         age = now - arrived
         if age > self._limits.reply * self._limits.scale:

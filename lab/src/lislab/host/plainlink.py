@@ -72,9 +72,9 @@ class PlainLine(Line):
 
     def __init__(self, parts: Parts) -> None:
         super().__init__(parts)
-        self._last, self._feeds = b"", None  # a block may hold LF
+        self._last = b""
 
-    def _begin(self, frame: int, is_careful: bool) -> Ear:
+    def _begin(self, parts: Parts) -> Ear:
         receiver = PlainReceiver()
         self._receiver: Any = receiver
         return receiver

@@ -8,7 +8,7 @@ import threading
 import time
 from collections import Counter, deque
 from queue import Empty, SimpleQueue
-from typing import Callable, Deque, Dict, List, NamedTuple, Optional, Sequence, Tuple
+from typing import Awaitable, Callable, Deque, Dict, List, NamedTuple, Optional, Sequence, Tuple
 
 from ..diagnosis.events import MessageEnded, Observers
 from ..diagnosis.notices import LETTERS, MESSAGE
@@ -250,6 +250,8 @@ class Keeper:
                 _join(part, changes)
         if part:
             await self._put(part)
+            if self._share.is_behind():
+                await self._share.wait()
         self._is_long = False
         if self._tries:
             self._ends.clear()
@@ -274,19 +276,20 @@ class Keeper:
         self._ends.update((one.key, one) for one in fixed_ends(changes))
         return changes
 
-    async def _put(self, part: Sequence[Change]) -> None:
-        """Stores a part of a text."""
-        ends = [one for one in part if isinstance(one, End)] if self._ends else []
-        if ends and any(one.state == COMPLETE for one in ends):
-            await self._fixer.order.over()  # no message overtakes one that is made of an earlier one
+    def _put(self, part: Sequence[Change]) -> Awaitable[None]:
+        """Stores a part of a text: returns what is to be awaited."""
         self._share.rests()
+        return self._put_ends(part) if self._ends else self._committer.put(part, self._is_long)
+
+    async def _put_ends(self, part: Sequence[Change]) -> None:
+        """Stores a part of a text in which messages end, as a rule."""
+        ends = [one for one in part if isinstance(one, End)]
+        if any(one.state == COMPLETE for one in ends):
+            await self._fixer.order.over()  # no message overtakes one that is made of an earlier one
         await self._committer.put(part, self._is_long)
         for one in ends:
             self._ends.pop(one.key, None)
-        if self._share.is_behind():
-            await self._share.wait()
-        if ends:
-            self._note_ends(part)
+        self._note_ends(part)
 
     def _note_ends(self, changes: Sequence[Change]) -> None:
         """Counts the messages that ended in these changes, and logs what is wrong with them."""
