@@ -141,7 +141,7 @@ class Observers:
 class Heard(Protocol):
     """What came over a connection so far, as its probe sees it."""
 
-    #: How many bytes came before those that are heard now, and these; where in them the last byte was that was answered.
+    #: How many bytes came before those that are heard now, and these; where in them the last answered byte was.
     before: int
     now: bytes
     at: int
@@ -153,8 +153,8 @@ class Heard(Protocol):
 
 
 class Watch:
-    """Logs what is wrong on a connection: the first rejection of each frame, bytes without a session, sessions without a
-    frame that is accepted. The connection's probe tells it of bytes that took no frame, before it takes them itself."""
+    """Logs what is wrong on a connection: the first rejection of each frame, bytes without a session, sessions without
+    a frame that is accepted. The connection's probe tells it of bytes that took no frame, before it takes them itself."""
 
     def __init__(self, say: Callable[[str, str], None], heard: Heard) -> None:
         self._say, self._heard = say, heard
