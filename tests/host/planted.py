@@ -498,6 +498,9 @@ FAULTS = {
         'if word not in ("yes", "no", "on"):\n        raise OptionError(f"telnet',
     ),
     "test_turns.Turns.test_rest": Edit("host/turns.py", "context.run(goes_on, self)", "goes_on(self)"),
+    "test_turns.Turns.test_rest_that_fails": Edit(
+        "host/turns.py", "if self._waits is not None and not self.done():\n            super", "if self._waits:\n            super"
+    ),
     "test_turns.Turns.test_parts": Edit(
         "host/storing.py",
         "            if self._long:\n                batch.append",

@@ -203,6 +203,29 @@ class Turns(HostTest):
 
         asyncio.run(run())
 
+    def test_rest_that_fails(self):
+        """A task that is cancelled after what it waits for has failed goes on once."""
+        went = []
+
+        async def waits(rest):
+            for one in (rest, asyncio.sleep(0.01)):
+                try:
+                    await one
+                    went.append("over")
+                except (asyncio.CancelledError, ValueError) as error:
+                    went.append(type(error).__name__)
+
+        async def run():
+            rest = turn.Rest(loop=asyncio.get_running_loop())
+            task = asyncio.ensure_future(waits(rest))
+            await asyncio.sleep(0)
+            rest.fail(ValueError())
+            task.cancel()
+            await asyncio.wait([task])
+
+        asyncio.run(run())
+        self.same("how it goes on", went, ["CancelledError", "over"])
+
     def test_parts(self):
         """A commit has one part of a long text at most, and all else that waits."""
         commits, going = [], threading.Event()

@@ -53,7 +53,7 @@ class Rest(asyncio.Future[None]):
         return super().cancel(msg)
 
     def _goes_on_later(self) -> None:
-        if self._waits is not None:
+        if self._waits is not None and not self.done():
             super().add_done_callback(self._waits[0], context=self._waits[1])
 
 
