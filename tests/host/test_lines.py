@@ -27,6 +27,8 @@ LATE = 0.05
 #: The same where a host is silent, and where it is stopped: a busy machine that stalls one for six seconds makes its
 #: replies late too.
 SILENT, STALLED = 0.2, 0.6
+#: What the host says of a late reply.
+NOT_SENT = "a reply is late and isn't sent: byte "
 ENQ, ACK, NAK, EOT = b"\x05", b"\x06", b"\x15", b"\x04"
 TEXTS = [b"H|\\^&|||A\r", b"P|1\r", b"O|1|S7\r", b"R|1|^^^GLU|5.4\r", b"L|1|N\r"]
 
@@ -94,14 +96,17 @@ class Client:
             return True
 
 
-def late_reply(host, client, frame, place, seconds):
-    """What is answered within so many seconds to a frame that comes while the host is stopped."""
+def late_reply(host, client, frame, place, fault):
+    """What is answered to a frame that comes while the host is stopped. What comes before the host has said that its
+    reply is late may have come while it was stopped too."""
     time.sleep(place * 0.003)
     os.kill(host.process.pid, signal.SIGSTOP)
     client.send(frame)
     time.sleep(15 * STALLED * 1.3)
     os.kill(host.process.pid, signal.SIGCONT)
-    return client.heard(1, seconds)
+    if not fault:
+        wait_for(lambda: host.says().count(NOT_SENT) == place)
+    return client.heard(1, 60.0 if fault else 0.2)
 
 
 def flood(client, most):
@@ -257,10 +262,10 @@ class Lines(HostTest):
             texts = [b"H|\\^&|||A%d\r" % place, *TEXTS[1:]]
             with Client(host.port) as client:
                 good = client.asks(ENQ) == ACK and all(client.asks(one) == ACK for one in frames(texts)[:2]) and good
-                replies.append(late_reply(host, client, frames(texts)[2], place, 60.0 if fault else 0.2))
+                replies.append(late_reply(host, client, frames(texts)[2], place, fault))
                 good = bool(fault) or (client.whole(texts) and good)
         host.stop()
-        return host.errors[-1].count("a reply is late and isn't sent: byte "), replies, good, host.store
+        return host.errors[-1].count(NOT_SENT), replies, good, host.store
 
     def test_slow_lines(self):
         """Lines that stall, or read no reply, delay no other: no timer of theirs runs out meanwhile."""
