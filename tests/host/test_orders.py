@@ -777,15 +777,19 @@ class Fire(HostTest):
         port = next(int(row.split()[1].rsplit(":", 1)[1]) for row in host.rows if row.endswith(" asks\n"))
         host.words = tuple(word.replace("127.0.0.1:0,", f"127.0.0.1:{port},") for word in host.words)
         taken, kills, over, contended = [], 0, time.monotonic() + 240 + 8 * kill, 0
-        while len(set(taken)) < count and time.monotonic() < over:
+        # What is taken whole may wait still: a host that dies before it has marked its orders sends them again.
+        goes_on = lambda: set(states(store).values()) != {"sent"}  # noqa: E731
+        while goes_on() and time.monotonic() < over:
             one = None
             try:
                 one = Plain(port, scale, rng.random(), late, noise, 0.01 if kill else 0.0, contends=1 / 3)
-                while len(set(taken)) < count:
+                while goes_on():
                     if kills < kill and rng.random() < 0.7:
                         kills += 1
                         threading.Timer(rng.random() * 0.3, host.process.kill).start()
                     taken += samples_of(one.take(60))
+                    if len(set(taken)) == count:
+                        wait_for(lambda: not goes_on(), 1)
             except (Gone, OSError):
                 pass
             contended += one.contended if one else 0

@@ -1,6 +1,7 @@
 """Orders in PostgreSQL, where two hosts share them."""
 import collections
 import random
+import select
 import socket
 import threading
 import time
@@ -48,7 +49,7 @@ class Mortal(Plain):
 
 class Analyzer(threading.Thread):
     """An analyzer of a host until all is over. One with samples asks for them, several at once, until it has an
-    answer."""
+    answer, and takes what comes after that, too."""
 
     def __init__(self, port, over, seed, samples=None):
         super().__init__(daemon=True)
@@ -73,8 +74,9 @@ class Analyzer(threading.Thread):
             one.take(60)
             return
         wanted = self.samples[:ASKED]
-        if not wanted:
-            time.sleep(0.02)
+        if not wanted:  # a host that died before it could mark an answer as sent sends it again
+            if one.left or select.select([one.line], [], [], 0.02)[0]:
+                one.take(60)
             return
         if wanted not in self.asked:
             self.asked.append(wanted)
