@@ -48,7 +48,7 @@ PARTS = {
     "failing": Part("test_kills.Kills.test_failing_store", 6, 600),
     "analyzers": Part("test_load.Load.test_200_analyzers", 8, 300),
     "messages": Part("test_load.Load.test_memory", 3000, 1000000),
-    "orders": Part("test_orders.Fire.test_kills", 10, 1000),
+    "orders": Part("test_order_kills.Fire.test_kills", 10, 1000),
     "orders_postgres": Part("test_orders_postgres.PostgresBooks.test_two_hosts_are_killed", 4, 1000),
     "reloads": Part("test_lines_file.LinesFile.test_reloads", 20, 100),
     "mllp": Part("test_mllp.Receivers.test_kills", 200, 1000),

@@ -132,14 +132,14 @@ FAULTS = {
     "test_orders.Answers.test_a_whole_round": (
         "analyzer/asker.py", "(one for one in tests if one in known)", "(one for one in tests if one not in known)"
     ),
-    "test_orders.Fire.test_kills": (
+    "test_order_kills.Fire.test_kills": (
         "host/duplex.py", "        self._sending, self._phase = batch, self._station.phase\n",
         "        self._sending, self._phase = batch, self._station.phase\n        self._outbox.sent(self._site, batch)\n",
     ),
-    "test_orders.Fire.test_late_and_noisy": (
+    "test_order_kills.Fire.test_late_and_noisy": (
         "host/duplex.py", "if outcome is Outcome.DONE:", "if outcome is not Outcome.NONE:"
     ),
-    "test_orders.Fire.test_fifty_lines": (
+    "test_order_kills.Fire.test_fifty_lines": (
         "model/book.py", "AND seat IN ('', ?) AND", "AND (seat IN ('', ?) OR 1 = 1) AND"
     ),
     **{
