@@ -41,6 +41,9 @@ from .wires import Asleep, Ticks, Wire
 HELD, TEXTS = 32 << 20, 16 << 20
 #: How long the thread that commits waits for its turn while a line is busy: it needs one after each statement.
 SWITCH = 0.0005
+#: The interpreter looks for garbage once it has so many more objects than when it looked last. 200 lines have some
+#: thousands more at times: at its own limit of 700 it looked all the time, which was a twentieth of the host's time.
+GARBAGE = 10_000
 
 
 class Host:
@@ -301,6 +304,7 @@ async def serve(asked: Asked, store: Store, left: Left = Left([], [])) -> None:
         await host.start()
         gc.collect()
         gc.freeze()  # what is there for good: no line waits until all of it was looked at for garbage
+        gc.set_threshold(GARBAGE)
         host.reads_again(again)
         await stop.wait()
     finally:
